@@ -1,0 +1,5 @@
+pub mod Bitwise
+pub mod Number
+pub mod Mask
+pub mod Lists
+pub mod Packing

@@ -1,0 +1,50 @@
+-- Lists made of lists of bits are lists of bits. Assumes nothing.
+use mathlib.Core.Path.{_≡_, subst, sym}
+use mathlib.Core.Bool.{Bool, true, false}
+use mathlib.Core.List.{List, [], _∷_, _++_}
+use Prim.Native.Nat.{ℕ, zero, suc, _+_, _≤_, _<_}
+use native.Mathlib.Omega.{arith}
+use lib.ListN.{getD, take, drop}
+use lib.Seq.{getD-drop}
+use Rattle.laws.specs.Segment.{table, segment}
+use Rattle.bits.specs.Bit.{bit, Bits, bitsOf}
+use Rattle.bits.specs.Packing.{unpacked}
+use Rattle.bits.proofs.Bitwise.{bit-lt}
+
+pub bits-nil : Bits []
+bits-nil = record { at = λ i. omega arith }
+
+pub bits-cons : {x : ℕ} {xs : List ℕ} → x < 2 → Bits xs → Bits (x ∷ xs)
+bits-cons {x} {xs} h p = record { at = each }
+  where
+    each : (i : ℕ) → getD (x ∷ xs) i 0 < 2
+    each zero = h
+    each (suc i) = p .at i
+
+pub bits-tail : {x : ℕ} {xs : List ℕ} → Bits (x ∷ xs) → Bits xs
+bits-tail p = record { at = λ i. p .at (suc i) }
+
+pub bits-append : (xs ys : List ℕ) → Bits xs → Bits ys → Bits (xs ++ ys)
+bits-append [] ys p q = q
+bits-append (x ∷ xs) ys p q = bits-cons (p .at 0) (bits-append xs ys (bits-tail p) q)
+
+pub bits-take : (n : ℕ) (xs : List ℕ) → Bits xs → Bits (take n xs)
+bits-take zero xs p = bits-nil
+bits-take (suc n) [] p = bits-nil
+bits-take (suc n) (x ∷ xs) p = bits-cons (p .at 0) (bits-take n xs (bits-tail p))
+
+pub bits-drop : (n : ℕ) (xs : List ℕ) → Bits xs → Bits (drop n xs)
+bits-drop n xs p = record { at = λ i. subst (λ (b : ℕ). b < 2) (sym (getD-drop n xs i 0)) (p .at (n + i)) }
+
+pub bits-table : (f : ℕ → ℕ) (n : ℕ) → ((i : ℕ) → f i < 2) → Bits (table f n)
+unfolding table
+bits-table f zero h = bits-nil
+bits-table f (suc n) h = bits-cons (h 0) (bits-table (λ i. f (suc i)) n (λ i. h (suc i)))
+
+pub bits-of : (w x : ℕ) → Bits (bitsOf w x)
+bits-of zero x = bits-nil
+bits-of (suc w) x = bits-cons (bit-lt x w) (bits-of w x)
+
+pub bits-unpacked : (bytes : List ℕ) (k : ℕ) → Bits (unpacked bytes k)
+unfolding unpacked
+bits-unpacked bytes k = bits-table _ k (λ i. bit-lt _ _)

@@ -1,0 +1,137 @@
+-- Segments of a list, and a list with a segment replaced. Assumes nothing.
+use mathlib.Core.Path.{_≡_, refl, sym, ap, ap₂, _∙_}
+use mathlib.Core.List.{List, [], _∷_, _++_, append-assoc, append-nil}
+use Prim.Native.Nat.{ℕ, zero, suc, _+_, _-_, _<_, _≤_}
+use native.Mathlib.Nat.{zero-add, suc-add}
+use native.Mathlib.Omega.{arith}
+use lib.ListN.{length, take, drop, getD, length-append, length-drop, take-append-drop}
+use lib.Seq.{getD-take, getD-drop, take-take, take-at, drop-at, drop-drop, length-take-le, take-nil, take-all}
+use Rattle.laws.specs.Segment.{segment, splice}
+
+module _ {A : Type 0} where
+  -- ---- segments
+
+  pub length-segment : (w : List A) (at n : ℕ) → at + n ≤ length w → length (segment w at n) ≡ n
+  length-segment w at n fits = length-take-le n (drop at w) (omega (arith, length-drop at w))
+
+  pub getD-segment : (w : List A) (at n i : ℕ) (d : A) → i < n → getD (segment w at n) i d ≡ getD w (at + i) d
+  getD-segment w at n i d h = getD-take n (drop at w) i d h ∙ getD-drop at w i d
+
+  pub drop-take : (n m : ℕ) (l : List A) → drop n (take (n + m) l) ≡ take m (drop n l)
+  drop-take zero m l = ap (λ (k : ℕ). take k l) (zero-add m)
+  drop-take (suc n) m [] = ap (drop (suc n)) (take-nil (suc n + m)) ∙ sym (take-nil m)
+  drop-take (suc n) m (x ∷ xs) = ap (λ (k : ℕ). drop (suc n) (take k (x ∷ xs))) (suc-add n m) ∙ drop-take n m xs
+
+  -- the halves of a segment
+  pub segment-front : (w : List A) (at h : ℕ) → take h (segment w at (h + h)) ≡ segment w at h
+  segment-front w at h = take-take h (h + h) (drop at w) (omega arith)
+
+  pub segment-back : (w : List A) (at h : ℕ) → drop h (segment w at (h + h)) ≡ segment w (at + h) h
+  segment-back w at h = drop-take h h (drop at w) ∙ ap (take h) (drop-drop h at w)
+
+  -- what two lists have in common from k on, they have in common from any later place on
+  pub drop-past : (w w′ : List A) (k at : ℕ) → k ≤ at → drop k w′ ≡ drop k w → drop at w′ ≡ drop at w
+  drop-past w w′ k at l e =
+      let q : k + (at - k) ≡ at = omega arith in
+      ap (λ (j : ℕ). drop j w′) (sym q) ∙ sym (drop-drop (at - k) k w′) ∙ ap (drop (at - k)) e ∙ drop-drop (at - k) k w
+      ∙ ap (λ (j : ℕ). drop j w) q
+
+  pub segment-past : (w w′ : List A) (k at n : ℕ) → k ≤ at → drop k w′ ≡ drop k w → segment w′ at n ≡ segment w at n
+  segment-past w w′ k at n l e = ap (take n) (drop-past w w′ k at l e)
+
+  -- ---- one splice
+
+  module _ (w : List A) (at : ℕ) (ys : List A) (n : ℕ) (len : length ys ≡ n) (fits : at + n ≤ length w) where
+    pub take-splice : take at (splice w at ys) ≡ take at w
+    unfolding splice
+    take-splice = take-at (take at w) (ys ++ drop (at + length ys) w) at (length-take-le at w (omega arith))
+
+    pub after-splice : drop at (splice w at ys) ≡ ys ++ drop (at + n) w
+    unfolding splice
+    after-splice =
+        drop-at (take at w) (ys ++ drop (at + length ys) w) at (length-take-le at w (omega arith))
+        ∙ ap (λ (k : ℕ). ys ++ drop (at + k) w) len
+
+    pub drop-splice : drop (at + n) (splice w at ys) ≡ drop (at + n) w
+    drop-splice = sym (drop-drop n at (splice w at ys)) ∙ ap (drop n) after-splice ∙ drop-at ys (drop (at + n) w) n len
+
+    pub segment-splice : segment (splice w at ys) at n ≡ ys
+    segment-splice = ap (take n) after-splice ∙ take-at ys (drop (at + n) w) n len
+
+    pub length-splice : length (splice w at ys) ≡ length w
+    unfolding splice
+    length-splice = simp (length-append, length-drop, length-take-le at w (omega arith)) (omega arith)
+
+  -- a segment put in its own place
+  pub splice-segment : (w : List A) (at n : ℕ) → at + n ≤ length w → splice w at (segment w at n) ≡ w
+  unfolding splice
+  splice-segment w at n l =
+      ap (λ (k : ℕ). take at w ++ (segment w at n ++ drop (at + k) w)) (length-segment w at n l)
+      ∙ ap (λ (r : List A). take at w ++ (segment w at n ++ r)) (sym (drop-drop n at w))
+      ∙ ap (λ (r : List A). take at w ++ r) (take-append-drop n (drop at w))
+      ∙ take-append-drop at w
+
+  -- a splice of the whole list
+  pub splice-whole : (w ys : List A) → length ys ≡ length w → splice w 0 ys ≡ ys
+  splice-whole w ys e =
+      sym (take-all-splice) ∙ segment-splice w 0 ys (length w) e (omega arith)
+    where
+      take-all-splice : segment (splice w 0 ys) 0 (length w) ≡ splice w 0 ys
+      take-all-splice = take-all (length w) (splice w 0 ys) (omega (arith, length-splice w 0 ys (length w) e (omega arith)))
+
+  -- ---- two splices, side by side
+
+  module _ (w : List A) (at : ℕ) (ys zs : List A) (n m : ℕ) (ny : length ys ≡ n) (nz : length zs ≡ m) (fits : at + (n + m) ≤ length w) where
+    both : length (ys ++ zs) ≡ n + m
+    both = omega (arith, length-append ys zs)
+
+    after-both : drop at (splice w at (ys ++ zs)) ≡ ys ++ (zs ++ drop (at + (n + m)) w)
+    after-both = after-splice w at (ys ++ zs) (n + m) both fits ∙ append-assoc ys zs (drop (at + (n + m)) w)
+
+    -- the two halves of what was spliced in
+    pub segment-splice-front : segment (splice w at (ys ++ zs)) at n ≡ ys
+    segment-splice-front = ap (take n) after-both ∙ take-at ys (zs ++ drop (at + (n + m)) w) n ny
+
+    pub segment-splice-back : segment (splice w at (ys ++ zs)) (at + n) m ≡ zs
+    segment-splice-back =
+        ap (take m) (sym (drop-drop n at (splice w at (ys ++ zs))))
+        ∙ ap (λ (r : List A). take m (drop n r)) after-both
+        ∙ ap (take m) (drop-at ys (zs ++ drop (at + (n + m)) w) n ny)
+        ∙ take-at zs (drop (at + (n + m)) w) m nz
+
+    -- a splice right after a splice
+    pub splice-next : splice (splice w at ys) (at + n) zs ≡ splice w at (ys ++ zs)
+    unfolding splice
+    splice-next =
+        let s : List A = splice w at ys in
+        let tl : length (take at w) ≡ at = length-take-le at w (omega arith) in
+        let front : take (at + n) s ≡ take at w ++ ys =
+        ap (take (at + n)) (sym (append-assoc (take at w) ys (drop (at + length ys) w)))
+        ∙ take-at (take at w ++ ys) (drop (at + length ys) w) (at + n) (omega (arith, length-append (take at w) ys)) in
+        let seam : at + n + length zs ≡ at + length (ys ++ zs) = omega (arith, length-append ys zs) in
+        let back : drop (at + n + length zs) s ≡ drop (at + length (ys ++ zs)) w =
+        sym (drop-drop (length zs) (at + n) s) ∙ ap (drop (length zs)) (drop-splice w at ys n ny (omega arith)) ∙ drop-drop (length zs) (at + n) w
+        ∙ ap (λ (k : ℕ). drop k w) seam in
+        ap₂ (λ (a b : List A). a ++ (zs ++ b)) front back
+        ∙ append-assoc (take at w) ys (zs ++ drop (at + length (ys ++ zs)) w)
+        ∙ ap (λ (r : List A). take at w ++ r) (sym (append-assoc ys zs (drop (at + length (ys ++ zs)) w)))
+
+    -- a splice over the first half of a splice
+    pub splice-over : (xs : List A) → length xs ≡ n → splice (splice w at (ys ++ zs)) at xs ≡ splice w at (xs ++ zs)
+    unfolding splice
+    splice-over xs nx =
+        let s : List A = splice w at (ys ++ zs) in
+        let seam : at + (n + m) ≡ at + length (xs ++ zs) = omega (arith, length-append xs zs) in
+        let back : drop (at + length xs) s ≡ zs ++ drop (at + length (xs ++ zs)) w =
+        ap (λ (k : ℕ). drop (at + k) s) nx ∙ sym (drop-drop n at s) ∙ ap (drop n) after-both
+        ∙ drop-at ys (zs ++ drop (at + (n + m)) w) n ny
+        ∙ ap (λ (k : ℕ). zs ++ drop k w) seam in
+        ap₂ (λ (a b : List A). a ++ (xs ++ b)) (take-splice w at (ys ++ zs) (n + m) both fits) back
+        ∙ ap (λ (r : List A). take at w ++ r) (sym (append-assoc xs zs (drop (at + length (xs ++ zs)) w)))
+
+  -- a splice over a splice
+  pub splice-twice : (w : List A) (at : ℕ) (ys xs : List A) (n : ℕ) → length ys ≡ n → length xs ≡ n → at + n ≤ length w → splice (splice w at ys) at xs ≡ splice w at xs
+  splice-twice w at ys xs n ny nx l =
+      ap (λ (r : List A). splice (splice w at r) at xs) (sym (append-nil ys))
+      ∙ splice-over w at ys [] n 0 ny refl (omega arith) xs nx
+      ∙ ap (splice w at) (append-nil xs)

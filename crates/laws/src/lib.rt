@@ -1,0 +1,1 @@
+// Laws that the codec's proofs share; see specs/ and proofs/.

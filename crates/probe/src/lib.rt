@@ -1,0 +1,78 @@
+// Exports for tests only: what document 01 does not export to C. None has a `requires`; a call that the tested function would
+// not admit gets a number of its own.
+use code::Description;
+ghost use mathlib.Core.Path.{_≡_};
+ghost use Rattle.code.specs.Description.{describe};
+ghost use Rattle.probe.specs.Number.{numberOf};
+ghost use Rattle.probe.specs.Packing.{allBits, packing, unpacking, bitAt, onesAnswer};
+
+#[no_mangle]
+pub extern "C" fn probe_description(d: &[u8]) -> u64
+    ensures { λ x. ⌜ x ≡ numberOf (describe (now (d .entry))) ⌝ }
+{
+    match code::read_description(d) {
+        Description::Code { n, r, polynomial, k } => {
+            n as u64 * 0x100 + r as u64 * 0x1_0000 + polynomial as u64 * 0x100_0000 + k as u64 * 0x100_0000_0000
+        }
+        Description::Refused(i) => i as u64,
+    }
+}
+
+// Whether every byte is 0 or 1.
+fn are_bits(bits: &[u8]) -> bool
+    ensures { λ b. ⌜ b ≡ allBits (now (bits .entry)) ⌝ }
+{
+    let mut i = 0;
+    while i < bits.len() {
+        if 1 < bits[i] {
+            return false;
+        }
+        i += 1;
+    }
+    true
+}
+
+#[no_mangle]
+pub extern "C" fn probe_pack(bits: &[u8], bytes: &mut [u8]) -> u64
+    ensures { λ x. ⌜ (x, now (bytes .exit)) ≡ packing (now (bits .entry)) (now (bytes .entry)) ⌝ }
+{
+    if !are_bits(bits) {
+        return 1;
+    }
+    if bytes.len() != bits::bytes_for(bits.len()) {
+        return 1;
+    }
+    bits::pack(bits, bytes);
+    0
+}
+
+#[no_mangle]
+pub extern "C" fn probe_unpack(bytes: &[u8], bits: &mut [u8]) -> u64
+    ensures { λ x. ⌜ (x, now (bits .exit)) ≡ unpacking (now (bytes .entry)) (now (bits .entry)) ⌝ }
+{
+    if bytes.len() < bits::bytes_for(bits.len()) {
+        return 1;
+    }
+    bits::unpack(bytes, bits);
+    0
+}
+
+#[no_mangle]
+pub extern "C" fn probe_mask_bit(mask: &[u8], i: usize) -> u64
+    ensures { λ x. ⌜ x ≡ bitAt (now (mask .entry)) i ⌝ }
+{
+    if mask.len() <= i / 8 {
+        return 2;
+    }
+    bits::mask_bit(mask, i) as u64
+}
+
+#[no_mangle]
+pub extern "C" fn probe_ones(mask: &[u8]) -> u64
+    ensures { λ x. ⌜ x ≡ onesAnswer (now (mask .entry)) ⌝ }
+{
+    if 65536 < mask.len() {
+        return 0xffff_ffff_ffff_ffff;
+    }
+    bits::ones(mask) as u64
+}

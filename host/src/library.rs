@@ -1,0 +1,54 @@
+//! The static library `probe`: the codec's functions exported for tests, called as C calls them.
+
+use crate::description::Description;
+
+extern "C" {
+    fn probe_description(d: *const u8, len: usize) -> u64;
+    fn probe_pack(bits: *const u8, bits_len: usize, bytes: *mut u8, bytes_len: usize) -> u64;
+    fn probe_unpack(bytes: *const u8, bytes_len: usize, bits: *mut u8, bits_len: usize) -> u64;
+    fn probe_mask_bit(mask: *const u8, len: usize, index: usize) -> u64;
+    fn probe_ones(mask: *const u8, len: usize) -> u64;
+}
+
+// SAFETY of every call below: each pointer goes with the length of the slice that it comes from,
+// the library reads and writes these bytes only, and it keeps no pointer.
+
+/// Reads a description; the answer is as in `description_number`.
+pub fn description(d: &[u8]) -> u64 {
+    unsafe { probe_description(d.as_ptr(), d.len()) }
+}
+
+/// Packs bits, one per byte, into exactly as many bytes as they take. Answers 0, or 1 where a
+/// length or a bit is wrong.
+pub fn pack(bits: &[u8], bytes: &mut [u8]) -> u64 {
+    unsafe { probe_pack(bits.as_ptr(), bits.len(), bytes.as_mut_ptr(), bytes.len()) }
+}
+
+/// Unpacks as many bits as there is room for. Answers 0, or 1 where there are too few bytes.
+pub fn unpack(bytes: &[u8], bits: &mut [u8]) -> u64 {
+    unsafe { probe_unpack(bytes.as_ptr(), bytes.len(), bits.as_mut_ptr(), bits.len()) }
+}
+
+/// The mask's bit at an index, or 2 past its end.
+pub fn mask_bit(mask: &[u8], index: usize) -> u64 {
+    unsafe { probe_mask_bit(mask.as_ptr(), mask.len(), index) }
+}
+
+/// The number of ones in a mask of at most 65,536 bytes; the largest number for a longer one.
+pub fn ones(mask: &[u8]) -> u64 {
+    unsafe { probe_ones(mask.as_ptr(), mask.len()) }
+}
+
+/// A description as one number: bits 0–7 the refusal or 0, 8–15 n, 16–23 r, 24–39 the polynomial,
+/// 40–63 k.
+pub fn description_number(description: &Description) -> u64 {
+    match description {
+        Err(refusal) => u64::from(*refusal),
+        Ok(code) => {
+            (code.n as u64) << 8
+                | (code.r as u64) << 16
+                | u64::from(code.polynomial) << 24
+                | (code.k as u64) << 40
+        }
+    }
+}
