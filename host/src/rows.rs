@@ -1,7 +1,7 @@
 //! The rows that the program crate `vectors` executes, and what it must print for them.
 
 use crate::description::{describe, Description};
-use crate::hex::parse;
+use crate::hex::{parse, print};
 
 /// Descriptions: those of the paper, then each rule at its edges, then rows with several faults.
 pub fn descriptions() -> Vec<(&'static str, Vec<u8>)> {
@@ -42,6 +42,14 @@ pub fn descriptions() -> Vec<(&'static str, Vec<u8>)> {
         [parse("88 00 01 00 0A 0B 21 06"), vec![0xFF; 128]].concat(),
     ));
     rows
+}
+
+/// The whole input of `vectors`: a name and its bytes in hexadecimal on each line.
+pub fn input() -> String {
+    descriptions()
+        .iter()
+        .map(|(name, bytes)| format!("{name} {}\n", print(bytes)))
+        .collect()
 }
 
 /// The whole output of `vectors`.

@@ -1,11 +1,18 @@
-//! The file that the program crate `vectors` is held to is what the reference computes.
+//! The files that the program crate `vectors` is run on and held to are what the reference has.
 
 use host::rows;
 
-const STDOUT: &str = concat!(env!("CARGO_MANIFEST_DIR"), "/../crates/vectors/stdout");
+fn file(name: &str) -> String {
+    let path = format!("{}/../crates/vectors/{name}", env!("CARGO_MANIFEST_DIR"));
+    std::fs::read_to_string(&path).expect("a file of crates/vectors")
+}
+
+#[test]
+fn vectors_reads_the_rows() {
+    assert_eq!(file("stdin"), rows::input());
+}
 
 #[test]
 fn vectors_prints_what_the_reference_computes() {
-    let stdout = std::fs::read_to_string(STDOUT).expect("crates/vectors/stdout");
-    assert_eq!(stdout, rows::output());
+    assert_eq!(file("stdout"), rows::output());
 }

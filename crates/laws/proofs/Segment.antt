@@ -2,9 +2,9 @@
 use mathlib.Core.Path.{_≡_, refl, sym, ap, ap₂, _∙_}
 use mathlib.Core.List.{List, [], _∷_, _++_, append-assoc, append-nil}
 use Prim.Native.Nat.{ℕ, zero, suc, _+_, _-_, _<_, _≤_}
-use native.Mathlib.Nat.{zero-add, suc-add}
+use native.Mathlib.Nat.{zero-add, suc-add, le-of-eq}
 use native.Mathlib.Omega.{arith}
-use lib.ListN.{length, take, drop, getD, length-append, length-drop, take-append-drop}
+use lib.ListN.{length, take, drop, getD, length-append, length-drop, take-append-drop, drop-of-length-le}
 use lib.Seq.{getD-take, getD-drop, take-take, take-at, drop-at, drop-drop, length-take-le, take-nil, take-all}
 use Rattle.laws.specs.Segment.{segment, splice}
 
@@ -78,6 +78,13 @@ module _ {A : Type 0} where
     where
       take-all-splice : segment (splice w 0 ys) 0 (length w) ≡ splice w 0 ys
       take-all-splice = take-all (length w) (splice w 0 ys) (omega (arith, length-splice w 0 ys (length w) e (omega arith)))
+
+  -- a splice that reaches the end of the list
+  pub splice-end : (w : List A) (at : ℕ) (ys : List A) → length w ≡ at + length ys → splice w at ys ≡ take at w ++ ys
+  unfolding splice
+  splice-end w at ys h =
+      ap (λ (rest : List A). take at w ++ (ys ++ rest)) (drop-of-length-le w (le-of-eq h))
+      ∙ ap (λ (l : List A). take at w ++ l) (append-nil ys)
 
   -- ---- two splices, side by side
 

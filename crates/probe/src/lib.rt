@@ -11,8 +11,16 @@ pub extern "C" fn probe_description(d: &[u8]) -> u64
     ensures { λ x. ⌜ x ≡ numberOf (describe (now (d .entry))) ⌝ }
 {
     match code::read_description(d) {
-        Description::Code { n, r, polynomial, k } => {
-            n as u64 * 0x100 + r as u64 * 0x1_0000 + polynomial as u64 * 0x100_0000 + k as u64 * 0x100_0000_0000
+        Description::Code {
+            n,
+            r,
+            polynomial,
+            k,
+        } => {
+            n as u64 * 0x100
+                + r as u64 * 0x1_0000
+                + polynomial as u64 * 0x100_0000
+                + k as u64 * 0x100_0000_0000
         }
         Description::Refused(i) => i as u64,
     }

@@ -29,14 +29,22 @@ fn field_end(text: &[u8], at: usize) -> usize
 fn after(text: &[u8], end: usize) -> usize
     ensures { λ r. ⌜ r ≡ min (end + 1) (length (now (text .entry))) ⌝ }
 {
-    if end < text.len() { end + 1 } else { text.len() }
+    if end < text.len() {
+        end + 1
+    } else {
+        text.len()
+    }
 }
 
 // The value of a lower-case hexadecimal digit.
 fn digit(c: u8) -> u8
     ensures { λ r. ⌜ r < 16 ⌝ }
 {
-    if c < b'a' { c % 16 } else { (c - b'a' + 10) % 16 }
+    if c < b'a' {
+        c % 16
+    } else {
+        (c - b'a' + 10) % 16
+    }
 }
 
 // Reads as many bytes from pairs of digits as there is room for, and answers how many.
@@ -56,7 +64,12 @@ fn decode(hex: &[u8], bytes: &mut [u8]) -> usize
 
 fn print_description(d: &[u8]) {
     match code::read_description(d) {
-        Description::Code { n, r, polynomial, k } => {
+        Description::Code {
+            n,
+            r,
+            polynomial,
+            k,
+        } => {
             io::write_all(STDOUT_FILENO, b"code ");
             io::print_decimal(STDOUT_FILENO, n as u64);
             io::write_all(STDOUT_FILENO, b" ");

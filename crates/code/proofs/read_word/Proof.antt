@@ -16,6 +16,6 @@ read-word-spec =
     (λ c. omega (arith, c .shared-slice-known2 .given (c .before .before .args .i + 1)))
     (λ c. omega (arith, c .shared-slice-known2 .given (c .before .before .args .i + 1)))
     (λ c.
-      let i = c .before .before .args .i in
-      omega (arith, c .before .shared-slice-known .given i, c .shared-slice-known2 .given (i + 1)))
+    let i = c .before .before .args .i in
+    omega (arith, c .before .shared-slice-known .given i, c .shared-slice-known2 .given (i + 1)))
     (λ c. search needs))

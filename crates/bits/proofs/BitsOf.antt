@@ -1,0 +1,36 @@
+-- The bits of a number as a list, the highest first. Assumes nothing.
+use mathlib.Core.Path.{_≡_, refl, ap, ap₂, _∙_}
+use mathlib.Core.List.{List, _∷_}
+use Prim.Native.Nat.{ℕ, zero, suc, _+_, _-_, _%_, _^_, _≤_, _<_}
+use native.Mathlib.Omega.{arith}
+use lib.ListN.{length, replicate}
+use Rattle.laws.specs.Segment.{table}
+use Rattle.laws.proofs.Table.{table-ext}
+use Rattle.bits.specs.Bit.{bit, bitsOf}
+use Rattle.bits.proofs.Bitwise.{bit-mod, bit-zero}
+
+pub length-bitsOf : (w x : ℕ) → length (bitsOf w x) ≡ w
+length-bitsOf zero x = refl
+length-bitsOf (suc w) x = ap suc (length-bitsOf w x)
+
+pub bitsOf-zero : (w : ℕ) → bitsOf w 0 ≡ replicate w 0
+bitsOf-zero zero = refl
+bitsOf-zero (suc w) = ap₂ (λ (x : ℕ) (l : List ℕ). x ∷ l) (bit-zero w) (bitsOf-zero w)
+
+-- what stands above the w bits does not matter
+pub bitsOf-mod : (w k x : ℕ) → w ≤ k → bitsOf w (x % 2 ^ k) ≡ bitsOf w x
+bitsOf-mod zero k x h = refl
+bitsOf-mod (suc w) k x h = ap₂ (λ (y : ℕ) (l : List ℕ). y ∷ l) (bit-mod x w k h) (bitsOf-mod w k x (omega arith))
+
+-- the list by its elements
+pub bitsOf-table : (w x : ℕ) → table (λ j. bit x (w - (j + 1))) w ≡ bitsOf w x
+unfolding table
+bitsOf-table zero x = refl
+bitsOf-table (suc w) x =
+    ap₂ (λ (y : ℕ) (l : List ℕ). y ∷ l) (first w x) (table-ext _ (λ j. bit x (w - (j + 1))) w (rest w x) ∙ bitsOf-table w x)
+  where
+    first : (w x : ℕ) → bit x (suc w - (0 + 1)) ≡ bit x w
+    first w x = let e : suc w - (0 + 1) ≡ w = omega arith in ap (bit x) e
+
+    rest : (w x j : ℕ) → j < w → bit x (suc w - (suc j + 1)) ≡ bit x (w - (j + 1))
+    rest w x j l = let e : suc w - (suc j + 1) ≡ w - (j + 1) = omega arith in ap (bit x) e

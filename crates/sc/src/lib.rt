@@ -1,0 +1,1 @@
+// One decoding pass by successive cancellation, and resume.
