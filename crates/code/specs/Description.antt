@@ -49,3 +49,8 @@ accepted d = Code (getD d 4 0) (getD d 5 0) (word d 6) (onesIn (maskOf d) - getD
 
 unfoldable pub describe : List ℕ → Description
 describe d = firstOr (refusals d) (accepted d)
+
+-- Operations that take a description apply refusals 1 to 8 first: `refuse` is their answer to a refusal, `go` what they do with a code.
+abbrev pub onDescription : {X : Type 0} → Description → (ℕ → X) → (ℕ → ℕ → ℕ → ℕ → X) → X
+onDescription (Code n r polynomial k) refuse go = go n r polynomial k
+onDescription (Refused i) refuse go = refuse i

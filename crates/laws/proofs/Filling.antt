@@ -25,7 +25,7 @@ module _ {A : Type 0} where
       getD-set-other (filled f at w n) (at + n) k (f n) d (λ e. omega (arith, e)) ∙ getD-filled f at w n k d (omega arith)
 
   -- one more store is one more element of the splice
-  splice-snoc : (w : List A) (at : ℕ) (ys : List A) (n : ℕ) (a : A) → length ys ≡ n → at + n < length w → set (splice w at ys) (at + n) a ≡ splice w at (ys ++ (a ∷ []))
+  pub splice-snoc : (w : List A) (at : ℕ) (ys : List A) (n : ℕ) (a : A) → length ys ≡ n → at + n < length w → set (splice w at ys) (at + n) a ≡ splice w at (ys ++ (a ∷ []))
   unfolding splice
   splice-snoc w at ys n a len h =
       let p : List A = take at w ++ ys in

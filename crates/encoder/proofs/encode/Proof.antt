@@ -1,0 +1,81 @@
+-- `encoder::encode` meets its contract: the definition goes by what the description says. Assumes nothing.
+use mathlib.Core.Path.{_≡_, sym, ap, _∙_, subst}
+use mathlib.Core.List.{List}
+use Prim.Native.Nat.{ℕ}
+use borrow.Author.Needs.{needs}
+use denote.Ref.{now}
+use Rattle.code.specs.declared.Description.{Description}
+use Rattle.code.specs.declared.Description.the-variants.{Code}
+use Rattle.code.specs.Description.{maskOf, describe, onDescription}
+use Rattle.code.specs.Described.{Described}
+use Rattle.code.proofs.Facts.{described}
+use Rattle.encoder.specs.declared.Encoded.{Encoded}
+use Rattle.encoder.specs.declared.Encoded.the-variants.{Refused}
+use Rattle.encoder.specs.Encode.{CodePre, encodedBy, encoded}
+use Rattle.encoder.proofs.encode.Statement.{statement}
+use Rattle.encoder.proofs.encode.Tie as tie
+
+-- what acceptance says of the code
+code-pre : {d : List ℕ} {n r polynomial k : ℕ} → Described d n r polynomial k → CodePre (maskOf d) n r k
+code-pre f = record { n-most = f .n-most; mask-size = f .mask-size; r-least = f .r-least; r-most = f .r-most; K-most = f .K-most }
+
+-- the definition, by an answer of `describe`
+module _ (d payload output : List ℕ) where
+  abbrev by : Description → Encoded × List ℕ
+  by a = onDescription a (λ i. (Refused i, output)) (λ n r polynomial k. encodedBy (maskOf d) n r polynomial k payload output)
+
+-- the code that was accepted
+module _ (c : tie.After-known-told) where
+  abbrev d : List ℕ
+  d = now (c .before .before .before .before .before .before .before .args .description)
+
+  abbrev n : ℕ
+  n = c .before .n .given .0 .0
+
+  abbrev r : ℕ
+  r = c .before .n .given .0 .1 .0
+
+  abbrev polynomial : ℕ
+  polynomial = c .before .n .given .0 .1 .1 .0
+
+  abbrev k : ℕ
+  k = c .before .n .given .0 .1 .1 .1 .0
+
+  accepted : Code n r polynomial k ≡ describe d
+  accepted = sym (c .before .n .given .1) ∙ c .before .before .before .read-description .ensures
+
+  facts : Described d n r polynomial k
+  facts = described d _ _ _ _ (sym accepted)
+
+encode-by-requires : tie.Need-encode-by-requires
+encode-by-requires c κs =
+    let a = c .before .before in
+    subst (λ (mask : List ℕ). CodePre mask (n a) (r a) (k a)) (sym (c .before .mask-of .ensures)) (code-pre (facts a))
+
+returns : tie.Need-returns
+unfolding encoded
+returns c =
+    let a = c .before .before .before .before .before in
+    let s = a .before .before .before .before .before .before .before in
+    c .before .before .encode-by .ensures
+    ∙ ap (λ (mask : List ℕ). encodedBy mask (n a) (r a) (polynomial a) (k a) (now (s .args .payload)) (now (s .args .output))) (c .before .before .before .before .mask-of .ensures)
+    ∙ ap (by (d a) (now (s .args .payload)) (now (s .args .output))) (accepted a)
+
+returns-2 : tie.Need-returns-2
+unfolding encoded
+returns-2 c =
+    let s = c .before .before .before .before .before .before .before in
+    ap (by (now (s .args .description)) (now (s .args .payload)) (now (s .args .output))) (sym (c .before .i .given .1) ∙ c .before .before .before .read-description .ensures)
+
+pub encode-spec : {M : Type 1} → statement M
+encode-spec =
+    tie.close
+    (tie.spec
+    (λ c κs. search needs)
+    (λ c. search needs)
+    (λ c κs. facts c .header)
+    encode-by-requires
+    (λ c. search needs)
+    (λ c. search needs)
+    returns
+    returns-2)

@@ -1,0 +1,87 @@
+-- `encoder::encode_in` meets its contract. Assumes nothing.
+use mathlib.Core.Path.{_≡_, refl, sym, ap, _∙_, subst}
+use mathlib.Core.List.{List, _++_}
+use Prim.Native.Nat.{ℕ, _+_, _^_, _≤_}
+use native.Mathlib.Omega.{arith}
+use borrow.Author.Needs.{needs}
+use denote.Ref.{now}
+use lib.ListN.{length, take, drop}
+use lib.Seq.{length-take-le, take-at}
+use Rattle.bits.specs.Bit.{Bits}
+use Rattle.bits.specs.Packing.{packed, unpacked}
+use Rattle.bits.proofs.Lists.{bits-unpacked}
+use Rattle.transform.specs.Transform.{transformed}
+use Rattle.encoder.specs.Place.{placed}
+use Rattle.encoder.specs.Encode.{messageOf, codeword}
+use Rattle.encoder.proofs.Message.{bits-message}
+use Rattle.encoder.proofs.encode_in.Statement.{statement}
+use Rattle.encoder.proofs.encode_in.Tie as tie
+
+-- the part of the room that is lent for the message
+part-length : (c : tie.After-message-of-arg) → length (take (c .before .before .before .before .before .args .k + c .before .before .before .before .before .args .r) (now (c .before .before .before .before .before .args .room))) ≡ c .before .before .before .before .before .args .k + c .before .before .before .before .before .args .r
+part-length c =
+    let p = c .before .before .before .before .before .pre in
+    length-take-le _ _ (omega (arith, p .0 .K-most, p .1))
+
+message-of-requires : tie.Need-message-of-requires
+message-of-requires c κs =
+    let p = c .before .before .before .before .before .pre .0 in
+    record {
+      r-least = p .r-least;
+      r-most = p .r-most;
+      payload-size = omega (arith, p .payload-size);
+      message-size = part-length c;
+    }
+
+-- the message in it
+module _ (c : tie.After-message-of) where
+  abbrev s : tie.Start
+  s = c .before .before .before .before .before .before
+
+  abbrev size : ℕ
+  size = s .args .k + s .args .r
+
+  abbrev message : List ℕ
+  message = c .message-of .last .1 .1 .1 .1 .0
+
+  message-length : length message ≡ size
+  message-length = c .message-of .kept .1 .1 .1 .1 .0 ∙ part-length (c .before)
+
+  part-is : take size (message ++ drop size (now (s .args .room))) ≡ message
+  part-is = take-at message (drop size (now (s .args .room))) size message-length
+
+  message-is : take size (message ++ drop size (now (s .args .room))) ≡ messageOf (s .args .r) (s .args .polynomial) (unpacked (now (s .args .payload)) (s .args .k))
+  message-is = part-is ∙ c .message-of .ensures
+
+write-codeword-requires : tie.Need-write-codeword-requires
+write-codeword-requires c κs =
+    let m = c .before .before .before .before in
+    let p = s m .pre .0 in
+    record {
+      n-most = p .n-most;
+      mask-size = p .mask-size;
+      bits = subst Bits (sym (message-is m)) (bits-message (s m .args .r) (s m .args .polynomial) _ (bits-unpacked _ _));
+      output-size = p .output-size;
+    }
+
+returns : tie.Need-returns
+unfolding codeword
+returns c =
+    let m = c .before .before .before .before .before .before .before in
+    c .before .before .write-codeword .ensures
+    ∙ ap (λ (u : List ℕ). packed (transformed (s m .args .n) (placed (now (s m .args .mask)) u (2 ^ s m .args .n)))) (message-is m)
+
+pub encode-in-spec : {M : Type 1} → statement M
+encode-in-spec =
+    tie.close
+    (tie.spec
+    (λ c. search needs)
+    (λ c. search needs)
+    (λ c. sym (part-length c))
+    message-of-requires
+    (λ c. search needs)
+    (λ c. let m = c .before .before .before in sym (ap length (part-is m) ∙ message-length m))
+    write-codeword-requires
+    (λ c. search needs)
+    (λ c. search needs)
+    returns)
