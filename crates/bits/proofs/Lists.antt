@@ -1,13 +1,12 @@
 -- Lists made of lists of bits are lists of bits. Assumes nothing.
-use mathlib.Core.Path.{_≡_, subst, sym}
-use mathlib.Core.Bool.{Bool, true, false}
+use mathlib.Core.Path.{subst, sym}
 use mathlib.Core.List.{List, [], _∷_, _++_}
-use Prim.Native.Nat.{ℕ, zero, suc, _+_, _≤_, _<_}
+use Prim.Native.Nat.{ℕ, zero, suc, _+_, _<_}
 use native.Mathlib.Omega.{arith}
 use lib.ListN.{getD, take, drop}
 use lib.Seq.{getD-drop}
-use Rattle.laws.specs.Segment.{table, segment}
-use Rattle.bits.specs.Bit.{bit, Bits, bitsOf}
+use Rattle.laws.specs.Segment.{table}
+use Rattle.bits.specs.Bit.{Bits, bitsOf}
 use Rattle.bits.specs.Packing.{unpacked}
 use Rattle.bits.proofs.Bitwise.{bit-lt}
 

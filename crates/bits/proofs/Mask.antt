@@ -7,7 +7,7 @@ use native.Mathlib.Nat.{add-assoc, add-zero, zero-add, add-suc, div-one, div-eq-
 use native.Mathlib.Numerals.{add-one}
 use native.Mathlib.Omega.{arith}
 use lib.Dec.{lit≤}
-use lib.ListN.{length, getD}
+use lib.ListN.{getD}
 use lib.Count as count
 use Rattle.bits.specs.Bit.{bit}
 use Rattle.bits.specs.Mask.{maskBit, onesBelow, byteCounts}

@@ -2,14 +2,14 @@
 use mathlib.Core.Path.{_≡_, refl, sym, ap, ap₂, _∙_}
 use mathlib.Core.Bool.{Bool, true, false}
 use mathlib.Core.List.{List}
-use Prim.Native.Nat.{ℕ, zero, suc, _+_, _-_, _*_, _/_, _%_, _^_, _≤_, _<_}
+use Prim.Native.Nat.{ℕ, _+_, _-_, _*_, _/_, _%_, _≤_, _<_}
 use native.Mathlib.Omega.{arith}
 use borrow.Author.Tests.{ltb-true, ltb-false}
 use lib.Dec.{ltb}
 use lib.ListN.{length, getD, List·getD-eq-default}
 use Rattle.laws.specs.Segment.{table}
 use Rattle.laws.proofs.Table.{length-table, getD-table, table-ext, table-getD}
-use Rattle.bits.specs.Bit.{bit, Bits, number}
+use Rattle.bits.specs.Bit.{bit, Bits}
 use Rattle.bits.specs.Packing.{bytesFor, packedByte, packed, unpacked, unusedBits}
 use Rattle.bits.proofs.Bitwise.{bit-mod, bit-zero}
 use Rattle.bits.proofs.Number.{bit-number, number-bit, number-ext}

@@ -1,6 +1,6 @@
 -- The message of a payload: its length, and that it is bits. Assumes nothing.
 use mathlib.Core.Path.{_≡_, sym, ap, _∙_}
-use mathlib.Core.List.{List, _++_}
+use mathlib.Core.List.{List}
 use Prim.Native.Nat.{ℕ, _+_}
 use lib.ListN.{length, length-append}
 use Rattle.bits.specs.Bit.{Bits, bitsOf}

@@ -1,7 +1,6 @@
 -- The starred rows of document 01 on encoding, by computation. Assumes nothing.
 use mathlib.Core.Path.{_≡_, refl}
-use mathlib.Core.List.{List, [], _∷_}
-use Prim.Native.Nat.{ℕ}
+use mathlib.Core.List.{[], _∷_}
 use Rattle.laws.specs.Choice.{firstOr}
 use Rattle.laws.specs.Segment.{table}
 use Rattle.bits.specs.Bit.{number}

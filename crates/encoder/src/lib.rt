@@ -7,7 +7,6 @@ ghost use Prim.Native.Nat.{_+_, _*_, _^_, _≤_, _<_};
 ghost use lib.Dec.{eqb};
 ghost use lib.ListN.{length, getD, set};
 ghost use Rattle.laws.specs.Segment.{splice};
-ghost use Rattle.bits.specs.Mask.{onesIn};
 ghost use Rattle.code.specs.Description.{differs};
 ghost use Rattle.encoder.specs.Place.{placed, taken};
 ghost use Rattle.encoder.specs.Encode.{MessagePre, CodewordPre, PayloadPre, CodePre, messageOf, codeword, encodedBy, encoded};

@@ -7,10 +7,10 @@ use native.Mathlib.Nat.{add-zero}
 use native.Mathlib.Numerals.{add-one}
 use native.Mathlib.Omega.{arith}
 use lib.ListN.{length, take, drop, getD, set, length-set, length-append, take-append-drop}
-use lib.Seq.{getD-set-other, getD-take, getD-drop, length-take-le, set-at, drop-cons, append-snoc}
-use Rattle.laws.specs.Segment.{table, segment, splice}
+use lib.Seq.{getD-set-other, length-take-le, set-at, drop-cons, append-snoc}
+use Rattle.laws.specs.Segment.{table, splice}
 use Rattle.laws.proofs.Table.{length-table, table-snoc}
-use Rattle.laws.proofs.Segment.{getD-segment, splice-whole}
+use Rattle.laws.proofs.Segment.{splice-whole}
 
 module _ {A : Type 0} where
   unfoldable pub filled : (ℕ → A) → ℕ → List A → ℕ → List A

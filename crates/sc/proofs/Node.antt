@@ -1,8 +1,8 @@
 -- A node by its cases: forced, a leaf, or two halves; and the lengths of what it gives. Assumes nothing.
-use mathlib.Core.Path.{_≡_, refl, sym, ap, ap₂, _∙_, subst}
+use mathlib.Core.Path.{_≡_, refl, sym, ap, subst}
 use mathlib.Core.Bool.{Bool, true, false, cond}
-use mathlib.Core.List.{List, [], _∷_, _++_}
-use Prim.Native.Nat.{ℕ, zero, suc, _+_, _-_, _^_, _≤_, _<_}
+use mathlib.Core.List.{List, []}
+use Prim.Native.Nat.{ℕ, zero, suc, _+_, _^_, _≤_, _<_}
 use native.Mathlib.Nat.{two-pow-succ}
 use native.Mathlib.Omega.{arith}
 use borrow.Author.Tests.{le-leb, lt-leb, leb-true, leb-false}
@@ -10,10 +10,10 @@ use lib.Dec.{leb}
 use lib.IntN.{ℤ, pos}
 use lib.ListN.{length, getD, take, drop, length-append, length-take, length-drop}
 use Rattle.laws.proofs.Table.{length-table}
-use Rattle.transform.specs.Transform.{transformed, xors}
+use Rattle.transform.specs.Transform.{xors}
 use Rattle.transform.proofs.Transformed.{length-transformed}
 use Rattle.transform.proofs.Xors.{length-xors}
-use Rattle.sc.specs.Values.{leftValues, rightValues, Rule, decided}
+use Rattle.sc.specs.Values.{leftValues, rightValues, Rule}
 use Rattle.sc.specs.Pass.{Out, forced, leaf, join, node}
 
 pub length-left : (h : ℕ) (v : List ℤ) → length (leftValues h v) ≡ h

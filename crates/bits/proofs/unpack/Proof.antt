@@ -3,7 +3,6 @@ use mathlib.Core.List.{List}
 use Prim.Native.Nat.{ℕ, _-_, _/_, _%_}
 use native.Mathlib.Omega.{arith}
 use borrow.Author.Needs.{needs}
-use denote.Ref.{now}
 use lib.ListN.{length, getD}
 use Rattle.laws.proofs.Filling.{Filling, filling-none, filling-more, filling-whole}
 use Rattle.bits.specs.Bit.{bit}

@@ -1,7 +1,7 @@
 -- `encoder::message_of` meets its contract. Assumes nothing.
-use mathlib.Core.Path.{_≡_, refl, sym, ap, _∙_}
+use mathlib.Core.Path.{_≡_, sym, ap, _∙_}
 use mathlib.Core.List.{List, _++_}
-use Prim.Native.Nat.{ℕ, _+_, _≤_, _<_}
+use Prim.Native.Nat.{ℕ, _+_}
 use lib.Pow.{pow-pos}
 use native.Mathlib.Omega.{arith}
 use borrow.Author.Needs.{needs}

@@ -1,16 +1,15 @@
 -- `encoder::write_codeword` meets its contract. Assumes nothing.
-use mathlib.Core.Path.{_≡_, refl, sym, ap, ap₂, _∙_, subst}
+use mathlib.Core.Path.{_≡_, sym, ap, _∙_}
 use mathlib.Core.List.{List}
-use Prim.Native.Nat.{ℕ, _+_, _*_, _^_, _≤_}
+use Prim.Native.Nat.{ℕ, _*_, _^_, _≤_}
 use native.Mathlib.Omega.{arith}
 use borrow.Author.Needs.{needs}
 use denote.Ref.{now}
 use lib.ListN.{length, take, length-replicate}
 use lib.Pow.{pow-mono}
 use lib.Seq.{length-take-le}
-use Rattle.laws.specs.Segment.{segment, splice}
+use Rattle.laws.specs.Segment.{segment}
 use Rattle.laws.proofs.Segment.{segment-splice}
-use Rattle.bits.specs.Bit.{Bits}
 use Rattle.bits.specs.Packing.{packed}
 use Rattle.transform.specs.Transform.{BitsAt, transformed}
 use Rattle.transform.proofs.BitsAt.{bits-at-splice}

@@ -9,7 +9,7 @@ use denote.Ref.{now}
 use lib.ListN.{length}
 use Rattle.laws.proofs.Choice.{first-none, first-yes, first-no}
 use Rattle.bits.specs.Packing.{bytesFor}
-use Rattle.probe.specs.Packing.{allBits, packing}
+use Rattle.probe.specs.Packing.{allBits}
 use Rattle.probe.proofs.AllBits.{all-bits}
 use Rattle.probe.proofs.probe_pack.Statement.{statement}
 use Rattle.probe.proofs.probe_pack.Tie as tie
