@@ -31,4 +31,14 @@ uint64_t polar_encode(const uint8_t *description, size_t description_len,
                       const uint8_t *payload, size_t payload_len,
                       uint8_t *codeword, size_t codeword_len);
 
+/* Decodes one pass whose first bits are forced to the prefix, one bit per byte, and writes all N bits, one per byte. Channel values are
+ * N bytes in two's complement, -31..31; positive favours bit 0. The steps are the values computed. An empty prefix gives a plain pass.
+ * Refusals 1 to 8, then
+ *   12 channel length not N; 13 a value outside -31..31, with its first index; 17 prefix longer than N; 18 a prefix byte other than
+ *   0 or 1, or a 1 at a frozen index, with its first index; 19 output not N bytes. */
+uint64_t polar_resume(const uint8_t *description, size_t description_len,
+                      const uint8_t *channel, size_t channel_len,
+                      const uint8_t *prefix, size_t prefix_len,
+                      uint8_t *bits, size_t bits_len);
+
 #endif

@@ -3,7 +3,9 @@
 use mathlib.Core.List.{List}
 use Prim.Native.Nat.{ℕ, _+_, _*_, _^_}
 use Rattle.encoder.specs.declared.Encoded.{Encoded}
-use Rattle.encoder.specs.declared.Encoded.the-variants.{Done, Refused}
+use Rattle.encoder.specs.declared.Encoded.the-variants as encode
+use Rattle.sc.specs.declared.Resumed.{Resumed}
+use Rattle.sc.specs.declared.Resumed.the-variants as resume
 
 abbrev pub number : ℕ → ℕ → ℕ → ℕ
 number refusal value steps = refusal + value * 2 ^ 8 + steps * 2 ^ 32
@@ -13,5 +15,10 @@ abbrev pub numbered : {A : Type 0} → (A → ℕ) → A × List ℕ → ℕ × 
 numbered numberOf answer = (numberOf (answer .0), answer .1)
 
 abbrev pub encodedNumber : Encoded → ℕ
-encodedNumber Done = number 0 0 0
-encodedNumber (Refused i) = number i 0 0
+encodedNumber encode.Done = number 0 0 0
+encodedNumber (encode.Refused i) = number i 0 0
+
+abbrev pub resumedNumber : Resumed → ℕ
+resumedNumber (resume.Done steps) = number 0 0 steps
+resumedNumber (resume.Refused i) = number i 0 0
+resumedNumber (resume.RefusedAt i index) = number i index 0

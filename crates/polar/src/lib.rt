@@ -1,15 +1,42 @@
 // The codec for host firmware in C; include/polar.h has the prototypes.
 use encoder::Encoded;
+use sc::Resumed;
 ghost use mathlib.Core.Path.{_≡_};
+ghost use Prim.Native.Nat.{_<_, _^_};
 ghost use Rattle.encoder.specs.Encode.{encoded};
-ghost use Rattle.polar.specs.Number.{numbered, encodedNumber};
+ghost use Rattle.polar.specs.Number.{number, numbered, encodedNumber, resumedNumber};
+ghost use Rattle.sc.specs.Resume.{resumed};
+
+// The number that comes back: refusal, then trial or index, then steps.
+fn answer(refusal: u8, value: u32, steps: u32) -> u64
+    requires { ⌜ number refusal value steps < 2 ^ 64 ⌝ }
+    ensures { λ x. ⌜ x ≡ number refusal value steps ⌝ }
+{
+    refusal as u64 + value as u64 * 0x100 + steps as u64 * 0x1_0000_0000
+}
 
 #[no_mangle]
 pub extern "C" fn polar_encode(description: &[u8], payload: &[u8], codeword: &mut [u8]) -> u64
     ensures { λ x. ⌜ (x, now (codeword .exit)) ≡ numbered encodedNumber (encoded (now (description .entry)) (now (payload .entry)) (now (codeword .entry))) ⌝ }
 {
     match encoder::encode(description, payload, codeword) {
-        Encoded::Done => 0,
-        Encoded::Refused(i) => i as u64,
+        Encoded::Done => answer(0, 0, 0),
+        Encoded::Refused(i) => answer(i, 0, 0),
+    }
+}
+
+#[no_mangle]
+pub extern "C" fn polar_resume(
+    description: &[u8],
+    channel: &[u8],
+    prefix: &[u8],
+    bits: &mut [u8],
+) -> u64
+    ensures { λ x. ⌜ (x, now (bits .exit)) ≡ numbered resumedNumber (resumed (now (description .entry)) (now (channel .entry)) (now (prefix .entry)) (now (bits .entry))) ⌝ }
+{
+    match sc::resume(description, channel, prefix, bits) {
+        Resumed::Done { steps } => answer(0, 0, steps),
+        Resumed::Refused(i) => answer(i, 0, 0),
+        Resumed::RefusedAt { refusal, index } => answer(refusal, index, 0),
     }
 }

@@ -1,3 +1,9 @@
 pub mod Values
 pub mod Pass
+pub mod Rules
+pub mod Bounds
+pub mod Layers
+pub mod Arrays
+pub mod First
+pub mod Resume
 pub mod Skipped

@@ -1,0 +1,222 @@
+-- `sc::decode_node` meets its contract: each need is a law of proofs/Recursion.antt. The measure is the layer. Assumes nothing.
+use mathlib.Core.Path.{refl}
+use Prim.Native.Nat.{ℕ, _+_, _-_, _*_, _/_, _^_, _≤_, _<_}
+use native.Mathlib.Omega.{arith}
+use borrow.Author.Needs.{needs}
+use borrow.Fn.Kinds.{In}
+use borrow.Fn.PlainCycle.{Measures, is, falls, and}
+use denote.Ref.{now}
+use Rattle.transform.proofs.Halves.{Halving, halving}
+use Rattle.sc.proofs.Recursion.{forced-bits, forced-worked, leaf-fits, leaf-value, leaf-worked, left-at, half-fits, whole₂, own-kept, right-at, combine-at, left-few, right-few, halves-worked, inner-at, left-of-own, inner-again, right-of-own}
+use Rattle.sc.proofs.decode_node.Reads as node
+use Rattle.sc.proofs.decode_node.Kinds as kinds
+use Rattle.sc.proofs.+decode_node.Lts-decode_node as lts
+use Rattle.sc.proofs.leaf.Reads as leaf-reads
+use Rattle.sc.proofs.left_values.Reads as left-values-reads
+use Rattle.sc.proofs.rebuild.Reads as rebuild-reads
+use Rattle.sc.proofs.right_values.Reads as right-values-reads
+use Rattle.transform.proofs.combine.Reads as combine-reads
+use Rattle.sc.proofs.+decode_node.{statement}
+use Rattle.sc.proofs.+decode_node.Tie.{close}
+
+abbrev μ : Measures 5 kinds.ps ℕ
+μ κs a = a .0
+
+abbrev at : ℕ → In 5 kinds.ps
+at t = and 5 kinds.ps (is 5 kinds.ps μ t) node.Pre
+
+abbrev below : ℕ → In 5 kinds.ps
+below t = and 5 kinds.ps (falls 5 kinds.ps _<_ μ t) node.Pre
+
+-- what the callees ask and give
+abbrev Q : ℕ → lts.Claims
+Q t = (
+  rebuild-reads.Asked,
+  rebuild-reads.Learnt,
+  leaf-reads.Asked,
+  leaf-reads.Learnt,
+  left-values-reads.Asked,
+  left-values-reads.Learnt,
+  below t,
+  node.Post,
+  right-values-reads.Asked,
+  right-values-reads.Learnt,
+  combine-reads.Asked,
+  combine-reads.Learnt,
+)
+
+module _ (t : ℕ) where
+  -- ---- a node whose bits are all forced
+
+  rebuild-requires : lts.Need-rebuild-requires (Q t) (at t) node.Post
+  rebuild-requires c κs =
+      let s = c .before .before .before in
+      let p = s .pre .1 .0 in
+      (p .pow, forced-bits (now (s .args .rules)) p (c .before .before .if1 .taken), p .whole .sums)
+
+  returns : lts.Need-returns (Q t) (at t) node.Post
+  returns c =
+      let s = c .before .before .before .before in
+      forced-worked (now (s .args .rules)) (s .pre .1 .0) (c .before .before .before .if1 .taken) (c .rebuild .ensures)
+
+  -- ---- a leaf
+
+  leaf-requires : lts.Need-leaf-requires (Q t) (at t) node.Post
+  leaf-requires c κs =
+      let e = c .before .before .before .before in
+      let s = e .before .before in
+      let p = s .pre .1 .0 in
+      (leaf-fits (now (s .args .rules)) p (e .before .if1 .left) (e .if2 .taken), p .whole)
+
+  returns-2 : lts.Need-returns-2 (Q t) (at t) node.Post
+  returns-2 c =
+      let e = c .before .before .before .before .before in
+      let s = e .before .before in
+      let p = s .pre .1 .0 in
+      let more = e .before .if1 .left in
+      let rules = now (s .args .rules) in
+      leaf-worked rules p more (e .if2 .taken) (leaf-value rules p more (e .if2 .taken) refl) (c .leaf .ensures)
+
+  -- ---- two halves
+
+  abbrev Else2 : Type 0
+  Else2 = lts.Else2 (Q t) (at t) node.Post
+
+  -- back from a place to the one after an earlier call
+  abbrev left-done : lts.After-decode-node (Q t) (at t) node.Post → lts.After-left-values (Q t) (at t) node.Post
+  left-done c = c .before .before .before .before .before
+
+  abbrev left-node-done : lts.After-right-values (Q t) (at t) node.Post → lts.After-decode-node (Q t) (at t) node.Post
+  left-node-done c = c .before .before .before
+
+  abbrev right-done : lts.After-decode-node2 (Q t) (at t) node.Post → lts.After-right-values (Q t) (at t) node.Post
+  right-done c = c .before .before .before .before .before
+
+  two : (c : Else2) → let s = c .before .before .args in Halving (s .layer) (s .size) (s .layer - 1) (s .size / 2)
+  two c = halving (c .if2 .left) (c .before .before .pre .1 .0 .pow)
+
+  left-values-requires : lts.Need-left-values-requires (Q t) (at t) node.Post
+  left-values-requires c κs =
+      let e = c .before in
+      let s = e .before .before in
+      inner-at (now (s .args .rules)) (two e) (s .pre .1 .0) (e .before .if1 .left) (s .pre .1 .1)
+
+  node-requires : lts.Need-decode-node-requires (Q t) (at t) node.Post
+  node-requires c κs =
+      let l = c .before .before .before .before in
+      let e = l .before .before in
+      let s = e .before .before in
+      let rules = now (s .args .rules) in
+      let p = s .pre .1 .0 in
+      let more = e .before .if1 .left in
+      let own = left-of-own rules (two e) p more (s .pre .1 .1) (l .left-values .ensures) in
+      (omega (arith, s .pre .0, two e .below), (left-at rules (two e) p more own, half-fits rules (two e) p more))
+
+  right-values-requires : lts.Need-right-values-requires (Q t) (at t) node.Post
+  right-values-requires c κs =
+      let k = c .before .before in
+      let l = left-done k in
+      let e = l .before .before in
+      let s = e .before .before in
+      let rules = now (s .args .rules) in
+      let d = two e in
+      let p = s .pre .1 .0 in
+      let more = e .before .if1 .left in
+      let c₁ = left-of-own rules d p more (s .pre .1 .1) (l .left-values .ensures) in
+      let c₂ = k .decode-node .ensures in
+      (inner-again rules d p more (s .pre .1 .1) (whole₂ rules d p more c₁ c₂) (own-kept rules d p more c₁ c₂), omega (arith, d .two, p .fits))
+
+  node-requires-2 : lts.Need-decode-node-requires-2 (Q t) (at t) node.Post
+  node-requires-2 c κs =
+      let r = c .before .before .before .before in
+      let k = left-node-done r in
+      let l = left-done k in
+      let e = l .before .before in
+      let s = e .before .before in
+      let rules = now (s .args .rules) in
+      let d = two e in
+      let p = s .pre .1 .0 in
+      let more = e .before .if1 .left in
+      let c₁ = left-of-own rules d p more (s .pre .1 .1) (l .left-values .ensures) in
+      let c₂ = k .decode-node .ensures in
+      let c₃ = right-of-own rules d p more (s .pre .1 .1) (whole₂ rules d p more c₁ c₂) (own-kept rules d p more c₁ c₂) (r .right-values .ensures) in
+      (omega (arith, s .pre .0, d .below), (right-at rules d p more c₁ c₂ c₃, half-fits rules d p more))
+
+  combine-requires : lts.Need-combine-requires (Q t) (at t) node.Post
+  combine-requires c κs =
+      let r = right-done (c .before) in
+      let k = left-node-done r in
+      let l = left-done k in
+      let e = l .before .before in
+      let s = e .before .before in
+      let rules = now (s .args .rules) in
+      let d = two e in
+      let p = s .pre .1 .0 in
+      let more = e .before .if1 .left in
+      let c₁ = left-of-own rules d p more (s .pre .1 .1) (l .left-values .ensures) in
+      let c₂ = k .decode-node .ensures in
+      let c₃ = right-of-own rules d p more (s .pre .1 .1) (whole₂ rules d p more c₁ c₂) (own-kept rules d p more c₁ c₂) (r .right-values .ensures) in
+      combine-at rules d p more c₁ c₂ c₃ (c .before .decode-node2 .ensures)
+
+  -- the steps of each half are few
+  few : (c : lts.After-decode-node2 (Q t) (at t) node.Post) →
+      let r = right-done c in
+      let k = left-node-done r in
+      let l = left-done k in
+      (l .left-values .result .steps + k .decode-node .result .steps ≤ 10 * 2 ^ 9) × (r .right-values .result .steps + c .decode-node2 .result .steps ≤ 10 * 2 ^ 9)
+  few c =
+      let r = right-done c in
+      let k = left-node-done r in
+      let l = left-done k in
+      let e = l .before .before in
+      let s = e .before .before in
+      let rules = now (s .args .rules) in
+      let d = two e in
+      let p = s .pre .1 .0 in
+      let more = e .before .if1 .left in
+      let c₁ = left-of-own rules d p more (s .pre .1 .1) (l .left-values .ensures) in
+      let c₂ = k .decode-node .ensures in
+      let c₃ = right-of-own rules d p more (s .pre .1 .1) (whole₂ rules d p more c₁ c₂) (own-kept rules d p more c₁ c₂) (r .right-values .ensures) in
+      let c₄ = c .decode-node2 .ensures in
+      (left-few rules d p more c₁ c₂ c₃ c₄, right-few rules d p more c₁ c₂ c₃ c₄)
+
+  returns-3 : lts.Need-returns-3 (Q t) (at t) node.Post
+  returns-3 c =
+      let m = c .before .before .before .before in
+      let n = m .before .before in
+      let r = right-done n in
+      let k = left-node-done r in
+      let l = left-done k in
+      let e = l .before .before in
+      let s = e .before .before in
+      let rules = now (s .args .rules) in
+      let d = two e in
+      let p = s .pre .1 .0 in
+      let more = e .before .if1 .left in
+      let c₁ = left-of-own rules d p more (s .pre .1 .1) (l .left-values .ensures) in
+      let c₂ = k .decode-node .ensures in
+      let c₃ = right-of-own rules d p more (s .pre .1 .1) (whole₂ rules d p more c₁ c₂) (own-kept rules d p more c₁ c₂) (r .right-values .ensures) in
+      halves-worked rules d p more c₁ c₂ c₃ (n .decode-node2 .ensures) (m .combine .ensures)
+
+pub +decode-node-spec : {M : Type 1} → statement M
++decode-node-spec = close μ λ t. lts.spec (Q t)
+    (at t)
+    node.Post
+    (λ c. omega (arith, c .pre .1 .0 .fits))
+    (rebuild-requires t)
+    (returns t)
+    (leaf-requires t)
+    (returns-2 t)
+    (λ c. omega (arith, c .before .before .pre .1 .0 .fits))
+    (left-values-requires t)
+    (λ c. search needs)
+    (node-requires t)
+    (right-values-requires t)
+    (λ c. search needs)
+    (λ c. omega (arith, c .before .before .before .before .before .before .before .before .before .before .before .before .pre .1 .0 .fits))
+    (node-requires-2 t)
+    (combine-requires t)
+    (λ c. omega (arith, few t (c .before .before .before .before)))
+    (λ c. omega (arith, few t (c .before .before .before .before .before .before)))
+    (λ c. omega (arith, few t (c .before .before .before .before .before .before)))
+    (returns-3 t)
