@@ -10,6 +10,18 @@ pub struct Code {
     pub k: usize,
 }
 
+impl Code {
+    /// N, the number of indices.
+    pub fn size(&self) -> usize {
+        1 << self.n
+    }
+
+    /// K, the number of information indices.
+    pub fn information(&self) -> usize {
+        self.k + self.r
+    }
+}
+
 /// A code, or the number of the refusal.
 pub type Description = Result<Code, u8>;
 
@@ -44,7 +56,7 @@ pub fn describe(bytes: &[u8]) -> Description {
     if !has_term(polynomial, 0) || (r..16).any(|i| has_term(polynomial, i)) {
         return Err(7);
     }
-    let information = count_information(&bytes[HEADER..]);
+    let information = count_information(mask_of(bytes));
     if information < r + 1 {
         return Err(8);
     }
@@ -56,10 +68,22 @@ pub fn describe(bytes: &[u8]) -> Description {
     })
 }
 
+/// The mask: the bytes from 8 on.
+pub fn mask_of(description: &[u8]) -> &[u8] {
+    &description[HEADER..]
+}
+
 /// Bit b of byte m, b = 0 being the least bit, stands for index 8m + b; one marks an information
 /// index.
 pub fn is_information(mask: &[u8], index: usize) -> bool {
     mask[index / 8] >> (index % 8) & 1 == 1
+}
+
+/// The information indices, ascending.
+pub fn information_indices(mask: &[u8]) -> Vec<usize> {
+    (0..8 * mask.len())
+        .filter(|&index| is_information(mask, index))
+        .collect()
 }
 
 /// K, the information indices counted one by one.
@@ -95,7 +119,7 @@ fn little_endian(low: u8, high: u8) -> u16 {
 }
 
 /// Whether the coefficient of z^i is one.
-fn has_term(polynomial: u16, i: usize) -> bool {
+pub fn has_term(polynomial: u16, i: usize) -> bool {
     polynomial >> i & 1 == 1
 }
 
@@ -146,6 +170,14 @@ mod tests {
             .filter(|&i| is_information(&[0xE8, 0x01], i))
             .collect();
         assert_eq!(ones, [3, 5, 6, 7, 8]);
+        assert_eq!(information_indices(&[0xE8, 0x01]), ones);
+    }
+
+    #[test]
+    fn sizes_of_a_code() {
+        let code = describe(&parse(D)).expect("a code");
+        assert_eq!((code.size(), code.information()), (8, 4));
+        assert_eq!(mask_of(&parse(D)), [0xE8]);
     }
 
     #[test]

@@ -1,14 +1,29 @@
 //! An independent reference of document 01 and what the tests need to hold the codec to it.
 //!
 //! The reference is written from the paper, for reading and not for speed. One module per idea:
-//! `description`, `packing`. The rest serves the tests: `library` calls the codec, `guard` lends
-//! buffers to it, `random` and `samples` make inputs, `rows` has the executed vectors.
+//! `description`, `packing`, `check`, `placing`, `transform`, `encode`, `channel`, `pass`,
+//! `resume`, `flip`, `quantise`, `receive`, and for all answers `refusal` and `number`. The rest
+//! serves the tests: `library` calls the codec, `guard` lends buffers to it, `random` and `samples`
+//! make inputs, `paper` has the inputs that the paper names, `rows` the executed vectors.
 
+pub mod channel;
+pub mod check;
 pub mod description;
+pub mod encode;
+pub mod flip;
 pub mod guard;
 pub mod hex;
 pub mod library;
+pub mod number;
 pub mod packing;
+pub mod paper;
+pub mod pass;
+pub mod placing;
+pub mod quantise;
 pub mod random;
+pub mod receive;
+pub mod refusal;
+pub mod resume;
 pub mod rows;
 pub mod samples;
+pub mod transform;

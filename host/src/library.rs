@@ -1,4 +1,14 @@
-//! The static library `probe`: the codec's functions exported for tests, called as C calls them.
+//! The codec's static libraries, called as C calls them. Here is `probe`, with what is exported for
+//! tests only. The exports of `polar` have modules of their own: a test program links with a
+//! library that has only those exports which it calls.
+
+mod decode;
+mod encode;
+mod resume;
+
+pub use decode::{decode_full, decode_restarted};
+pub use encode::encode;
+pub use resume::resume;
 
 use crate::description::Description;
 
@@ -10,8 +20,8 @@ extern "C" {
     fn probe_ones(mask: *const u8, len: usize) -> u64;
 }
 
-// SAFETY of every call below: each pointer goes with the length of the slice that it comes from,
-// the library reads and writes these bytes only, and it keeps no pointer.
+// SAFETY of every call here and in the modules below: each pointer goes with the length of the
+// slice that it comes from, the library reads and writes these bytes only, and it keeps no pointer.
 
 /// Reads a description; the answer is as in `description_number`.
 pub fn description(d: &[u8]) -> u64 {

@@ -25,6 +25,10 @@ impl Random {
         low + self.below(high - low + 1)
     }
 
+    pub fn bit(&mut self) -> bool {
+        self.number() & 1 == 1
+    }
+
     pub fn byte(&mut self) -> u8 {
         self.number() as u8
     }

@@ -1,6 +1,10 @@
-//! Random inputs that keep the paper's rules.
+//! Inputs for tests, most of them random. They keep the paper's rules where no name says otherwise.
 
-use crate::description::record;
+use std::cmp::Reverse;
+use std::ops::RangeInclusive;
+
+use crate::description::{describe, record, Code};
+use crate::packing::pack;
 use crate::random::Random;
 
 /// A description that is accepted, of any check width and any number of information indices.
@@ -9,6 +13,68 @@ pub fn description(random: &mut Random, n: usize) -> Vec<u8> {
     let r = random.between(1, 16.min(size - 1));
     let ones = random.between(r + 1, size);
     record(n, r, polynomial(random, r), &mask(random, size, ones))
+}
+
+/// An accepted description whose information indices are the better ones, so that channel values
+/// with some noise are decoded.
+pub fn useful_description(random: &mut Random, n: usize) -> Vec<u8> {
+    let size = 1 << n;
+    let r = random.between(1, 16.min(size / 4));
+    let ones = random.between(r + 1, size / 2 + r);
+    record(n, r, polynomial(random, r), &useful_mask(size, ones))
+}
+
+/// Gives accepted descriptions and their codes to a test, `count` for each n of a range.
+pub fn for_descriptions(
+    seed: u64,
+    layers: RangeInclusive<usize>,
+    count: usize,
+    mut test: impl FnMut(&mut Random, &[u8], Code),
+) {
+    let mut random = Random::new(seed);
+    for n in layers {
+        for _ in 0..count {
+            let d = description(&mut random, n);
+            let code = describe(&d).expect("an accepted description");
+            test(&mut random, &d, code);
+        }
+    }
+}
+
+/// A description, of any n, to which the refusal given applies first.
+pub fn refused_description(random: &mut Random, refusal: usize) -> Vec<u8> {
+    let n = random.between(3, 10);
+    let size = 1 << n;
+    let mut d = description(random, n);
+    let r = usize::from(d[5]);
+    match refusal {
+        1 => d.truncate(random.below(8)),
+        2 => add_to_word(&mut d, 0, random.between(1, 65_535)),
+        3 => add_to_word(&mut d, 2, random.between(1, 65_535)),
+        4 => d[4] = random.between(11, 255 + 3) as u8,
+        5 => d[4] = (3 + (n - 3 + random.between(1, 7)) % 8) as u8,
+        6 => d[5] = random.between(17, 255 + 1) as u8,
+        7 if r < 16 && random.bit() => set_bit(&mut d, 6, random.between(r, 15)),
+        7 => d[6] -= 1,
+        8 => {
+            let ones = random.below(r + 1);
+            d = record(n, r, polynomial(random, r), &mask(random, size, ones));
+        }
+        _ => panic!("a description has no refusal {refusal}"),
+    }
+    d
+}
+
+/// Adds to the two bytes from `place` on, little-endian, without a carry out of them.
+fn add_to_word(bytes: &mut [u8], place: usize, number: usize) {
+    let word = u16::from_le_bytes([bytes[place], bytes[place + 1]]);
+    let sum = word.wrapping_add(number as u16);
+    bytes[place..place + 2].copy_from_slice(&sum.to_le_bytes());
+}
+
+/// Sets bit i of the little-endian number from `place` on.
+fn set_bit(bytes: &mut [u8], place: usize, i: usize) {
+    bytes[place + i / 8] |= 1 << (i % 8);
 }
 
 /// A check polynomial of width r.
@@ -25,19 +91,132 @@ pub fn mask(random: &mut Random, size: usize, ones: usize) -> Vec<bool> {
     mask
 }
 
+/// A mask whose information indices are those with the most one bits, the higher ones first.
+pub fn useful_mask(size: usize, ones: usize) -> Vec<bool> {
+    let mut indices: Vec<usize> = (0..size).collect();
+    indices.sort_by_key(|&index| Reverse((index.count_ones(), index)));
+    let mut mask = vec![false; size];
+    for &index in &indices[..ones] {
+        mask[index] = true;
+    }
+    mask
+}
+
+/// A packed payload of k bits.
+pub fn payload(random: &mut Random, k: usize) -> Vec<u8> {
+    pack(&random.bits(k))
+}
+
+/// Channel values of a magnitude up to `largest`, at most 31.
+pub fn channel(random: &mut Random, count: usize, largest: usize) -> Vec<u8> {
+    (0..count)
+        .map(|_| value_byte(random.between(0, 2 * largest) as i64 - largest as i64))
+        .collect()
+}
+
+/// Every vector of eight channel values from −1, 0 and 1.
+pub fn small_vectors() -> impl Iterator<Item = Vec<u8>> {
+    let digit = |number: usize, place| number / 3usize.pow(place) % 3;
+    (0..3usize.pow(8)).map(move |number| {
+        (0..8)
+            .map(|place| value_byte(digit(number, place) as i64 - 1))
+            .collect()
+    })
+}
+
+/// Channel values with the signs of a codeword and no zero.
+pub fn noiseless(random: &mut Random, codeword: &[u8]) -> Vec<u8> {
+    codeword
+        .iter()
+        .map(|&bit| value_byte(favour(bit, random.between(1, 31))))
+        .collect()
+}
+
+/// Channel values of a codeword sent at `strength`, with noise of up to three times `noise`.
+pub fn noisy(random: &mut Random, codeword: &[u8], strength: usize, noise: usize) -> Vec<u8> {
+    codeword
+        .iter()
+        .map(|&bit| {
+            let disturbed = random.between(0, 2 * noise) as i64
+                + random.between(0, 2 * noise) as i64
+                + random.between(0, 2 * noise) as i64
+                - 3 * noise as i64;
+            value_byte((favour(bit, strength) + disturbed).clamp(-31, 31))
+        })
+        .collect()
+}
+
+/// A value of this magnitude that favours a bit.
+fn favour(bit: u8, magnitude: usize) -> i64 {
+    (1 - 2 * i64::from(bit)) * magnitude as i64
+}
+
+/// A channel value as a byte in two's complement.
+pub fn value_byte(value: i64) -> u8 {
+    i8::try_from(value).expect("a channel value") as u8
+}
+
 #[cfg(test)]
 mod tests {
     use super::*;
-    use crate::description::describe;
+    use crate::description::{information_indices, mask_of};
 
     #[test]
     fn descriptions_are_accepted() {
         let mut random = Random::new(1);
         for n in 3..=10 {
             for _ in 0..100 {
-                let d = description(&mut random, n);
-                assert_eq!(describe(&d).map(|code| code.n), Ok(n), "{d:02x?}");
+                for d in [
+                    description(&mut random, n),
+                    useful_description(&mut random, n),
+                ] {
+                    assert_eq!(describe(&d).map(|code| code.n), Ok(n), "{d:02x?}");
+                }
             }
         }
+    }
+
+    #[test]
+    fn refused_descriptions_are_refused() {
+        let mut random = Random::new(2);
+        for refusal in 1..=8 {
+            for _ in 0..1000 {
+                let d = refused_description(&mut random, refusal);
+                assert_eq!(describe(&d), Err(refusal as u8), "{d:02x?}");
+            }
+        }
+    }
+
+    /// Four of eight are those of D.
+    #[test]
+    fn useful_indices() {
+        let d = record(3, 1, 1, &useful_mask(8, 4));
+        assert_eq!(information_indices(mask_of(&d)), [3, 5, 6, 7]);
+    }
+
+    #[test]
+    fn small_vectors_differ() {
+        let mut vectors: Vec<Vec<u8>> = small_vectors().collect();
+        assert!(vectors.iter().flatten().all(|v| [0, 1, 255].contains(v)));
+        vectors.sort();
+        vectors.dedup();
+        assert_eq!(vectors.len(), 6561);
+    }
+
+    #[test]
+    fn values_favour_their_bits() {
+        let mut random = Random::new(3);
+        let x = random.bits(1000);
+        let sign = |byte: &u8| byte >> 7;
+        let right = noiseless(&mut random, &x);
+        assert!(right.iter().map(sign).eq(x.iter().copied()));
+        assert!(!right.contains(&0));
+        let weak = noisy(&mut random, &x, 2, 0);
+        assert!(weak
+            .iter()
+            .zip(&x)
+            .all(|(v, bit)| *v == [2, 0xFE][usize::from(*bit)]));
+        let strong = noisy(&mut random, &x, 31, 31);
+        assert!(strong.iter().all(|v| !(32..=224).contains(v)));
     }
 }

@@ -1,0 +1,10 @@
+pub mod FlipOrder
+pub mod ResumeAt
+pub mod Agree
+pub mod Run
+pub mod WellFormed
+pub mod Answers
+pub mod Trials
+pub mod Demand3
+pub mod NoiselessDecoding
+pub mod Starred

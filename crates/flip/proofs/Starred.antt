@@ -1,0 +1,55 @@
+-- The starred rows of document 01, "Vectors at the edges", on both decoders, by computation. Assumes nothing.
+use mathlib.Core.Path.{_≡_, refl}
+use mathlib.Core.List.{List, [], _∷_}
+use Prim.Native.Nat.{ℕ}
+use Rattle.laws.specs.Choice.{firstOr}
+use Rattle.laws.specs.Segment.{table}
+use Rattle.bits.specs.Bit.{number}
+use Rattle.bits.specs.Mask.{onesBelow}
+use Rattle.bits.specs.Packing.{packed}
+use Rattle.code.specs.Description.{maskOf, describe}
+use Rattle.code.proofs.Starred.{starredD}
+use Rattle.crc.specs.Check.{checkOf}
+use Rattle.transform.specs.Transform.{covers, parity, transformed, xors}
+use Rattle.encoder.specs.Place.{taken}
+use Rattle.sc.specs.Values.{channelValue, f, g, leftValues, rightValues}
+use Rattle.sc.specs.Resume.{firstOutside}
+use Rattle.sc.specs.Pass.{node}
+use Rattle.sc.specs.Layers.{channelValues}
+use Rattle.flip.specs.declared.Decoded.{Decoded}
+use Rattle.flip.specs.declared.Decoded.the-variants.{Accepted, Failed, Refused, RefusedAt}
+use Rattle.order.specs.Order.{information, insert, ordered}
+use Rattle.flip.specs.Trials.{firstFrom, flipOrder, run}
+use Rattle.flip.specs.Decode.{decodedBy, decodedWith, decodedFull, decodedRestarted}
+
+-- V of document 01, −1, 3, 2, 2, −2, −2, 3, 2, as bytes in two's complement
+abbrev pub starredV : List ℕ
+starredV = 0xFF ∷ 0x03 ∷ 0x02 ∷ 0x02 ∷ 0xFE ∷ 0xFE ∷ 0x03 ∷ 0x02 ∷ []
+
+-- 4, −4, 4, −4, −4, 4, −4, 4
+abbrev noiselessA0 : List ℕ
+noiselessA0 = 0x04 ∷ 0xFC ∷ 0x04 ∷ 0xFC ∷ 0xFC ∷ 0x04 ∷ 0xFC ∷ 0x04 ∷ []
+
+-- eight values, zero but for the one at index 7
+abbrev zerosThen : ℕ → List ℕ
+zerosThen byte = 0 ∷ 0 ∷ 0 ∷ 0 ∷ 0 ∷ 0 ∷ 0 ∷ byte ∷ []
+
+-- The rows under D, for a decoder (channel, T, output) that takes `steps` steps for two trials on V. In turn: the payload `A0`; V with
+-- T = 1 and T = 2; eight zeros; T of 0 or 6, and 5; value 31 at index 7, and 32 and −32 there.
+abbrev Rows : (List ℕ → ℕ → List ℕ → Decoded × List ℕ) → ℕ → List ℕ → Type 0
+Rows decoded steps output =
+    (decoded noiselessA0 1 output ≡ (Accepted 1 24, 0xA0 ∷ []))
+    × (decoded starredV 1 output ≡ (Failed 1 24, output))
+    × (decoded starredV 2 output ≡ (Accepted 2 steps, 0x00 ∷ []))
+    × (decoded (zerosThen 0x00) 1 output ≡ (Accepted 1 24, 0x00 ∷ []))
+    × (decoded starredV 0 output ≡ (Refused 14, output))
+    × (decoded starredV 6 output ≡ (Refused 14, output))
+    × (decoded starredV 5 output ≡ (Accepted 2 steps, 0x00 ∷ []))
+    × (decoded (zerosThen 0x1F) 1 output ≡ (Accepted 1 24, 0x00 ∷ []))
+    × (decoded (zerosThen 0x20) 1 output ≡ (RefusedAt 13 7, output))
+    × (decoded (zerosThen 0xE0) 1 output ≡ (RefusedAt 13 7, output))
+
+-- whatever byte the output held, with the order of flipped indices on V
+pub starred-decoding : (byte : ℕ) → (flipOrder (maskOf (starredD 0xE8)) 3 (channelValues starredV) ≡ 5 ∷ 3 ∷ 6 ∷ 7 ∷ []) × Rows (decodedFull (starredD 0xE8)) 48 (byte ∷ []) × Rows (decodedRestarted (starredD 0xE8)) 32 (byte ∷ [])
+unfolding firstOr table number onesBelow packed describe checkOf covers parity transformed xors taken channelValue f g leftValues rightValues firstOutside node information insert ordered firstFrom run decodedBy decodedWith
+starred-decoding byte = (refl, (refl, refl, refl, refl, refl, refl, refl, refl, refl, refl), (refl, refl, refl, refl, refl, refl, refl, refl, refl, refl))

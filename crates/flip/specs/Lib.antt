@@ -1,0 +1,7 @@
+pub mod Trials
+pub mod Decode
+pub mod FirstAfter
+pub mod Ends
+pub mod WellFormed
+pub mod Demand3
+pub mod Noiseless

@@ -1,0 +1,5 @@
+pub mod Pairwise
+pub mod Permutation
+pub mod Before
+pub mod Information
+pub mod Order

@@ -1,0 +1,31 @@
+-- Document 01, "Flip decoding, full and restarted": information indices are ordered by the magnitude of trial 1's leaf value, equal
+-- magnitudes by lower index.
+use mathlib.Core.Bool.{Bool, _&&_, _||_, cond}
+use mathlib.Core.List.{List, [], _∷_, _++_}
+use Prim.Native.Nat.{ℕ, zero, suc}
+use lib.Dec.{ltb, eqb}
+use lib.IntN.{ℤ, pos, natAbs}
+use lib.ListN.{getD}
+use Rattle.bits.specs.Mask.{maskBit}
+
+-- the information indices below n, ascending
+unfoldable pub information : List ℕ → ℕ → List ℕ
+information mask zero = []
+information mask (suc n) = information mask n ++ cond (eqb (maskBit mask n) 1) (n ∷ []) []
+
+abbrev pub magnitude : List ℤ → ℕ → ℕ
+magnitude leaves i = natAbs (getD leaves i (pos 0))
+
+-- whether i stands before j
+abbrev pub before : List ℤ → ℕ → ℕ → Bool
+before leaves i j =
+    ltb (magnitude leaves i) (magnitude leaves j) || (eqb (magnitude leaves i) (magnitude leaves j) && ltb i j)
+
+-- i in its place among indices that are in order
+unfoldable pub insert : List ℤ → ℕ → List ℕ → List ℕ
+insert leaves i [] = i ∷ []
+insert leaves i (j ∷ js) = cond (before leaves i j) (i ∷ j ∷ js) (j ∷ insert leaves i js)
+
+unfoldable pub ordered : List ℤ → List ℕ → List ℕ
+ordered leaves [] = []
+ordered leaves (i ∷ is) = insert leaves i (ordered leaves is)

@@ -1,0 +1,303 @@
+//! Flip decoding, full and restarted: document 01, "Flip decoding, full and restarted"; document
+//! 000, section II-C; document 001, definition 1.
+
+use crate::channel::read_channel;
+use crate::check::check;
+use crate::description::{describe, information_indices, mask_of, Code};
+use crate::packing::{pack, packed_length};
+use crate::pass::{pass, plain_rules, Pass, Rule};
+use crate::placing::take;
+use crate::refusal::Refusal;
+
+/// An accepted frame: the number of the trial that passed, and the steps of all trials made.
+#[derive(Clone, Copy, Debug, PartialEq, Eq)]
+pub struct Accepted {
+    pub trial: usize,
+    pub steps: usize,
+}
+
+/// Full decoding: each trial from the root. Writes the packed payload; a refusal writes nothing.
+pub fn decode_full(
+    description: &[u8],
+    channel: &[u8],
+    limit: u32,
+    output: &mut [u8],
+) -> Result<Accepted, Refusal> {
+    decode(description, channel, limit, output, full_trial)
+}
+
+/// Restarted decoding: each later trial resumes after its flipped index.
+pub fn decode_restarted(
+    description: &[u8],
+    channel: &[u8],
+    limit: u32,
+    output: &mut [u8],
+) -> Result<Accepted, Refusal> {
+    decode(description, channel, limit, output, restarted_trial)
+}
+
+/// Information indices by the magnitude of trial 1's leaf value, equal magnitudes by lower index.
+pub fn order(mask: &[u8], leaves: &[i64]) -> Vec<usize> {
+    let mut order = information_indices(mask);
+    order.sort_by_key(|&index| (leaves[index].abs(), index));
+    order
+}
+
+/// The first information index above `flipped`, or N.
+pub fn restart_index(mask: &[u8], flipped: usize) -> usize {
+    information_indices(mask)
+        .into_iter()
+        .find(|&index| index > flipped)
+        .unwrap_or(8 * mask.len())
+}
+
+/// The trials made and their steps; nothing where the first was not made.
+pub fn trials_made(answer: &Result<Accepted, Refusal>) -> Option<(usize, usize)> {
+    match *answer {
+        Ok(Accepted { trial, steps }) => Some((trial, steps)),
+        Err(Refusal::AllFailed { limit, steps }) => Some((limit, steps)),
+        Err(_) => None,
+    }
+}
+
+/// What the trials work on.
+struct Frame<'a> {
+    code: Code,
+    mask: &'a [u8],
+    values: Vec<i64>,
+}
+
+/// A trial after the first, from trial 1 and the flipped index.
+type LaterTrial = fn(&Frame, &Pass, usize) -> Pass;
+
+fn decode(
+    description: &[u8],
+    channel: &[u8],
+    limit: u32,
+    output: &mut [u8],
+    later_trial: LaterTrial,
+) -> Result<Accepted, Refusal> {
+    let code = describe(description)?;
+    let values = read_channel(channel, code.size())?;
+    let limit = limit as usize;
+    if !(1..=code.information() + 1).contains(&limit) {
+        return Err(Refusal::Number(14));
+    }
+    if output.len() != packed_length(code.k) {
+        return Err(Refusal::Number(15));
+    }
+    let frame = Frame {
+        code,
+        mask: mask_of(description),
+        values,
+    };
+    let (accepted, payload) = run(&frame, limit, later_trial)?;
+    output.copy_from_slice(&pack(&payload));
+    Ok(accepted)
+}
+
+/// Makes trials until one passes; gives its payload bits too.
+fn run(
+    frame: &Frame,
+    limit: usize,
+    later_trial: LaterTrial,
+) -> Result<(Accepted, Vec<u8>), Refusal> {
+    let first = pass(&frame.values, &[], &plain_rules(frame.mask));
+    let order = order(frame.mask, &first.leaves);
+    let mut steps = 0;
+    for trial in 1..=limit {
+        let tried = match trial {
+            1 => first.clone(),
+            _ => later_trial(frame, &first, order[trial - 2]),
+        };
+        steps += tried.steps;
+        if let Some(payload) = passing_payload(frame, &tried.bits) {
+            return Ok((Accepted { trial, steps }, payload));
+        }
+    }
+    Err(Refusal::AllFailed { limit, steps })
+}
+
+/// The opposite decision at the flipped index, the usual decision elsewhere, from the root.
+fn full_trial(frame: &Frame, _first: &Pass, flipped: usize) -> Pass {
+    let mut rules = plain_rules(frame.mask);
+    rules[flipped] = Rule::Opposite;
+    pass(&frame.values, &[], &rules)
+}
+
+/// Trial 1's bits before the flipped index, its opposite there, frozen zeros up to the restart
+/// index, and a pass resumed from there.
+fn restarted_trial(frame: &Frame, first: &Pass, flipped: usize) -> Pass {
+    let mut prefix = first.bits[..flipped].to_vec();
+    prefix.push(1 - first.bits[flipped]);
+    prefix.resize(restart_index(frame.mask, flipped), 0);
+    pass(&frame.values, &prefix, &plain_rules(frame.mask))
+}
+
+/// The payload bits of a pass, where their check equals its check bits.
+fn passing_payload(frame: &Frame, bits: &[u8]) -> Option<Vec<u8>> {
+    let Code {
+        r, polynomial, k, ..
+    } = frame.code;
+    let mut payload = take(frame.mask, bits);
+    let check_bits = payload.split_off(k);
+    (check(&payload, r, polynomial) == check_bits).then_some(payload)
+}
+
+#[cfg(test)]
+mod tests {
+    use super::*;
+    use crate::encode::codeword;
+    use crate::hex::parse;
+    use crate::paper::{D, MASK_OF_D, V};
+    use crate::pass::skipped_steps;
+    use crate::random::Random;
+    use crate::samples;
+
+    type Decoder = fn(&[u8], &[u8], u32, &mut [u8]) -> Result<Accepted, Refusal>;
+    const BOTH: [Decoder; 2] = [decode_full, decode_restarted];
+
+    /// Decodes under D into a buffer that holds `before`.
+    fn decode_d(
+        decoder: Decoder,
+        channel: &[u8],
+        limit: u32,
+        before: &[u8],
+    ) -> (Result<Accepted, Refusal>, Vec<u8>) {
+        let mut output = before.to_vec();
+        let answer = decoder(&D, channel, limit, &mut output);
+        (answer, output)
+    }
+
+    fn accepted(trial: usize, steps: usize, payload: u8) -> (Result<Accepted, Refusal>, Vec<u8>) {
+        (Ok(Accepted { trial, steps }), vec![payload])
+    }
+
+    fn refused(channel: &[u8], limit: u32, before: &[u8], refusal: Refusal) {
+        for decoder in BOTH {
+            let expected = (Err(refusal), before.to_vec());
+            assert_eq!(decode_d(decoder, channel, limit, before), expected);
+        }
+    }
+
+    #[test]
+    fn rows_of_the_paper() {
+        let right = parse("04 FC 04 FC FC 04 FC 04");
+        for decoder in BOTH {
+            let of = |channel: &[u8], limit| decode_d(decoder, channel, limit, &[0xEE]);
+            assert_eq!(of(&right, 1), accepted(1, 24, 0xA0));
+            assert_eq!(of(&[0; 8], 1), accepted(1, 24, 0x00));
+            assert_eq!(of(&[0; 8], 5), accepted(1, 24, 0x00));
+        }
+        let failed = Refusal::AllFailed {
+            limit: 1,
+            steps: 24,
+        };
+        refused(&V, 1, &[0xEE], failed);
+        let of = |decoder| decode_d(decoder, &V, 2, &[0xEE]);
+        assert_eq!(of(decode_full), accepted(2, 48, 0x00));
+        assert_eq!(of(decode_restarted), accepted(2, 32, 0x00));
+        refused(&[0; 8], 0, &[0xEE], Refusal::Number(14));
+        refused(&[0; 8], 6, &[0xEE], Refusal::Number(14));
+        refused(
+            &parse("00 00 00 00 00 00 00 20"),
+            1,
+            &[0xEE],
+            Refusal::At(13, 7),
+        );
+        refused(
+            &parse("00 00 00 00 00 00 00 E0"),
+            1,
+            &[0xEE],
+            Refusal::At(13, 7),
+        );
+    }
+
+    #[test]
+    fn the_order_of_v() {
+        let values = read_channel(&V, 8).expect("channel values");
+        let first = pass(&values, &[], &plain_rules(&MASK_OF_D));
+        assert_eq!(order(&MASK_OF_D, &first.leaves), [5, 3, 6, 7]);
+    }
+
+    #[test]
+    fn of_equal_magnitudes_the_lower_index_comes_first() {
+        let leaves = [0, 0, 0, -2, 0, 1, 2, -1];
+        assert_eq!(order(&MASK_OF_D, &leaves), [5, 7, 3, 6]);
+        assert_eq!(order(&MASK_OF_D, &[0; 8]), [3, 5, 6, 7]);
+    }
+
+    #[test]
+    fn the_restart_index_is_the_next_information_index() {
+        let restarts = [3, 5, 6, 7].map(|flipped| restart_index(&MASK_OF_D, flipped));
+        assert_eq!(restarts, [5, 6, 7, 8]);
+        // Document 001: a flip at 9 restarts at 11.
+        assert_eq!(restart_index(&[0xC0, 0xFA], 9), 11);
+    }
+
+    #[test]
+    fn refusals_before_the_first_trial() {
+        refused(&[0; 7], 1, &[0xEE], Refusal::Number(12));
+        refused(&[0; 8], u32::MAX, &[0xEE], Refusal::Number(14));
+        refused(&[0; 8], 1, &[], Refusal::Number(15));
+        refused(&[0; 8], 1, &[0xEE; 2], Refusal::Number(15));
+    }
+
+    #[test]
+    fn the_first_fault_decides() {
+        let bad = parse("09 00 01 00 03 01 01 00 80");
+        for decoder in BOTH {
+            assert_eq!(decoder(&bad, &[], 0, &mut []), Err(Refusal::Number(8)));
+        }
+        refused(&[0x80; 9], 0, &[], Refusal::Number(12));
+        refused(&[0x80; 8], 0, &[], Refusal::At(13, 0));
+        refused(&[0; 8], 0, &[], Refusal::Number(14));
+        refused(&V, 1, &[], Refusal::Number(15));
+    }
+
+    /// What demand 3 says of both decoders, over every vector of small values under D and every T.
+    #[test]
+    fn full_and_restarted_agree() {
+        for channel in samples::small_vectors() {
+            let values = read_channel(&channel, 8).expect("channel values");
+            let first = pass(&values, &[], &plain_rules(&MASK_OF_D));
+            let order = order(&MASK_OF_D, &first.leaves);
+            for limit in 1..=5 {
+                let (full, payload) = decode_d(decode_full, &channel, limit, &[0xEE]);
+                let (restarted, same) = decode_d(decode_restarted, &channel, limit, &[0xEE]);
+                assert_eq!(full.is_ok(), restarted.is_ok());
+                assert_eq!(payload, same);
+                let (trials, steps) = trials_made(&full).expect("a first trial");
+                assert_eq!(steps, trials * 24);
+                let saved: usize = order[..trials - 1]
+                    .iter()
+                    .map(|&flipped| skipped_steps(3, restart_index(&MASK_OF_D, flipped)))
+                    .sum();
+                assert_eq!(trials_made(&restarted), Some((trials, steps - saved)));
+            }
+        }
+    }
+
+    /// The demand's noiseless clause.
+    #[test]
+    fn right_signs_pass_on_trial_1() {
+        let mut random = Random::new(1);
+        for n in 3..=9 {
+            for _ in 0..10 {
+                let d = samples::description(&mut random, n);
+                let code = describe(&d).expect("a code");
+                let payload = random.bits(code.k);
+                let x = codeword(&code, mask_of(&d), &payload);
+                let channel = samples::noiseless(&mut random, &x);
+                let limit = random.between(1, code.information() + 1) as u32;
+                for decoder in BOTH {
+                    let mut output = random.bytes(packed_length(code.k));
+                    let answer = decoder(&d, &channel, limit, &mut output);
+                    let steps = n << n;
+                    assert_eq!(answer, Ok(Accepted { trial: 1, steps }));
+                    assert_eq!(output, pack(&payload));
+                }
+            }
+        }
+    }
+}

@@ -1,0 +1,79 @@
+//! The 64-bit number that C gets: document 01, "Flip decoding, full and restarted". Bits 0–7 hold
+//! the refusal, or 0; bits 8–31 the trial, refusal 16's T, or a refusal's first index; bits 32–63
+//! the steps; what an answer lacks is 0.
+
+use crate::flip::Accepted;
+use crate::refusal::Refusal;
+
+/// The number of an answer of `encode`.
+pub fn encode_number(answer: &Result<(), Refusal>) -> u64 {
+    match answer {
+        Ok(()) => number(0, 0, 0),
+        Err(refusal) => number_of_refusal(refusal),
+    }
+}
+
+/// The number of an answer of `resume`.
+pub fn resume_number(answer: &Result<usize, Refusal>) -> u64 {
+    match answer {
+        Ok(steps) => number(0, 0, *steps),
+        Err(refusal) => number_of_refusal(refusal),
+    }
+}
+
+/// The number of an answer of a decoder.
+pub fn decode_number(answer: &Result<Accepted, Refusal>) -> u64 {
+    match answer {
+        Ok(accepted) => number(0, accepted.trial, accepted.steps),
+        Err(refusal) => number_of_refusal(refusal),
+    }
+}
+
+fn number_of_refusal(refusal: &Refusal) -> u64 {
+    match *refusal {
+        Refusal::Number(of) => number(of, 0, 0),
+        Refusal::At(of, index) => number(of, index, 0),
+        Refusal::AllFailed { limit, steps } => number(16, limit, steps),
+    }
+}
+
+/// Panics where a part has no room.
+fn number(refusal: u8, middle: usize, steps: usize) -> u64 {
+    assert!(middle < 1 << 24, "{middle} has more than 24 bits");
+    assert!(steps < 1 << 32, "{steps} has more than 32 bits");
+    u64::from(refusal) + ((middle as u64) << 8) + ((steps as u64) << 32)
+}
+
+#[cfg(test)]
+mod tests {
+    use super::*;
+
+    #[test]
+    fn each_answer_has_its_bits() {
+        assert_eq!(encode_number(&Ok(())), 0);
+        assert_eq!(encode_number(&Err(Refusal::Number(10))), 10);
+        assert_eq!(resume_number(&Ok(8)), 0x0000_0008_0000_0000);
+        let first_index = Err(Refusal::At(18, 0x2A5));
+        assert_eq!(resume_number(&first_index), 0x0000_0000_0002_A512);
+        let accepted = Accepted {
+            trial: 2,
+            steps: 32,
+        };
+        assert_eq!(decode_number(&Ok(accepted)), 0x0000_0020_0000_0200);
+        let failed = Refusal::AllFailed {
+            limit: 1,
+            steps: 24,
+        };
+        assert_eq!(decode_number(&Err(failed)), 0x0000_0018_0000_0110);
+    }
+
+    #[test]
+    fn the_most_trials_have_room() {
+        let accepted = Accepted {
+            trial: 1025,
+            steps: 1025 * 10 * 1024,
+        };
+        let expected = (1025 * 10 * 1024) << 32 | 1025 << 8;
+        assert_eq!(decode_number(&Ok(accepted)), expected);
+    }
+}

@@ -1,0 +1,10 @@
+//! The inputs that document 01 names.
+
+/// The description D: N = 8, information indices 3, 5, 6 and 7, k = 3, r = 1.
+pub const D: [u8; 9] = [0x09, 0x00, 0x01, 0x00, 0x03, 0x01, 0x01, 0x00, 0xE8];
+
+/// The mask of D.
+pub const MASK_OF_D: [u8; 1] = [0xE8];
+
+/// The channel values V: −1, 3, 2, 2, −2, −2, 3, 2.
+pub const V: [u8; 8] = [0xFF, 0x03, 0x02, 0x02, 0xFE, 0xFE, 0x03, 0x02];

@@ -1,0 +1,400 @@
+//! The library's decoders, held to the reference and to each other on more than 200,000 calls.
+
+use host::channel::read_channel;
+use host::description::{describe, mask_of, record, Code};
+use host::encode::codeword;
+use host::flip::{self, order, restart_index, trials_made, Accepted};
+use host::guard::{lend_input, lend_output};
+use host::library;
+use host::number::decode_number;
+use host::packing::{pack, packed_length};
+use host::paper::{D, V};
+use host::pass::{pass, plain_rules, skipped_steps};
+use host::placing::place;
+use host::random::Random;
+use host::refusal::{refusal_number, Refusal};
+use host::samples;
+use host::transform::transform;
+
+type Reference = fn(&[u8], &[u8], u32, &mut [u8]) -> Result<Accepted, Refusal>;
+type Library = fn(&[u8], &[u8], u32, &mut [u8]) -> u64;
+
+const FULL: (Reference, Library) = (flip::decode_full, library::decode_full);
+const RESTARTED: (Reference, Library) = (flip::decode_restarted, library::decode_restarted);
+
+/// The library's answer, and its output after it.
+fn run(decoder: Library, d: &[u8], channel: &[u8], limit: u32, before: &[u8]) -> (u64, Vec<u8>) {
+    lend_input(d, |d| {
+        lend_input(channel, |channel| {
+            lend_output(before, |output| decoder(d, channel, limit, output))
+        })
+    })
+}
+
+/// Compares one call of one decoder in its answer and in each byte of its output; gives both.
+fn check_one(
+    (reference, decoder): (Reference, Library),
+    d: &[u8],
+    channel: &[u8],
+    limit: u32,
+    before: &[u8],
+) -> (Result<Accepted, Refusal>, Vec<u8>) {
+    let mut output = before.to_vec();
+    let expected = reference(d, channel, limit, &mut output);
+    if expected.is_err() {
+        assert_eq!(output, before, "a refusal writes nothing");
+    }
+    let (answer, after) = run(decoder, d, channel, limit, before);
+    assert_eq!(
+        (answer, &after),
+        (decode_number(&expected), &output),
+        "{d:02x?} {channel:02x?} {limit} {} bytes",
+        before.len()
+    );
+    (expected, after)
+}
+
+/// Compares a call of both decoders, also with each other; gives full decoding's answer.
+fn check(d: &[u8], channel: &[u8], limit: u32, before: &[u8]) -> Result<Accepted, Refusal> {
+    let (full, payload) = check_one(FULL, d, channel, limit, before);
+    let (restarted, same) = check_one(RESTARTED, d, channel, limit, before);
+    assert_eq!(payload, same);
+    assert_eq!(refusal_number(&full), refusal_number(&restarted));
+    match (trials_made(&full), trials_made(&restarted)) {
+        (Some((trials, steps)), Some((same, fewer))) => {
+            assert_eq!(trials, same);
+            check_steps(d, channel, trials, steps, fewer);
+        }
+        _ => assert_eq!(full, restarted),
+    }
+    full
+}
+
+/// Full decoding makes n × N steps a trial; restarting saves, in each trial after the first, the
+/// closed sum at the first information index after the flipped one.
+fn check_steps(d: &[u8], channel: &[u8], trials: usize, full: usize, restarted: usize) {
+    let mask = mask_of(d);
+    let n = usize::from(d[4]);
+    assert_eq!(full, trials * (n << n));
+    if trials == 1 {
+        assert_eq!(restarted, full);
+        return;
+    }
+    let values = read_channel(channel, 1 << n).expect("channel values");
+    let first = pass(&values, &[], &plain_rules(mask));
+    let saved: usize = order(mask, &first.leaves)[..trials - 1]
+        .iter()
+        .map(|&flipped| skipped_steps(n, restart_index(mask, flipped)))
+        .sum();
+    assert_eq!(full - restarted, saved);
+}
+
+/// How often frames were accepted on trial 1, on a later trial, and not at all.
+#[derive(Default, Debug)]
+struct Outcomes {
+    first: usize,
+    later: usize,
+    none: usize,
+}
+
+impl Outcomes {
+    fn count(&mut self, answer: Result<Accepted, Refusal>) {
+        match answer {
+            Ok(accepted) if accepted.trial == 1 => self.first += 1,
+            Ok(_) => self.later += 1,
+            Err(Refusal::AllFailed { .. }) => self.none += 1,
+            Err(refusal) => panic!("refused {}", refusal.number()),
+        }
+    }
+
+    /// That each came about at least so often.
+    fn at_least(&self, least: usize) {
+        let each = [self.first, self.later, self.none];
+        assert!(each.iter().all(|&count| count >= least), "{self:?}");
+    }
+}
+
+/// The code of an accepted description.
+fn code_of(d: &[u8]) -> Code {
+    describe(d).expect("a code")
+}
+
+/// The codeword of a random payload, and the payload packed.
+fn sent(random: &mut Random, d: &[u8]) -> (Vec<u8>, Vec<u8>) {
+    let code = code_of(d);
+    let payload = random.bits(code.k);
+    (codeword(&code, mask_of(d), &payload), pack(&payload))
+}
+
+/// A buffer for the payload, with any content.
+fn room(random: &mut Random, d: &[u8]) -> Vec<u8> {
+    random.bytes(packed_length(code_of(d).k))
+}
+
+/// A trial limit that is allowed, of at most `most`.
+fn limit(random: &mut Random, d: &[u8], most: usize) -> u32 {
+    random.between(1, most.min(code_of(d).information() + 1)) as u32
+}
+
+#[test]
+fn rows_of_the_paper() {
+    let number = |refusal: u64, middle: u64, steps: u64| refusal + (middle << 8) + (steps << 32);
+    let right = [4, 252, 4, 252, 252, 4, 252, 4];
+    for (_, decoder) in [FULL, RESTARTED] {
+        let of = |channel: &[u8], limit| run(decoder, &D, channel, limit, &[0xEE]);
+        assert_eq!(of(&right, 1), (number(0, 1, 24), vec![0xA0]));
+        assert_eq!(of(&V, 1), (number(16, 1, 24), vec![0xEE]));
+        assert_eq!(of(&[0; 8], 1), (number(0, 1, 24), vec![0x00]));
+        assert_eq!(of(&V, 0), (14, vec![0xEE]));
+        assert_eq!(of(&V, 6), (14, vec![0xEE]));
+        assert_eq!(of(&V, 5).0 % 256, 0);
+        for byte in [32, 224] {
+            let channel = [0, 0, 0, 0, 0, 0, 0, byte];
+            assert_eq!(of(&channel, 1), (number(13, 7, 0), vec![0xEE]));
+        }
+    }
+    let v = |(_, decoder): (Reference, Library)| run(decoder, &D, &V, 2, &[0xEE]);
+    assert_eq!(v(FULL), (number(0, 2, 48), vec![0x00]));
+    assert_eq!(v(RESTARTED), (number(0, 2, 32), vec![0x00]));
+}
+
+/// Every vector of −1, 0 and 1 under D with every T: nothing but zeros and ties.
+#[test]
+fn every_small_vector_of_the_paper_s_code() {
+    let mut outcomes = Outcomes::default();
+    for channel in samples::small_vectors() {
+        for limit in 1..=5 {
+            outcomes.count(check(&D, &channel, limit, &[0xEE]));
+        }
+    }
+    outcomes.at_least(1_000);
+}
+
+#[test]
+fn every_limit_of_small_codes() {
+    let mut random = Random::new(1);
+    for n in 3..=5 {
+        for _ in 0..200 {
+            let d = samples::description(&mut random, n);
+            let largest = [1, 3, 31][random.below(3)];
+            let channel = samples::channel(&mut random, 1 << n, largest);
+            let most = code_of(&d).information() as u32 + 1;
+            for limit in 0..=most + 1 {
+                let allowed = (1..=most).contains(&limit);
+                let answer = check(&d, &channel, limit, &room(&mut random, &d));
+                assert_eq!(refusal_number(&answer) == 14, !allowed);
+            }
+        }
+    }
+}
+
+#[test]
+fn limits_at_their_edges() {
+    let mut random = Random::new(2);
+    for n in 3..=10 {
+        for _ in 0..(3_000 >> n).max(3) {
+            let d = samples::description(&mut random, n);
+            let channel = samples::channel(&mut random, 1 << n, 31);
+            let before = room(&mut random, &d);
+            let most = code_of(&d).information() as u32 + 1;
+            let largest = if n > 8 { 40 } else { most };
+            for limit in [1, 2, largest.min(most - 1), largest.min(most)] {
+                assert_ne!(refusal_number(&check(&d, &channel, limit, &before)), 14);
+            }
+            let beyond = [8, 16, 24, 31].map(|i| (1 << i) + 1).into_iter();
+            let beyond = beyond.filter(|&limit| limit > most);
+            for limit in beyond.chain([0, most + 1, u32::MAX]) {
+                assert_eq!(refusal_number(&check(&d, &channel, limit, &before)), 14);
+            }
+        }
+    }
+}
+
+/// The longest runs: N = 1024, all indices information indices, every trial made.
+#[test]
+fn the_most_trials() {
+    let mut random = Random::new(3);
+    let d = record(10, 16, 0x8005, &[true; 1024]);
+    let channel = samples::channel(&mut random, 1024, 31);
+    let answer = check(&d, &channel, 1025, &room(&mut random, &d));
+    assert_eq!(refusal_number(&answer), 16);
+}
+
+/// Codewords under noise of several strengths.
+#[test]
+fn noise() {
+    let mut random = Random::new(4);
+    for n in 3..=10 {
+        let mut outcomes = Outcomes::default();
+        for round in 0..(60_000 >> n).max(600) {
+            let d = samples::useful_description(&mut random, n);
+            let (x, _) = sent(&mut random, &d);
+            let strength = random.between(8, 16);
+            let noise = strength * [3, 5, 6, 7, 8, 12][round % 6] / 8;
+            let channel = samples::noisy(&mut random, &x, strength, noise);
+            let limit = limit(&mut random, &d, 13);
+            outcomes.count(check(&d, &channel, limit, &room(&mut random, &d)));
+        }
+        outcomes.at_least(20);
+    }
+}
+
+#[test]
+fn right_signs() {
+    let mut random = Random::new(5);
+    for n in 3..=10 {
+        for _ in 0..(20_000 >> n).max(50) {
+            let d = samples::description(&mut random, n);
+            let (x, payload) = sent(&mut random, &d);
+            let channel = samples::noiseless(&mut random, &x);
+            let limit = limit(&mut random, &d, usize::MAX);
+            let number = 1 << 8 | ((n << n) as u64) << 32;
+            for (_, decoder) in [FULL, RESTARTED] {
+                let answer = run(decoder, &d, &channel, limit, &room(&mut random, &d));
+                assert_eq!(answer, (number, payload.clone()));
+            }
+        }
+    }
+}
+
+/// Strong values of bits whose check is mostly wrong: leaf values come near the bound, and a
+/// flipped bit sets them against each other.
+#[test]
+fn strong_values() {
+    let mut random = Random::new(11);
+    let mut outcomes = Outcomes::default();
+    for n in 3..=10 {
+        let size = 1 << n;
+        for _ in 0..100 {
+            let r = random.between(1, 6);
+            let ones = random.between(r + 1, 20.min(size));
+            let polynomial = samples::polynomial(&mut random, r);
+            let d = record(n, r, polynomial, &samples::useful_mask(size, ones));
+            let x = transform(&place(mask_of(&d), &random.bits(ones)));
+            let channel = samples::noisy(&mut random, &x, 24, 2);
+            let limit = ones as u32 + 1;
+            outcomes.count(check(&d, &channel, limit, &room(&mut random, &d)));
+        }
+    }
+    outcomes.at_least(20);
+}
+
+/// Values that were never sent: any, small ones with zeros and ties, of one magnitude, all zero.
+#[test]
+fn garbage() {
+    let mut random = Random::new(6);
+    let mut outcomes = Outcomes::default();
+    for n in 3..=10 {
+        for round in 0..(40_000 >> n).max(60) {
+            let size = 1 << n;
+            let d = samples::description(&mut random, n);
+            let channel = match round % 4 {
+                0 => samples::channel(&mut random, size, 31),
+                1 => samples::channel(&mut random, size, 1),
+                2 => random
+                    .bits(size)
+                    .iter()
+                    .map(|bit| [7, 249][usize::from(*bit)])
+                    .collect(),
+                _ => vec![0; size],
+            };
+            let limit = limit(&mut random, &d, 20);
+            outcomes.count(check(&d, &channel, limit, &room(&mut random, &d)));
+        }
+    }
+    outcomes.at_least(1_000);
+}
+
+#[test]
+fn values_out_of_range() {
+    let mut random = Random::new(7);
+    for n in 3..=10 {
+        for _ in 0..100 {
+            let d = samples::description(&mut random, n);
+            let size = 1 << n;
+            let before = room(&mut random, &d);
+            for place in [0, size - 1, random.below(size)] {
+                let mut channel = samples::channel(&mut random, size, 31);
+                channel[place] = [32, 224, 127, 128][random.below(4)];
+                let refused = Err(Refusal::At(13, place));
+                assert_eq!(check(&d, &channel, 1, &before), refused);
+            }
+        }
+    }
+}
+
+#[test]
+fn wrong_lengths() {
+    let mut random = Random::new(8);
+    for n in 3..=10 {
+        for _ in 0..50 {
+            let d = samples::description(&mut random, n);
+            let size = 1 << n;
+            let channel = samples::channel(&mut random, size, 31);
+            let before = room(&mut random, &d);
+            for length in [0, 1, size / 2, size - 1, size + 1, 2 * size, 65_536] {
+                let answer = check(&d, &vec![0; length], 1, &before);
+                assert_eq!(refusal_number(&answer), 12);
+            }
+            let right = before.len();
+            for length in [0, right - 1, right + 1, 2 * right, size, 65_536] {
+                let before = random.bytes(length);
+                if length != right {
+                    assert_eq!(refusal_number(&check(&d, &channel, 1, &before)), 15);
+                }
+            }
+        }
+    }
+}
+
+#[test]
+fn refused_descriptions() {
+    let mut random = Random::new(9);
+    for refusal in 1..=8 {
+        for _ in 0..500 {
+            let d = samples::refused_description(&mut random, refusal);
+            let channel = vec![0; random.below(1_100)];
+            let before = vec![0xEE; random.below(130)];
+            let limit = random.below(20) as u32;
+            assert_eq!(
+                refusal_number(&check(&d, &channel, limit, &before)),
+                refusal
+            );
+        }
+    }
+}
+
+/// Faults of every kind at once, so that their order decides.
+#[test]
+fn several_faults() {
+    let mut random = Random::new(10);
+    let mut met = [0; 17];
+    for _ in 0..20_000 {
+        let n = random.between(3, 6);
+        let size = 1 << n;
+        let mut d = samples::description(&mut random, n);
+        let mut channel = samples::channel(&mut random, size, 31);
+        let mut before = room(&mut random, &d);
+        let mut limit = limit(&mut random, &d, 5);
+        if random.below(4) == 0 {
+            let refusal = random.between(1, 8);
+            d = samples::refused_description(&mut random, refusal);
+        }
+        if random.below(4) == 0 {
+            channel.resize(random.below(2 * size), 0);
+        }
+        if random.below(3) == 0 && !channel.is_empty() {
+            let place = random.below(channel.len());
+            channel[place] = random.byte();
+        }
+        if random.below(3) == 0 {
+            limit = random.below(size + 4) as u32;
+        }
+        if random.below(3) == 0 {
+            before.resize(random.below(size), 0xEE);
+        }
+        met[refusal_number(&check(&d, &channel, limit, &before))] += 1;
+    }
+    let possible = [0, 1, 2, 3, 4, 5, 6, 7, 8, 12, 13, 14, 15, 16];
+    assert!(possible.iter().all(|&number| met[number] > 0), "{met:?}");
+}
