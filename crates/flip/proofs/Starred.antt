@@ -13,7 +13,7 @@ use Rattle.crc.specs.Check.{checkOf}
 use Rattle.transform.specs.Transform.{covers, parity, transformed, xors}
 use Rattle.encoder.specs.Place.{taken}
 use Rattle.sc.specs.Values.{channelValue, f, g, leftValues, rightValues}
-use Rattle.sc.specs.Resume.{firstOutside}
+use Rattle.sc.specs.First.{firstWhere}
 use Rattle.sc.specs.Pass.{node}
 use Rattle.sc.specs.Layers.{channelValues}
 use Rattle.flip.specs.declared.Decoded.{Decoded}
@@ -51,5 +51,5 @@ Rows decoded steps output =
 
 -- whatever byte the output held, with the order of flipped indices on V
 pub starred-decoding : (byte : ℕ) → (flipOrder (maskOf (starredD 0xE8)) 3 (channelValues starredV) ≡ 5 ∷ 3 ∷ 6 ∷ 7 ∷ []) × Rows (decodedFull (starredD 0xE8)) 48 (byte ∷ []) × Rows (decodedRestarted (starredD 0xE8)) 32 (byte ∷ [])
-unfolding firstOr table number onesBelow packed describe checkOf covers parity transformed xors taken channelValue f g leftValues rightValues firstOutside node information insert ordered firstFrom run decodedBy decodedWith
+unfolding firstOr table number onesBelow packed describe checkOf covers parity transformed xors taken channelValue f g leftValues rightValues firstWhere node information insert ordered firstFrom run decodedBy decodedWith
 starred-decoding byte = (refl, (refl, refl, refl, refl, refl, refl, refl, refl, refl, refl), (refl, refl, refl, refl, refl, refl, refl, refl, refl, refl))

@@ -13,7 +13,8 @@ use Rattle.code.specs.declared.Description.{Description}
 use Rattle.code.specs.declared.Description.the-variants.{Code}
 use Rattle.code.specs.Description.{differs, outside, maskOf, describe, onDescription}
 use Rattle.code.proofs.Tests.{same, inside}
-use Rattle.sc.specs.Resume.{outOfRange, firstOutside}
+use Rattle.sc.specs.Resume.{firstOutside}
+use Rattle.sc.proofs.First.{first-le}
 use Rattle.sc.specs.Pass.{Out}
 use Rattle.sc.specs.Layers.{channelValues}
 use Rattle.flip.specs.declared.Decoded.{Decoded}
@@ -23,11 +24,7 @@ use Rattle.flip.specs.Decode.{trialPasses, answerOf, decodedBy, decodedW
 use Rattle.flip.specs.WellFormed.{WellFormed}
 
 first-outside-le : (channel : List ℕ) → firstOutside channel ≤ length channel
-unfolding firstOutside
-first-outside-le [] = omega arith
-first-outside-le (b ∷ bs) =
-    let l = first-outside-le bs in
-    cond-ind (λ (i : ℕ). i ≤ suc (length bs)) (outOfRange b) 0 (suc (firstOutside bs)) (λ _. omega arith) (λ _. omega arith)
+first-outside-le channel = first-le _ (length channel)
 
 differs-no : (a b : ℕ) → a ≡ b → differs a b ≡ false
 differs-no a b e = ap not (eq-eqb a b e)

@@ -3,3 +3,4 @@ pub mod Permutation
 pub mod Before
 pub mod Information
 pub mod Order
+pub mod Next

@@ -1,5 +1,5 @@
 -- Document 01, "Flip decoding, full and restarted": what the order of flipped indices is, namely all information indices, each once,
--- sorted. `flip-order` of proofs/Order.antt proves it.
+-- sorted. `ordered-information` of proofs/Order.antt proves it.
 use mathlib.Core.Path.{_≡_}
 use mathlib.Core.Bool.{true}
 use mathlib.Core.List.{List}

@@ -1,9 +1,10 @@
 -- The first index at which a test holds. Assumes nothing.
 use mathlib.Core.Path.{_≡_, refl, ap, _∙_, subst}
 use mathlib.Core.Bool.{Bool, true, false, cond}
-use Prim.Native.Nat.{ℕ, zero, suc, _<_, suc-le-suc}
+use Prim.Native.Nat.{ℕ, zero, suc, _<_, suc-le-suc, _≤_}
 use native.Mathlib.Nat.{le-of-suc-le-suc}
 use native.Mathlib.Omega.{arith}
+use Rattle.laws.proofs.Choice.{cond-ind}
 use Rattle.sc.specs.First.{firstWhere}
 
 pub first-end : (test : ℕ → Bool) (n : ℕ) → ((k : ℕ) → k < n → test k ≡ false) → firstWhere test n ≡ n
@@ -32,3 +33,10 @@ first-before test (suc n) k l = go (test 0) refl k (first-before (λ i. test (su
     go false e zero later l = e
     go false e (suc k) later l =
         later k (le-of-suc-le-suc (subst (λ (t : Bool). suc k < cond t 0 (suc (firstWhere (λ i. test (suc i)) n))) e l))
+
+pub first-le : (test : ℕ → Bool) (n : ℕ) → firstWhere test n ≤ n
+unfolding firstWhere
+first-le test zero = omega arith
+first-le test (suc n) =
+    let rest = first-le (λ i. test (suc i)) n in
+    cond-ind (λ (i : ℕ). i ≤ suc n) (test 0) 0 (suc (firstWhere (λ i. test (suc i)) n)) (λ _. omega arith) (λ _. omega arith)
