@@ -346,14 +346,15 @@ module _ {room layer size n h base q : ℕ} {a : Arrays} {v : List ℤ} (rules :
                   ∙ splice-next (a .leaves) (base + length F) (L .leaves) (R .leaves) m (length (R .leaves)) refl refl
                   (omega (arith, left-many, right-many, d .two, p .fits, p .whole .leaves))
 
-          pub placed : Placed (nodeOf layer size base q rules (a .bits) v) base (length F) a a₄ (steps₁ + steps₂ + (steps₃ + steps₄))
-          placed =
-              subst (λ (o : Out). Placed o base (length F) a a₄ (steps₁ + steps₂ + (steps₃ + steps₄))) (sym halves-are)
+          pub placed : {count : ℕ} → count ≡ steps₁ + steps₂ + (steps₃ + steps₄) → Placed (nodeOf layer size base q rules (a .bits) v) base (length F) a a₄ count
+          placed {count} total =
+              subst (λ (o : Out). Placed o base (length F) a a₄ count) (sym halves-are)
               (record {
                 bits = both-bits;
                 leaves = both-leaves;
                 steps =
-                    ap₂ (λ (x y : ℕ). x + y)
+                    total
+                    ∙ ap₂ (λ (x y : ℕ). x + y)
                     (ap₂ (λ (x y : ℕ). x + y) (left-computed .counted) (left-worked .placed .steps))
                     (ap₂ (λ (x y : ℕ). x + y) (right-computed .counted) (right-worked .placed .steps));
               })
@@ -392,9 +393,9 @@ module _ {room layer size n h base q : ℕ} {a : Arrays} {v : List ℤ} (rules :
               (bits-append (L .sums) (R .sums) (bits-sums n (take h F) rule (leftOf h F v)) (bits-sums n (drop h F) (λ i. rule (h + i)) (rightValues h v (L .sums))))
 
           -- after the sums are combined
-          pub halves-worked : {sums₅ : List ℕ} → sums₅ ≡ splice (a₄ .sums) base (xors h (segment (a₄ .sums) base h) (segment (a₄ .sums) (base + h) h)) → Worked (nodeOf layer size base q rules (a .bits) v) size base (length F) a (arrays (a₄ .work) (a₄ .bits) sums₅ (a₄ .leaves)) (steps₁ + steps₂ + (steps₃ + steps₄))
-          halves-worked e = record {
-            placed = record { bits = placed .bits; leaves = placed .leaves; steps = placed .steps };
+          pub halves-worked : {sums₅ : List ℕ} {count : ℕ} → count ≡ steps₁ + steps₂ + (steps₃ + steps₄) → sums₅ ≡ splice (a₄ .sums) base (xors h (segment (a₄ .sums) base h) (segment (a₄ .sums) (base + h) h)) → Worked (nodeOf layer size base q rules (a .bits) v) size base (length F) a (arrays (a₄ .work) (a₄ .bits) sums₅ (a₄ .leaves)) count
+          halves-worked total e = record {
+            placed = let r = placed total in record { bits = r .bits; leaves = r .leaves; steps = r .steps };
             sums =
                 e ∙ ap (λ (s : List ℕ). splice s base (xors h (segment s base h) (segment s (base + h) h))) both-sums
                 ∙ ap₂ (λ (x y : List ℕ). splice (splice (a .sums) base (L .sums ++ R .sums)) base (xors h x y))

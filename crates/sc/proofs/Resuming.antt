@@ -60,7 +60,7 @@ module _ {room n : ℕ} {mask channel prefix output rules : List ℕ} (bits₀ :
   prefix-in : take q bits₁ ≡ prefix
   prefix-in = ap (take q) filled ∙ segment-splice bits₀ 0 prefix q refl room-prefix
 
-  pub bits-whole : length bits₁ ≡ room
+  bits-whole : length bits₁ ≡ room
   bits-whole = ap length filled ∙ length-splice bits₀ 0 prefix q refl room-prefix ∙ whole
 
   pub resume-on : {work leaves : List ℤ} {sums : List ℕ} → length work ≡ room → length sums ≡ room → length leaves ≡ room → PassOn room n q channel (arrays work bits₁ sums leaves)

@@ -103,9 +103,9 @@ module _ {room n q : ℕ} {channel : List ℕ} {a : Arrays} (rules : List ℕ) (
             pub root-right-few : steps₃ + steps₄ ≤ 10 * 2 ^ 9
             root-right-few = right-few rules d root-on more c₁ c₂ c₃ c₄
 
-            pub passed : Passed room o q a a₄ (steps₁ + steps₂ + (steps₃ + steps₄))
-            passed =
-                let r = placed rules d root-on more c₁ c₂ c₃ c₄ in
+            pub passed : {count : ℕ} → count ≡ steps₁ + steps₂ + (steps₃ + steps₄) → Passed room o q a a₄ count
+            passed total =
+                let r = placed rules d root-on more c₁ c₂ c₃ c₄ total in
                 let start : 0 + length (forcedBits (a .bits) 0 (length channel) q) ≡ q = zero-add _ ∙ ap length forced-at-root ∙ prefix-long in
                 record {
                   bits = r .bits ∙ ap (λ (x : Out). splice (a .bits) 0 (x .bits)) root-is;

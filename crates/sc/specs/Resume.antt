@@ -15,6 +15,7 @@ use Rattle.sc.specs.declared.Resumed.the-variants.{Done, Refused, Refuse
 use Rattle.sc.specs.Values.{channelValue}
 use Rattle.sc.specs.Pass.{Out, node}
 use Rattle.sc.specs.Rules.{maskRule}
+use Rattle.sc.specs.Arrays.{deepest}
 use Rattle.sc.specs.Bounds.{Within}
 use Rattle.sc.specs.Layers.{channelValues}
 use Rattle.sc.specs.First.{firstWhere}
@@ -63,7 +64,7 @@ resumed d channel prefix output =
 -- what holds past all refusals
 pub record Resumable (n : ℕ) (mask channel prefix output : List ℕ) : Type 0 where
   pub n-least : 1 ≤ n
-  pub n-most : n ≤ 10
+  pub n-most : n ≤ deepest
   pub mask-size : 8 * length mask ≡ 2 ^ n
   pub channel-long : length channel ≡ 2 ^ n
   pub small : Within 31 (channelValues channel)

@@ -14,7 +14,7 @@ ghost use Rattle.sc.specs.Values.{channelValue, hard, f, g, leftValues, 
 ghost use Rattle.sc.specs.Pass.{leaf};
 ghost use Rattle.sc.specs.Rules.{ruleOf, maskRule, Ruled};
 ghost use Rattle.sc.specs.Layers.{nodeValues, Inner, channelValues, Root, unless, Computed};
-ghost use Rattle.sc.specs.Arrays.{arrays, Whole, forcedBits, NodeOn, nodeOf, Worked, PassOn, passOf, Passed};
+ghost use Rattle.sc.specs.Arrays.{arrays, Whole, forcedBits, deepest, NodeOn, nodeOf, Worked, PassOn, passOf, Passed};
 ghost use Rattle.sc.specs.Resume.{firstOutside, badBit, firstBad, resumePass, Resumable, resumedCode, resumed};
 
 // A working array of values: below the root, those of the node at layer s stand from index 2^s on.
@@ -26,6 +26,18 @@ pub type RuleArray = [u8; SIZE];
 // What was done: one step for each value computed.
 pub struct Work {
     pub steps: u32,
+}
+
+impl Work {
+    // All that two parts did.
+    pub fn plus(self, other: Work) -> Work
+        requires { ⌜ self .steps + other .steps < 2 ^ 32 ⌝ }
+        ensures { λ r. ⌜ r .steps ≡ self .steps + other .steps ⌝ }
+    {
+        Work {
+            steps: self.steps + other.steps,
+        }
+    }
 }
 
 // What resume answers: the steps made, or the number of the refusal, in two cases with its first index.
@@ -227,9 +239,7 @@ fn decode_node(
     let right = right_values(h, base, sums, work);
     let r = decode_node(layer - 1, h, base + h, q, rules, work, bits, sums, leaves);
     combine(sums, base, h);
-    Work {
-        steps: left.steps + l.steps + (right.steps + r.steps),
-    }
+    left.plus(l).plus(right.plus(r))
 }
 
 // A whole pass whose first q bits, which stand in `bits`, are forced. Where all are forced nothing is done.
@@ -255,9 +265,7 @@ pub fn pass(
     let l = decode_node(n - 1, h, 0, q, rules, work, bits, sums, leaves);
     let right = root_right_values(channel, h, sums, work);
     let r = decode_node(n - 1, h, h, q, rules, work, bits, sums, leaves);
-    Work {
-        steps: left.steps + l.steps + (right.steps + r.steps),
-    }
+    left.plus(l).plus(right.plus(r))
 }
 
 // The rules of a plain pass: the usual decision at the information indices of the mask.
@@ -361,7 +369,7 @@ fn resume_pass(n: u32, mask: &[u8], channel: &[u8], prefix: &[u8], output: &mut 
 
 // The operation under a code of length 2^n.
 fn resume_code(n: u32, mask: &[u8], channel: &[u8], prefix: &[u8], output: &mut [u8]) -> Resumed
-    requires { ⌜ (1 ≤ n) × (n ≤ 10) × (8 * length (now mask) ≡ 2 ^ n) ⌝ }
+    requires { ⌜ (1 ≤ n) × (n ≤ deepest) × (8 * length (now mask) ≡ 2 ^ n) ⌝ }
     ensures { λ r. ⌜ (r, now (output .exit)) ≡ resumedCode n (now (mask .entry)) (now (channel .entry)) (now (prefix .entry)) (now (output .entry)) ⌝ }
 {
     let size = 1usize << n;

@@ -1,5 +1,5 @@
 -- `sc::decode_node` meets its contract: each need is a law of proofs/Recursion.antt. The measure is the layer. Assumes nothing.
-use mathlib.Core.Path.{refl}
+use mathlib.Core.Path.{refl, ap₂, _∙_}
 use Prim.Native.Nat.{ℕ, _+_, _-_, _*_, _/_, _^_, _≤_, _<_}
 use native.Mathlib.Omega.{arith}
 use borrow.Author.Needs.{needs}
@@ -11,6 +11,7 @@ use Rattle.sc.proofs.Recursion.{forced-bits, forced-worked, leaf-fits, 
 use Rattle.sc.proofs.decode_node.Reads as node
 use Rattle.sc.proofs.decode_node.Kinds as kinds
 use Rattle.sc.proofs.+decode_node.Lts-decode_node as lts
+use Rattle.sc.proofs.Work.plus.Reads as plus-reads
 use Rattle.sc.proofs.leaf.Reads as leaf-reads
 use Rattle.sc.proofs.left_values.Reads as left-values-reads
 use Rattle.sc.proofs.rebuild.Reads as rebuild-reads
@@ -43,6 +44,8 @@ Q t = (
   right-values-reads.Learnt,
   combine-reads.Asked,
   combine-reads.Learnt,
+  plus-reads.Asked,
+  plus-reads.Learnt,
 )
 
 module _ (t : ℕ) where
@@ -182,7 +185,7 @@ module _ (t : ℕ) where
 
   returns-3 : lts.Need-returns-3 (Q t) (at t) node.Post
   returns-3 c =
-      let m = c .before .before .before .before in
+      let m = c .before .before .before in
       let n = m .before .before in
       let r = right-done n in
       let k = left-node-done r in
@@ -196,7 +199,8 @@ module _ (t : ℕ) where
       let c₁ = left-of-own rules d p more (s .pre .1 .1) (l .left-values .ensures) in
       let c₂ = k .decode-node .ensures in
       let c₃ = right-of-own rules d p more (s .pre .1 .1) (whole₂ rules d p more c₁ c₂) (own-kept rules d p more c₁ c₂) (r .right-values .ensures) in
-      halves-worked rules d p more c₁ c₂ c₃ (n .decode-node2 .ensures) (m .combine .ensures)
+      let total = c .plus3 .ensures ∙ ap₂ (λ (x y : ℕ). x + y) (c .before .before .plus .ensures) (c .before .plus2 .ensures) in
+      halves-worked rules d p more c₁ c₂ c₃ (n .decode-node2 .ensures) total (m .combine .ensures)
 
 pub +decode-node-spec : {M : Type 1} → statement M
 +decode-node-spec = close μ λ t. lts.spec (Q t)
@@ -216,7 +220,7 @@ pub +decode-node-spec : {M : Type 1} → statement M
     (λ c. omega (arith, c .before .before .before .before .before .before .before .before .before .before .before .before .pre .1 .0 .fits))
     (node-requires-2 t)
     (combine-requires t)
-    (λ c. omega (arith, few t (c .before .before .before .before)))
-    (λ c. omega (arith, few t (c .before .before .before .before .before .before)))
-    (λ c. omega (arith, few t (c .before .before .before .before .before .before)))
+    (λ c κs. omega (arith, few t (c .before .before)))
+    (λ c κs. omega (arith, few t (c .before .before .before)))
+    (λ c κs. omega (arith, c .before .plus .ensures, c .plus2 .ensures, few t (c .before .before .before .before)))
     (returns-3 t)

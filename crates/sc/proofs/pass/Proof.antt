@@ -1,5 +1,6 @@
 -- `sc::pass` meets its contract: each need is a law of proofs/Root.antt. Assumes nothing.
-use Prim.Native.Nat.{_+_, _-_, _*_, _/_, _^_, _≤_}
+use mathlib.Core.Path.{ap₂, _∙_}
+use Prim.Native.Nat.{ℕ, _+_, _-_, _*_, _/_, _^_, _≤_}
 use native.Mathlib.Omega.{arith}
 use borrow.Author.Needs.{needs}
 use denote.Ref.{now}
@@ -80,13 +81,14 @@ few c =
 
 returns-2 : tie.Need-returns-2
 returns-2 c =
-    let m = c .before .before .before .before in
+    let m = c .before .before .before in
     let r = right-done m in
     let k = left-node-done r in
     let l = left-done k in
     let e = l .before .before in
     let s = e .before .before in
-    passed (now (s .args .rules)) (s .pre) (fits s) (two e) (e .if1 .left) (l .root-left-values .ensures) (k .decode-node .ensures) (r .root-right-values .ensures) (m .decode-node2 .ensures)
+    let total = c .plus3 .ensures ∙ ap₂ (λ (x y : ℕ). x + y) (c .before .before .plus .ensures) (c .before .plus2 .ensures) in
+    passed (now (s .args .rules)) (s .pre) (fits s) (two e) (e .if1 .left) (l .root-left-values .ensures) (k .decode-node .ensures) (r .root-right-values .ensures) (m .decode-node2 .ensures) total
 
 pub pass-spec : {M : Type 1} → statement M
 pass-spec =
@@ -99,7 +101,7 @@ pass-spec =
     right-requires
     (λ c. search needs)
     right-node-requires
-    (λ c. omega (arith, few (c .before .before)))
-    (λ c. omega (arith, few (c .before .before .before .before)))
-    (λ c. omega (arith, few (c .before .before .before .before)))
+    (λ c κs. omega (arith, few c))
+    (λ c κs. omega (arith, few (c .before)))
+    (λ c κs. omega (arith, c .before .plus .ensures, c .plus2 .ensures, few (c .before .before)))
     returns-2)
