@@ -5,6 +5,7 @@ pub mod Run
 pub mod WellFormed
 pub mod Answers
 pub mod Trials
+pub mod Few
 pub mod Demand3
 pub mod NoiselessDecoding
 pub mod Starred

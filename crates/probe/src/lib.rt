@@ -1,9 +1,12 @@
 // Exports for tests only: what document 01 does not export to C. None has a `requires`; a call that the tested function would
 // not admit gets a number of its own.
 use code::Description;
+use quantiser::Quantised;
 ghost use mathlib.Core.Path.{_≡_};
 ghost use Rattle.code.specs.Description.{describe};
+ghost use Rattle.quantiser.specs.Quantise.{quantised};
 ghost use Rattle.probe.specs.Number.{numberOf};
+ghost use Rattle.probe.specs.Quantised.{toldBy};
 ghost use Rattle.probe.specs.Packing.{allBits, packing, unpacking, bitAt, onesAnswer};
 
 #[no_mangle]
@@ -83,4 +86,33 @@ pub extern "C" fn probe_ones(mask: &[u8]) -> u64
         return 0xffff_ffff_ffff_ffff;
     }
     bits::ones(mask) as u64
+}
+
+// The peak comes back; numbers hold the refusal or 0, then the clipped count, the refusal's index or 0.
+#[no_mangle]
+pub extern "C" fn probe_quantise(
+    scale: f32,
+    samples: &[f32],
+    output: &mut [u8],
+    numbers: &mut [u64; 2],
+) -> f32
+    ensures { λ peak. ⌜ ((peak, now (numbers .exit)), now (output .exit)) ≡ toldBy (quantised scale (now (samples .entry)) (now (output .entry))) (now (numbers .entry)) ⌝ }
+{
+    match quantiser::quantise(scale, samples, output) {
+        Quantised::Done(s) => {
+            numbers[0] = 0;
+            numbers[1] = s.clipped as u64;
+            s.peak
+        }
+        Quantised::Refused(i) => {
+            numbers[0] = i as u64;
+            numbers[1] = 0;
+            0.0
+        }
+        Quantised::RefusedAt { refusal, index } => {
+            numbers[0] = refusal as u64;
+            numbers[1] = index as u64;
+            0.0
+        }
+    }
 }
