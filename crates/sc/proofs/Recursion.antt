@@ -29,7 +29,8 @@ use Rattle.sc.proofs.Node.{leftOf, left, right, halves, length-left, le
 use Rattle.sc.proofs.Lists.{splice-nil, take-swap, drop-of-take}
 use Rattle.sc.proofs.Bounds.{within-left, within-right, within-more, most-below}
 use Rattle.sc.proofs.Layers.{computed-whole, computed-kept}
-use Rattle.sc.proofs.Outputs.{bits-sums, left-most, steps-most}
+use Rattle.sc.proofs.Sums.{bits-sums}
+use Rattle.sc.proofs.StepsMost.{left-most, steps-most}
 
 length-none : {A : Type 0} (l : List A) → length l ≡ 0 → l ≡ []
 length-none [] e = refl
