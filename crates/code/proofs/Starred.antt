@@ -12,6 +12,10 @@ abbrev pub starredD : ℕ → List ℕ
 starredD mask = 0x09 ∷ 0x00 ∷ 0x01 ∷ 0x00 ∷ 0x03 ∷ 0x01 ∷ 0x01 ∷ 0x00 ∷ mask ∷ []
 
 -- D has N = 2^3 and k = 3; with `C0` k is 1; with `80` it is refused
-pub starred-descriptions : (describe (starredD 0xE8) ≡ Code 3 1 1 3) × (describe (starredD 0xC0) ≡ Code 3 1 1 1) × (describe (starredD 0x80) ≡ Refused 8)
+abbrev pub StarredDescriptions : Type 0
+StarredDescriptions =
+    (describe (starredD 0xE8) ≡ Code 3 1 1 3) × (describe (starredD 0xC0) ≡ Code 3 1 1 1) × (describe (starredD 0x80) ≡ Refused 8)
+
+pub starred-descriptions : StarredDescriptions
 unfolding describe firstOr onesBelow
 starred-descriptions = (refl, refl, refl)

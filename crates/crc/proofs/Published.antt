@@ -8,7 +8,10 @@ use Rattle.bits.specs.Packing.{unpacked}
 use Rattle.crc.specs.Check.{checkOf}
 
 -- Document 01, "Vectors at the edges": a lone 1 with r = 11 and the polynomial z^11 + z^10 + z^9 + z^5 + 1.
-pub lone-one : checkOf (bitsOf 11 0x621) (bitsOf 11 0) (1 ∷ []) ≡ bitsOf 11 0x621
+abbrev pub StarredCheck : Type 0
+StarredCheck = checkOf (bitsOf 11 0x621) (bitsOf 11 0) (1 ∷ []) ≡ bitsOf 11 0x621
+
+pub lone-one : StarredCheck
 unfolding checkOf
 lone-one = refl
 

@@ -1,6 +1,7 @@
 -- The starred rows of document 01 on encoding, by computation. Assumes nothing.
 use mathlib.Core.Path.{_≡_, refl}
 use mathlib.Core.List.{[], _∷_}
+use Prim.Native.Nat.{ℕ}
 use Rattle.laws.specs.Choice.{firstOr}
 use Rattle.laws.specs.Segment.{table}
 use Rattle.bits.specs.Bit.{number}
@@ -14,9 +15,13 @@ use Rattle.encoder.specs.declared.Encoded.the-variants.{Done, Refused}
 use Rattle.encoder.specs.Place.{placed}
 use Rattle.encoder.specs.Encode.{codeword, encodedBy, encoded}
 
--- under D `A0` encodes to `5A`, and `80` to `0F`; `B0` is refused and leaves the output as it was
-pub starred-encoding : (encoded (starredD 0xE8) (0xA0 ∷ []) (0x77 ∷ []) ≡ (Done, 0x5A ∷ []))
-    × (encoded (starredD 0xE8) (0x80 ∷ []) (0x77 ∷ []) ≡ (Done, 0x0F ∷ []))
-    × (encoded (starredD 0xE8) (0xB0 ∷ []) (0x77 ∷ []) ≡ (Refused 10, 0x77 ∷ []))
+-- under D `A0` encodes to `5A`, and `80` to `0F`; `B0` is refused and leaves the output as it was, whatever byte it held
+abbrev pub StarredEncoding : ℕ → Type 0
+StarredEncoding byte =
+    (encoded (starredD 0xE8) (0xA0 ∷ []) (byte ∷ []) ≡ (Done, 0x5A ∷ []))
+    × (encoded (starredD 0xE8) (0x80 ∷ []) (byte ∷ []) ≡ (Done, 0x0F ∷ []))
+    × (encoded (starredD 0xE8) (0xB0 ∷ []) (byte ∷ []) ≡ (Refused 10, byte ∷ []))
+
+pub starred-encoding : (byte : ℕ) → StarredEncoding byte
 unfolding firstOr table number onesBelow packed unpacked describe checkOf covers parity transformed placed codeword encodedBy encoded
-starred-encoding = (refl, refl, refl)
+starred-encoding byte = (refl, refl, refl)

@@ -50,6 +50,10 @@ Rows decoded steps output =
     × (decoded (zerosThen 0xE0) 1 output ≡ (RefusedAt 13 7, output))
 
 -- whatever byte the output held, with the order of flipped indices on V
-pub starred-decoding : (byte : ℕ) → (flipOrder (maskOf (starredD 0xE8)) 3 (channelValues starredV) ≡ 5 ∷ 3 ∷ 6 ∷ 7 ∷ []) × Rows (decodedFull (starredD 0xE8)) 48 (byte ∷ []) × Rows (decodedRestarted (starredD 0xE8)) 32 (byte ∷ [])
+abbrev pub StarredDecoding : ℕ → Type 0
+StarredDecoding byte =
+    (flipOrder (maskOf (starredD 0xE8)) 3 (channelValues starredV) ≡ 5 ∷ 3 ∷ 6 ∷ 7 ∷ []) × Rows (decodedFull (starredD 0xE8)) 48 (byte ∷ []) × Rows (decodedRestarted (starredD 0xE8)) 32 (byte ∷ [])
+
+pub starred-decoding : (byte : ℕ) → StarredDecoding byte
 unfolding firstOr table number onesBelow packed describe checkOf covers parity transformed xors taken channelValue f g leftValues rightValues firstWhere node information insert ordered firstFrom run decodedBy decodedWith
 starred-decoding byte = (refl, (refl, refl, refl, refl, refl, refl, refl, refl, refl, refl), (refl, refl, refl, refl, refl, refl, refl, refl, refl, refl))

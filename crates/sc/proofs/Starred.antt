@@ -24,9 +24,13 @@ abbrev output : List ℕ
 output = replicate 8 0x77
 
 -- V with a prefix of six zeros gives eight zero bits in 8 steps; 31 is allowed at index 7, and 32 or -32 there is refused
-pub starred-resume : (resumed (starredD 0xE8) (starredV 2) (replicate 6 0) output ≡ (Done 8, replicate 8 0))
+abbrev pub StarredResume : Type 0
+StarredResume =
+    (resumed (starredD 0xE8) (starredV 2) (replicate 6 0) output ≡ (Done 8, replicate 8 0))
     × (resumed (starredD 0xE8) (starredV 31) (replicate 8 0) output ≡ (Done 0, replicate 8 0))
     × (resumed (starredD 0xE8) (starredV 32) [] output ≡ (RefusedAt 13 7, output))
     × (resumed (starredD 0xE8) (starredV 0xE0) [] output ≡ (RefusedAt 13 7, output))
+
+pub starred-resume : StarredResume
 unfolding firstOr table onesBelow describe covers parity transformed xors channelValue f g leftValues rightValues node firstWhere resumedCode resumed
 starred-resume = (refl, refl, refl, refl)

@@ -60,7 +60,10 @@ skipped-suc s q l = go (leb (2 ^ s) q) refl
         omega (arith, mod-eq-of-lt c, ap (skipped s) m, ap (skipped s) z ∙ skipped-none s)
 
 -- document 01, "Vectors at the edges": skipped steps for n = 3 at q = 0, 1, 6, 7, 8
-pub skipped-starred : skipped 3 0 ∷ skipped 3 1 ∷ skipped 3 6 ∷ skipped 3 7 ∷ skipped 3 8 ∷ [] ≡ 0 ∷ 1 ∷ 16 ∷ 17 ∷ 24 ∷ []
+abbrev pub StarredSkipped : Type 0
+StarredSkipped = skipped 3 0 ∷ skipped 3 1 ∷ skipped 3 6 ∷ skipped 3 7 ∷ skipped 3 8 ∷ [] ≡ 0 ∷ 1 ∷ 16 ∷ 17 ∷ 24 ∷ []
+
+pub skipped-starred : StarredSkipped
 unfolding skipped
 skipped-starred = refl
 
