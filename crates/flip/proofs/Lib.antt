@@ -3,9 +3,15 @@ pub mod ResumeAt
 pub mod Agree
 pub mod Run
 pub mod WellFormed
-pub mod Answers
 pub mod Trials
+pub mod Answers
 pub mod Few
 pub mod Demand3
 pub mod NoiselessDecoding
 pub mod Starred
+pub mod Lists
+pub mod Message
+pub mod Passes
+pub mod Leaves
+pub mod Loop
+pub mod Turns

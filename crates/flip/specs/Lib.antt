@@ -5,3 +5,4 @@ pub mod Ends
 pub mod WellFormed
 pub mod Demand3
 pub mod Noiseless
+pub mod Work

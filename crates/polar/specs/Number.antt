@@ -6,6 +6,8 @@ use Rattle.encoder.specs.declared.Encoded.{Encoded}
 use Rattle.encoder.specs.declared.Encoded.the-variants as encode
 use Rattle.sc.specs.declared.Resumed.{Resumed}
 use Rattle.sc.specs.declared.Resumed.the-variants as resume
+use Rattle.flip.specs.declared.Decoded.{Decoded}
+use Rattle.flip.specs.declared.Decoded.the-variants as decode
 
 abbrev pub number : ℕ → ℕ → ℕ → ℕ
 number refusal value steps = refusal + value * 2 ^ 8 + steps * 2 ^ 32
@@ -22,3 +24,10 @@ abbrev pub resumedNumber : Resumed → ℕ
 resumedNumber (resume.Done steps) = number 0 0 steps
 resumedNumber (resume.Refused i) = number i 0 0
 resumedNumber (resume.RefusedAt i index) = number i index 0
+
+-- refusal 16 carries its T
+abbrev pub decodedNumber : Decoded → ℕ
+decodedNumber (decode.Accepted trial steps) = number 0 trial steps
+decodedNumber (decode.Failed trials steps) = number 16 trials steps
+decodedNumber (decode.Refused i) = number i 0 0
+decodedNumber (decode.RefusedAt i index) = number i index 0

@@ -1,10 +1,12 @@
 // The codec for host firmware in C; include/polar.h has the prototypes.
 use encoder::Encoded;
+use flip::Decoded;
 use sc::Resumed;
 ghost use mathlib.Core.Path.{_≡_};
 ghost use Prim.Native.Nat.{_<_, _^_};
 ghost use Rattle.encoder.specs.Encode.{encoded};
-ghost use Rattle.polar.specs.Number.{number, numbered, encodedNumber, resumedNumber};
+ghost use Rattle.polar.specs.Number.{number, numbered, encodedNumber, resumedNumber, decodedNumber};
+ghost use Rattle.flip.specs.Decode.{decodedFull, decodedRestarted};
 ghost use Rattle.sc.specs.Resume.{resumed};
 
 // The number that comes back: refusal, then trial or index, then steps.
@@ -38,5 +40,39 @@ pub extern "C" fn polar_resume(
         Resumed::Done { steps } => answer(0, 0, steps),
         Resumed::Refused(i) => answer(i, 0, 0),
         Resumed::RefusedAt { refusal, index } => answer(refusal, index, 0),
+    }
+}
+
+#[no_mangle]
+pub extern "C" fn polar_decode_full(
+    description: &[u8],
+    channel: &[u8],
+    trial_limit: u32,
+    payload: &mut [u8],
+) -> u64
+    ensures { λ x. ⌜ (x, now (payload .exit)) ≡ numbered decodedNumber (decodedFull (now (description .entry)) (now (channel .entry)) trial_limit (now (payload .entry))) ⌝ }
+{
+    match flip::decode_full(description, channel, trial_limit, payload) {
+        Decoded::Accepted { trial, steps } => answer(0, trial, steps),
+        Decoded::Failed { trials, steps } => answer(16, trials, steps),
+        Decoded::Refused(i) => answer(i, 0, 0),
+        Decoded::RefusedAt { refusal, index } => answer(refusal, index, 0),
+    }
+}
+
+#[no_mangle]
+pub extern "C" fn polar_decode_restarted(
+    description: &[u8],
+    channel: &[u8],
+    trial_limit: u32,
+    payload: &mut [u8],
+) -> u64
+    ensures { λ x. ⌜ (x, now (payload .exit)) ≡ numbered decodedNumber (decodedRestarted (now (description .entry)) (now (channel .entry)) trial_limit (now (payload .entry))) ⌝ }
+{
+    match flip::decode_restarted(description, channel, trial_limit, payload) {
+        Decoded::Accepted { trial, steps } => answer(0, trial, steps),
+        Decoded::Failed { trials, steps } => answer(16, trials, steps),
+        Decoded::Refused(i) => answer(i, 0, 0),
+        Decoded::RefusedAt { refusal, index } => answer(refusal, index, 0),
     }
 }

@@ -21,7 +21,7 @@ use Rattle.sc.specs.Layers.{channelValues}
 use Rattle.sc.specs.Arrays.{Arrays, arrays, PassOn, passOf, Passed}
 use Rattle.sc.specs.Resume.{firstOutside, badBit, firstBad, resumePass, Resumable}
 use Rattle.sc.proofs.Node.{length-bits}
-use Rattle.sc.proofs.Restart.{rules-below}
+use Rattle.sc.proofs.RulesExt.{rules-ext}
 use Rattle.sc.proofs.First.{first-before}
 
 -- no value is outside −31..31
@@ -77,7 +77,7 @@ module _ {room n : ℕ} {mask channel prefix output rules : List ℕ} (bits₀ :
   pass-is : passOf n q channel rules bits₁ ≡ resumePass n mask channel prefix
   pass-is =
       ap (λ (p : List ℕ). node n p (ruleAt rules) (channelValues channel)) prefix-in
-      ∙ rules-below n prefix (ruleAt rules) (maskRule mask) (channelValues channel) (r .prefix-short) (λ i _ l. ruled .at i (omega (arith, r .mask-size)))
+      ∙ rules-ext n prefix (ruleAt rules) (maskRule mask) (channelValues channel) (λ i l. ruled .at i (omega (arith, r .mask-size)))
 
   module _ {work leaves : List ℤ} {sums : List ℕ} {a′ : Arrays} {steps : ℕ} (done : Passed room (passOf n q channel rules bits₁) q (arrays work bits₁ sums leaves) a′ steps) where
     pub resume-steps : steps ≡ resumePass n mask channel prefix .steps
