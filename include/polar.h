@@ -41,4 +41,19 @@ uint64_t polar_resume(const uint8_t *description, size_t description_len,
                       const uint8_t *prefix, size_t prefix_len,
                       uint8_t *bits, size_t bits_len);
 
+/* Decode channel values into the packed payload of ceil(k/8) bytes. Trial 1 is a plain pass; trial t, from 2, takes the opposite decision
+ * at one information index, the one with the smallest leaf value of trial 1 first. trial_limit counts trial 1. The full decoder repeats
+ * each trial from the root; the restarted one resumes after the flipped index and gives the same answer in fewer steps. Acceptance
+ * carries the trial and the steps of all trials made. Refusals 1 to 8, 12, 13, then
+ *   14 trial_limit outside 1..K + 1, K being the ones in the mask; 15 output not ceil(k/8) bytes; 16 all trials fail, with trial_limit
+ *   and the steps made. */
+uint64_t polar_decode_full(const uint8_t *description, size_t description_len,
+                           const uint8_t *channel, size_t channel_len,
+                           uint32_t trial_limit,
+                           uint8_t *payload, size_t payload_len);
+uint64_t polar_decode_restarted(const uint8_t *description, size_t description_len,
+                                const uint8_t *channel, size_t channel_len,
+                                uint32_t trial_limit,
+                                uint8_t *payload, size_t payload_len);
+
 #endif

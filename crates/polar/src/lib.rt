@@ -47,12 +47,12 @@ pub extern "C" fn polar_resume(
 pub extern "C" fn polar_decode_full(
     description: &[u8],
     channel: &[u8],
-    trial_limit: u32,
+    limit: u32,
     payload: &mut [u8],
 ) -> u64
-    ensures { λ x. ⌜ (x, now (payload .exit)) ≡ numbered decodedNumber (decodedFull (now (description .entry)) (now (channel .entry)) trial_limit (now (payload .entry))) ⌝ }
+    ensures { λ x. ⌜ (x, now (payload .exit)) ≡ numbered decodedNumber (decodedFull (now (description .entry)) (now (channel .entry)) limit (now (payload .entry))) ⌝ }
 {
-    match flip::decode_full(description, channel, trial_limit, payload) {
+    match flip::decode_full(description, channel, limit, payload) {
         Decoded::Accepted { trial, steps } => answer(0, trial, steps),
         Decoded::Failed { trials, steps } => answer(16, trials, steps),
         Decoded::Refused(i) => answer(i, 0, 0),
@@ -64,12 +64,12 @@ pub extern "C" fn polar_decode_full(
 pub extern "C" fn polar_decode_restarted(
     description: &[u8],
     channel: &[u8],
-    trial_limit: u32,
+    limit: u32,
     payload: &mut [u8],
 ) -> u64
-    ensures { λ x. ⌜ (x, now (payload .exit)) ≡ numbered decodedNumber (decodedRestarted (now (description .entry)) (now (channel .entry)) trial_limit (now (payload .entry))) ⌝ }
+    ensures { λ x. ⌜ (x, now (payload .exit)) ≡ numbered decodedNumber (decodedRestarted (now (description .entry)) (now (channel .entry)) limit (now (payload .entry))) ⌝ }
 {
-    match flip::decode_restarted(description, channel, trial_limit, payload) {
+    match flip::decode_restarted(description, channel, limit, payload) {
         Decoded::Accepted { trial, steps } => answer(0, trial, steps),
         Decoded::Failed { trials, steps } => answer(16, trials, steps),
         Decoded::Refused(i) => answer(i, 0, 0),
