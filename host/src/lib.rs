@@ -3,9 +3,11 @@
 //! The reference is written from the paper, for reading and not for speed. One module per idea:
 //! `description`, `packing`, `check`, `placing`, `transform`, `encode`, `channel`, `pass`,
 //! `resume`, `flip`, `quantise`, `receive`, and for all answers `refusal` and `number`. The rest
-//! serves the tests: `library` calls the codec, `guard` lends buffers to it, `random` and `samples`
-//! make inputs, `paper` has the inputs that the paper names, `rows` the executed vectors.
+//! serves the tests: `library` calls the codec, `guard` lends buffers to it, `stack` measures what
+//! a call takes, `random` and `samples` make inputs, `paper` has the inputs that the paper names,
+//! `rows` the executed vectors. `bench` is the benchmark, and `plain` a fast codec to compare with.
 
+pub mod bench;
 pub mod channel;
 pub mod check;
 pub mod description;
@@ -19,6 +21,7 @@ pub mod packing;
 pub mod paper;
 pub mod pass;
 pub mod placing;
+pub mod plain;
 pub mod quantise;
 pub mod random;
 pub mod receive;
@@ -26,4 +29,5 @@ pub mod refusal;
 pub mod resume;
 pub mod rows;
 pub mod samples;
+pub mod stack;
 pub mod transform;

@@ -4,10 +4,12 @@
 
 mod decode;
 mod encode;
+mod quantise;
 mod resume;
 
 pub use decode::{decode_full, decode_restarted};
 pub use encode::encode;
+pub use quantise::quantise;
 pub use resume::resume;
 
 use crate::description::Description;

@@ -1,0 +1,78 @@
+-- `records::respond` meets its contract: past each test that fails, the answer is that of the kinds that are left. Assumes nothing.
+use mathlib.Core.Path.{_≡_, sym, ap, _∙_}
+use mathlib.Core.List.{List, [], _∷_}
+use Prim.Native.Nat.{ℕ}
+use borrow.Author.Needs.{needs}
+use borrow.Author.Tests.{eq-eqb, ne-eqb}
+use denote.Ref.{now}
+use lib.Dec.{eqb}
+use lib.ListN.{take}
+use lib.Seq.{length-take-le}
+use Rattle.laws.specs.Choice.{firstOr}
+use Rattle.laws.proofs.Choice.{first-none, first-yes, first-no}
+use Rattle.code.specs.Description.{word}
+use Rattle.records.specs.declared.Header.{Header}
+use Rattle.records.specs.Line.{skipLine}
+use Rattle.records.specs.Respond.{channelLine, responded}
+use Rattle.records.proofs.Answers.{answers-line, answers-as}
+use Rattle.records.proofs.respond.Statement.{statement}
+use Rattle.records.proofs.respond.Tie as tie
+
+-- the answer once the kind is not 1
+abbrev past : List ℕ → List ℕ → List ℕ × List ℕ
+past held bytes = firstOr ((eqb (word bytes 2) 2, (channelLine held bytes, held)) ∷ []) (skipLine (word bytes 2), held)
+
+module _ (c : tie.After-read-header) where
+  abbrev held : List ℕ
+  held = let a = c .before .before .before .before .args in take (a .size) (now (a .held))
+
+  abbrev bytes : List ℕ
+  bytes = now (c .before .before .before .before .args .bytes)
+
+  kind-is : c .read-header .result .kind ≡ word bytes 2
+  kind-is = ap (λ (h : Header). h .kind) (c .read-header .ensures .0)
+
+past-1 : (c : tie.Else1) → responded (held (c .before)) (bytes (c .before)) ≡ past (held (c .before)) (bytes (c .before))
+unfolding responded
+past-1 c = first-no _ _ _ _ (ne-eqb _ _ (λ e. c .if1 .left (kind-is (c .before) ∙ e)))
+
+returns : tie.Need-returns
+unfolding responded
+returns c =
+    let t = c .before .before .before .before .before .before .before in
+    answers-as (c .before .before .before .before .respond-description .ensures) _ (first-yes _ _ _ _ (eq-eqb _ _ (sym (kind-is (t .before)) ∙ t .if1 .taken)))
+
+returns-2 : tie.Need-returns-2
+returns-2 c =
+    let t = c .before .before .before .before .before in
+    answers-as (answers-line (c .before .before .put-channel .ensures) (t .before .before .before .before .before .before .pre .size-most)) _
+    (first-yes _ _ _ _ (eq-eqb _ _ (sym (kind-is (t .before .before)) ∙ t .if2 .taken)) ∙ sym (past-1 (t .before)))
+
+returns-3 : tie.Need-returns-3
+returns-3 c =
+    let e = c .before .before .before .before .before in
+    let h = e .before .before in
+    answers-as (answers-line (c .before .before .put-line .ensures) (e .before .before .before .before .before .before .pre .size-most)) _
+    (ap (λ (kind : ℕ). (skipLine kind, held h)) (kind-is h)
+    ∙ sym (past-1 (e .before) ∙ first-no _ _ _ _ (ne-eqb _ _ (λ q. e .if2 .left (kind-is h ∙ q))) ∙ first-none _))
+
+pub respond-spec : {M : Type 1} → statement M
+respond-spec =
+    tie.close
+    (tie.spec
+    (λ c κs. search needs)
+    (λ c κs. search needs)
+    (λ c. search needs)
+    (λ c. search needs)
+    returns
+    (λ c. search needs)
+    (λ c. sym (length-take-le _ _ (c .before .before .before .before .before .before .before .before .pre .size-most)))
+    (λ c κs. search needs)
+    (λ c. search needs)
+    (λ c. search needs)
+    returns-2
+    (λ c. search needs)
+    (λ c. search needs)
+    (λ c κs. search needs)
+    (λ c. search needs)
+    returns-3)

@@ -1,0 +1,161 @@
+//! Inputs of the benchmark: codes with sensible information sets, and codewords under noise.
+
+use std::f64::consts::TAU;
+
+use crate::description::{describe, record, Code};
+use crate::packing::{pack, packed_length, unpack};
+use crate::plain;
+use crate::random::Random;
+use crate::samples;
+
+/// How many frames of each length there are.
+pub const COUNT: usize = 256;
+
+/// The quantiser's scale: a bit without noise, a sample of 1, has the channel value 10.
+pub const SCALE: f32 = 2.5;
+
+/// A code, a payload, and its codeword under noise: as samples, and as channel values.
+pub struct Frame {
+    pub description: Vec<u8>,
+    pub code: Code,
+    pub payload: Vec<u8>,
+    pub samples: Vec<f32>,
+    pub channel: Vec<u8>,
+}
+
+/// Frames of length 2^n, each of another code, at the noise where one in ten fails its first trial.
+pub fn of_length(n: usize) -> Vec<Frame> {
+    let mut random = Random::new(n as u64);
+    let sent: Vec<Sent> = (0..COUNT).map(|_| Sent::new(&mut random, n)).collect();
+    for tenth in 0.. {
+        let decibels = 10.0 - f64::from(tenth) / 10.0;
+        let frames: Vec<Frame> = sent.iter().map(|sent| sent.received(decibels)).collect();
+        if 10 * frames.iter().filter(|frame| frame.fails_first()).count() >= COUNT {
+            return frames;
+        }
+    }
+    unreachable!("noise without end")
+}
+
+impl Frame {
+    /// Whether trial 1 fails.
+    pub fn fails_first(&self) -> bool {
+        let mut payload = vec![0; packed_length(self.code.k)];
+        plain::decode_full(&self.description, &self.channel, 1, &mut payload) & 0xFF == 16
+    }
+}
+
+/// A codeword, and for each of its bits the noise that it will meet, in standard deviations.
+struct Sent {
+    description: Vec<u8>,
+    code: Code,
+    payload: Vec<u8>,
+    codeword: Vec<u8>,
+    noise: Vec<f64>,
+}
+
+impl Sent {
+    fn new(random: &mut Random, n: usize) -> Self {
+        let description = description(random, n);
+        let code = describe(&description).expect("a code");
+        let payload = pack(&random.bits(code.k));
+        let mut packed = vec![0; code.size() / 8];
+        plain::encode(&description, &payload, &mut packed);
+        Sent {
+            codeword: unpack(&packed, code.size()),
+            noise: (0..code.size()).map(|_| normal(random)).collect(),
+            description,
+            code,
+            payload,
+        }
+    }
+
+    /// The frame at a ratio Eb/N0, a bit being one of the K at information indices.
+    fn received(&self, decibels: f64) -> Frame {
+        let rate = self.code.information() as f64 / self.code.size() as f64;
+        let deviation = (2.0 * rate * 10f64.powf(decibels / 10.0)).sqrt().recip();
+        let pairs = self.codeword.iter().zip(&self.noise);
+        let samples: Vec<f32> = pairs
+            .map(|(bit, noise)| (1.0 - 2.0 * f64::from(*bit) + deviation * noise) as f32)
+            .collect();
+        let mut channel = vec![0; samples.len()];
+        plain::quantise(SCALE, &samples, &mut channel, &mut [0; 2]);
+        Frame {
+            description: self.description.clone(),
+            code: self.code,
+            payload: self.payload.clone(),
+            samples,
+            channel,
+        }
+    }
+}
+
+/// A code with a payload of an eighth to a half of its length.
+fn description(random: &mut Random, n: usize) -> Vec<u8> {
+    let size = 1 << n;
+    let r = n + random.below(n / 2 + 2);
+    let k = random.between(size / 8, size / 2);
+    let polynomial = samples::polynomial(random, r);
+    record(n, r, polynomial, &reliable_mask(n, k + r))
+}
+
+/// A mask whose information indices are the most reliable ones by polarization weight: the sum of
+/// 2^(j/4) over the one bits j of an index.
+fn reliable_mask(n: usize, ones: usize) -> Vec<bool> {
+    let weight = |index: usize| -> f64 {
+        (0..n)
+            .filter(|j| index >> j & 1 == 1)
+            .map(|j| 2f64.powf(j as f64 / 4.0))
+            .sum()
+    };
+    let mut indices: Vec<usize> = (0..1 << n).collect();
+    indices.sort_by(|&a, &b| weight(b).total_cmp(&weight(a)));
+    let mut mask = vec![false; 1 << n];
+    for &index in &indices[..ones] {
+        mask[index] = true;
+    }
+    mask
+}
+
+/// A number of the standard normal distribution, by Box and Muller.
+fn normal(random: &mut Random) -> f64 {
+    let radius = (-2.0 * uniform(random).ln()).sqrt();
+    radius * (TAU * uniform(random)).cos()
+}
+
+/// A number above 0 and at most 1.
+fn uniform(random: &mut Random) -> f64 {
+    ((random.number() >> 11) + 1) as f64 / (1u64 << 53) as f64
+}
+
+#[cfg(test)]
+mod tests {
+    use super::*;
+
+    #[test]
+    fn one_frame_in_ten_fails_its_first_trial() {
+        for n in [5, 7] {
+            let frames = of_length(n);
+            assert_eq!(frames.len(), COUNT);
+            let failing = frames.iter().filter(|frame| frame.fails_first()).count();
+            assert!((26..=38).contains(&failing), "{failing}");
+        }
+    }
+
+    #[test]
+    fn reliable_indices() {
+        let mask = reliable_mask(3, 4);
+        let indices: Vec<usize> = (0..8).filter(|&index| mask[index]).collect();
+        assert_eq!(indices, [3, 5, 6, 7]);
+    }
+
+    #[test]
+    fn normal_numbers() {
+        let mut random = Random::new(1);
+        let numbers: Vec<f64> = (0..100_000).map(|_| normal(&mut random)).collect();
+        let mean = |power| numbers.iter().map(|x| x.powi(power)).sum::<f64>() / 100_000.0;
+        assert!(mean(1).abs() < 0.02, "{}", mean(1));
+        assert!((mean(2) - 1.0).abs() < 0.02, "{}", mean(2));
+        assert!((mean(4) - 3.0).abs() < 0.1, "{}", mean(4));
+    }
+}

@@ -1,0 +1,114 @@
+//! The operations that are timed.
+
+use std::fmt::{self, Display, Formatter};
+
+use crate::bench::codec::{Codec, Way};
+use crate::bench::frames::{Frame, SCALE};
+use crate::packing::packed_length;
+
+/// An operation on a frame.
+#[derive(Clone, Copy, Debug, PartialEq, Eq)]
+pub enum Task {
+    Encode,
+    /// One pass: resume with an empty prefix.
+    Pass,
+    Decode(Way, Limit),
+    Quantise,
+}
+
+/// A trial limit T.
+#[derive(Clone, Copy, Debug, PartialEq, Eq)]
+pub enum Limit {
+    Trials(u32),
+    /// K + 1, the largest.
+    All,
+}
+
+/// The trial limits that are timed.
+pub const LIMITS: [Limit; 3] = [Limit::Trials(1), Limit::Trials(13), Limit::All];
+
+impl Task {
+    pub fn all() -> Vec<Task> {
+        let decodes = [Way::Full, Way::Restarted]
+            .into_iter()
+            .flat_map(|way| LIMITS.map(|limit| Task::Decode(way, limit)));
+        [Task::Encode, Task::Pass]
+            .into_iter()
+            .chain(decodes)
+            .chain([Task::Quantise])
+            .collect()
+    }
+
+    /// Calls a codec; gives its answer as one number. The output goes to the start of `room`.
+    pub fn call(self, codec: &dyn Codec, frame: &Frame, room: &mut [u8]) -> u64 {
+        let Frame {
+            description,
+            code,
+            payload,
+            samples,
+            channel,
+        } = frame;
+        let output = &mut room[..self.output_length(frame)];
+        match self {
+            Task::Encode => codec.encode(description, payload, output),
+            Task::Pass => codec.resume(description, channel, &[], output),
+            Task::Decode(way, limit) => {
+                let limit = limit.of(code.information());
+                codec.decode(way, description, channel, limit, output)
+            }
+            Task::Quantise => {
+                let mut numbers = [0; 2];
+                let peak = codec.quantise(SCALE, samples, output, &mut numbers);
+                let [refusal, clipped] = numbers;
+                refusal ^ clipped << 8 ^ u64::from(peak.to_bits()) << 32
+            }
+        }
+    }
+
+    /// The answer, and the output after it.
+    pub fn result(self, codec: &dyn Codec, frame: &Frame) -> (u64, Vec<u8>) {
+        let mut output = vec![0xEE; self.output_length(frame)];
+        let answer = self.call(codec, frame, &mut output);
+        (answer, output)
+    }
+
+    fn output_length(self, frame: &Frame) -> usize {
+        match self {
+            Task::Encode => frame.code.size() / 8,
+            Task::Pass | Task::Quantise => frame.code.size(),
+            Task::Decode(..) => packed_length(frame.code.k),
+        }
+    }
+}
+
+impl Limit {
+    /// The limit under a code with K information indices.
+    fn of(self, information: usize) -> u32 {
+        let most = information as u32 + 1;
+        match self {
+            Limit::Trials(limit) => limit.min(most),
+            Limit::All => most,
+        }
+    }
+}
+
+impl Display for Task {
+    fn fmt(&self, to: &mut Formatter) -> fmt::Result {
+        match self {
+            Task::Encode => to.write_str("encode"),
+            Task::Pass => to.write_str("one pass"),
+            Task::Quantise => to.write_str("quantise"),
+            Task::Decode(Way::Full, limit) => write!(to, "full, T = {limit}"),
+            Task::Decode(Way::Restarted, limit) => write!(to, "restarted, T = {limit}"),
+        }
+    }
+}
+
+impl Display for Limit {
+    fn fmt(&self, to: &mut Formatter) -> fmt::Result {
+        match self {
+            Limit::Trials(limit) => write!(to, "{limit}"),
+            Limit::All => to.write_str("K + 1"),
+        }
+    }
+}

@@ -1,0 +1,62 @@
+//! include/polar.h is C11 without a warning, and a program in C gets the answers of document 01.
+
+use std::path::Path;
+use std::process::Command;
+
+/// Compiles a program of tests/c with the header and the library, runs it, and gives what it
+/// prints.
+fn run(name: &str) -> String {
+    let folder = Path::new(env!("CARGO_MANIFEST_DIR"));
+    let program = Path::new(env!("CARGO_TARGET_TMPDIR")).join(name);
+    let built = Command::new("gcc")
+        .args(["-std=c11", "-Wall", "-Wextra", "-Werror", "-pedantic"])
+        .arg("-I")
+        .arg(folder.join("../include"))
+        .arg(folder.join(format!("tests/c/{name}.c")))
+        .arg(folder.join("../target/staticlib/libpolar.a"))
+        .arg("-o")
+        .arg(&program)
+        .output()
+        .expect("gcc");
+    let messages = String::from_utf8_lossy(&built.stderr);
+    assert!(built.status.success(), "{messages}");
+    let output = Command::new(&program).output().expect("the program");
+    assert!(output.status.success(), "{output:?}");
+    String::from_utf8(output.stdout).expect("text")
+}
+
+#[test]
+fn encode_and_resume() {
+    let expected = "\
+encode A0: refusal 0, value 0, steps 0, 5a
+encode 80: refusal 0, value 0, steps 0, 0f
+encode B0: refusal 10, value 0, steps 0, ee
+mask 80: refusal 8, value 0, steps 0, ee
+right signs: refusal 0, value 0, steps 24, 00 00 00 01 00 00 01 00
+six zeros: refusal 0, value 0, steps 8, 00 00 00 00 00 00 00 00
+q = 0: refusal 0, value 0, steps 24, 00 00 00 00 00 01 00 00
+q = 1: refusal 0, value 0, steps 23, 00 00 00 00 00 01 00 00
+q = 7: refusal 0, value 0, steps 7, 00 00 00 00 00 00 00 00
+q = 8: refusal 0, value 0, steps 0, 00 00 00 00 00 00 00 00
+31: refusal 0, value 0, steps 24, 00 00 00 00 00 00 00 00
+32: refusal 13, value 7, steps 0, ee ee ee ee ee ee ee ee
+-32: refusal 13, value 7, steps 0, ee ee ee ee ee ee ee ee
+";
+    assert_eq!(run("encode_resume"), expected);
+}
+
+#[test]
+fn decoders() {
+    let expected = "\
+right signs: refusal 0, value 1, steps 24, a0
+V, T = 1: refusal 16, value 1, steps 24, ee
+V, T = 2: refusal 0, value 2, steps 48, 00
+V, T = 0: refusal 14, value 0, steps 0, ee
+V, T = 5: refusal 0, value 2, steps 48, 00
+V, T = 6: refusal 14, value 0, steps 0, ee
+zeros: refusal 0, value 1, steps 24, 00
+32: refusal 13, value 7, steps 0, ee
+";
+    let restarted = expected.replace("steps 48", "steps 32");
+    assert_eq!(run("decode"), format!("{expected}{restarted}"));
+}

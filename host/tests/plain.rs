@@ -1,0 +1,121 @@
+//! The plain codecs that the benchmark compares with, held to the reference.
+
+use host::bench::{others, Way};
+use host::description::{describe, is_information, mask_of};
+use host::encode::encode;
+use host::flip::{decode_full, decode_restarted};
+use host::number::{decode_number, encode_number, resume_number};
+use host::packing::{packed_length, unpack};
+use host::quantise::quantise;
+use host::random::Random;
+use host::refusal::Refusal;
+use host::resume::resume;
+use host::samples;
+
+/// Each call on these inputs, whether they suit each other or not.
+fn check(d: &[u8], payload: &[u8], channel: &[u8], prefix: &[u8], limit: u32, room: [usize; 3]) {
+    let [mut codeword, mut bits, mut full] = room.map(|length| vec![0xEE; length]);
+    let mut restarted = full.clone();
+    let encoded = encode_number(&encode(d, payload, &mut codeword));
+    let resumed = resume_number(&resume(d, channel, prefix, &mut bits));
+    let fully = decode_number(&decode_full(d, channel, limit, &mut full));
+    let again = decode_number(&decode_restarted(d, channel, limit, &mut restarted));
+    for codec in others() {
+        let name = codec.name();
+        let [mut first, mut second, mut third] = room.map(|length| vec![0xEE; length]);
+        let answer = codec.encode(d, payload, &mut first);
+        assert_eq!((answer, &first), (encoded, &codeword), "{name}: {d:02x?}");
+        let answer = codec.resume(d, channel, prefix, &mut second);
+        assert_eq!((answer, &second), (resumed, &bits), "{name}: {d:02x?}");
+        let mut fourth = third.clone();
+        let answer = codec.decode(Way::Full, d, channel, limit, &mut third);
+        assert_eq!((answer, &third), (fully, &full), "{name}: {d:02x?}");
+        let answer = codec.decode(Way::Restarted, d, channel, limit, &mut fourth);
+        assert_eq!((answer, &fourth), (again, &restarted), "{name}: {d:02x?}");
+    }
+}
+
+/// Codewords under noise, or any values; one input in three has a fault.
+#[test]
+fn plain_codecs_agree_with_the_reference() {
+    let mut random = Random::new(1);
+    for n in 3..=10 {
+        for round in 0..(12_000 >> n).max(60) {
+            let size = 1 << n;
+            let mut d = samples::useful_description(&mut random, n);
+            let code = describe(&d).expect("a code");
+            let mut payload = samples::payload(&mut random, code.k);
+            let mut packed = vec![0; size / 8];
+            encode(&d, &payload, &mut packed).expect("a codeword");
+            let noise = [4, 8, 12][round % 3];
+            let mut channel = samples::noisy(&mut random, &unpack(&packed, size), 12, noise);
+            let mut prefix: Vec<u8> = (0..random.between(0, size))
+                .map(|index| u8::from(is_information(mask_of(&d), index) && random.bit()))
+                .collect();
+            let mut limit = random.between(1, 13.min(code.information() + 1));
+            let mut room = [size / 8, size, packed_length(code.k)];
+            match random.below(24) {
+                0 => {
+                    let refusal = random.between(1, 8);
+                    d = samples::refused_description(&mut random, refusal);
+                }
+                1 => payload = random.bytes(payload.len()),
+                2 => payload.push(0),
+                3 => channel[random.below(size)] = random.byte(),
+                4 => channel.push(0),
+                5 => prefix.resize(size + 1, 0),
+                6 => prefix.push(random.byte() % 4),
+                7 => limit = random.below(2) * (code.information() + 2),
+                8 => room[random.below(3)] += 1,
+                _ => (),
+            }
+            check(&d, &payload, &channel, &prefix, limit as u32, room);
+        }
+    }
+}
+
+/// The bits of the peak, the two numbers as in `library::quantise`, and the output, by the
+/// reference.
+fn quantised(scale: f32, samples: &[f32], room: usize) -> (u32, [u64; 2], Vec<u8>) {
+    let mut output = vec![0xEE; room];
+    let (peak, numbers) = match quantise(scale, samples, &mut output) {
+        Ok(answer) => (answer.peak, [0, answer.clipped as u64]),
+        Err(Refusal::At(refusal, index)) => (0.0, [refusal.into(), index as u64]),
+        Err(refusal) => (0.0, [refusal.number().into(), 0]),
+    };
+    (peak.to_bits(), numbers, output)
+}
+
+/// Floats of any bits, or near the range of the levels; some lists have a fault.
+#[test]
+fn plain_quantisers_agree_with_the_reference() {
+    let mut random = Random::new(2);
+    for round in 0..4_000 {
+        let any = |random: &mut Random| f32::from_bits(random.number() as u32);
+        let near = |random: &mut Random| (random.below(1 << 20) as f32 / 512.0 - 1024.0) / 64.0;
+        let mut samples: Vec<f32> = (0..random.below(70))
+            .map(|_| match round % 2 {
+                0 => near(&mut random),
+                _ => Some(any(&mut random))
+                    .filter(|y| !y.is_nan())
+                    .unwrap_or(0.5),
+            })
+            .collect();
+        let mut scale = [1.0, 0.5, 2.5, any(&mut random).abs()][random.below(4)];
+        let mut room = samples.len();
+        match random.below(20) {
+            0 => scale = [0.0, -1.0, f32::INFINITY, f32::NAN][random.below(4)],
+            1 => room += 1,
+            2 => samples.iter_mut().skip(3).for_each(|y| *y = f32::NAN),
+            _ => (),
+        }
+        let expected = quantised(scale, &samples, room);
+        for codec in others() {
+            let mut output = vec![0xEE; room];
+            let mut numbers = [7; 2];
+            let peak = codec.quantise(scale, &samples, &mut output, &mut numbers);
+            let result = (peak.to_bits(), numbers, output);
+            assert_eq!(result, expected, "{}: {scale} {samples:?}", codec.name());
+        }
+    }
+}

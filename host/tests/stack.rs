@@ -1,0 +1,79 @@
+//! How much stack one call takes at N = 1024: at most 24 KiB for encode and resume, 32 KiB for the
+//! decoders.
+
+use host::description::{describe, record};
+use host::library;
+use host::packing::packed_length;
+use host::random::Random;
+use host::samples;
+use host::stack::{on_stack, stack_of};
+
+const KIB: usize = 1024;
+
+/// What a thread may take for its own start.
+const THREAD: usize = 16 * KIB;
+
+/// That a call keeps to a limit, as measured, and then on a thread that has little more.
+fn keeps_to(limit: usize, name: &str, mut call: impl FnMut() + Send) {
+    let taken = stack_of(&mut call);
+    println!("{name}: {taken} bytes of stack");
+    assert!(taken <= limit, "{name}: {taken} bytes of stack");
+    on_stack(limit + THREAD, call);
+}
+
+/// Codes of length 1024 with few, some and all information indices.
+fn descriptions() -> [Vec<u8>; 3] {
+    [17, 512, 1024].map(|ones| record(10, 16, 0x8005, &samples::useful_mask(1024, ones)))
+}
+
+#[test]
+fn encode() {
+    let mut random = Random::new(1);
+    for d in descriptions() {
+        let k = describe(&d).expect("a code").k;
+        let payload = samples::payload(&mut random, k);
+        let mut codeword = vec![0; 128];
+        keeps_to(24 * KIB, &format!("encode, k = {k}"), || {
+            assert_eq!(library::encode(&d, &payload, &mut codeword), 0);
+        });
+    }
+}
+
+#[test]
+fn resume() {
+    let mut random = Random::new(2);
+    for d in descriptions() {
+        let channel = samples::channel(&mut random, 1024, 31);
+        for q in [0, 1, 511, 512, 513, 1023, 1024] {
+            let prefix = vec![0; q];
+            let mut bits = vec![0; 1024];
+            keeps_to(24 * KIB, &format!("resume, q = {q}"), || {
+                let answer = library::resume(&d, &channel, &prefix, &mut bits);
+                assert_eq!(answer & 0xFF, 0);
+            });
+        }
+    }
+}
+
+#[test]
+fn decoders() {
+    type Decoder = fn(&[u8], &[u8], u32, &mut [u8]) -> u64;
+    let both: [(&str, Decoder); 2] = [
+        ("full", library::decode_full),
+        ("restarted", library::decode_restarted),
+    ];
+    let mut random = Random::new(3);
+    for d in descriptions() {
+        let code = describe(&d).expect("a code");
+        let channel = samples::channel(&mut random, 1024, 31);
+        let mut payload = vec![0; packed_length(code.k)];
+        for limit in [1, 2, code.information() as u32 + 1] {
+            for (name, decode) in both {
+                keeps_to(32 * KIB, &format!("{name}, T = {limit}"), || {
+                    let answer = decode(&d, &channel, limit, &mut payload);
+                    assert!([0, 16].contains(&(answer & 0xFF)));
+                });
+            }
+        }
+    }
+}
