@@ -1,7 +1,8 @@
 /* Polar frames for groomer modules: the interface for C. Link libpolar.a.
  *
  * Each function takes buffers as a pointer and a length, keeps no pointer, has no global state and may be called from several threads
- * at once. Input and output must not overlap. A pointer may be NULL where its length is 0.
+ * at once. Input and output must not overlap. A pointer may be NULL where its length is 0. A call takes at most 24 KiB of stack for
+ * encode and resume, 32 KiB for the decoders.
  *
  * Each answer is one number: bits 0-7 hold the refusal, or 0 for acceptance; bits 8-31 the trial, refusal 16's number of trials, or a
  * refusal's first index; bits 32-63 the steps. What an answer lacks is 0. A refusal writes nothing.

@@ -5,13 +5,15 @@
 //! `resume`, `flip`, `quantise`, `receive`, and for all answers `refusal` and `number`. The rest
 //! serves the tests: `library` calls the codec, `guard` lends buffers to it, `stack` measures what
 //! a call takes, `random` and `samples` make inputs, `paper` has the inputs that the paper names,
-//! `rows` the executed vectors. `bench` is the benchmark, and `plain` a fast codec to compare with.
+//! `rows` the executed vectors, `streams` what `receive` reads, `files` the repository's folder.
+//! `bench` is the benchmark, and `plain` a fast codec to compare with.
 
 pub mod bench;
 pub mod channel;
 pub mod check;
 pub mod description;
 pub mod encode;
+pub mod files;
 pub mod flip;
 pub mod guard;
 pub mod hex;
@@ -30,4 +32,5 @@ pub mod resume;
 pub mod rows;
 pub mod samples;
 pub mod stack;
+pub mod streams;
 pub mod transform;

@@ -89,12 +89,7 @@ mod tests {
     use super::*;
     use crate::hex::parse;
     use crate::paper::{D, V};
-
-    /// A channel record.
-    fn channel(limit: u16, values: &[u8]) -> Vec<u8> {
-        let length = 6 + values.len() as u16;
-        [&length.to_le_bytes(), &[2, 0], &limit.to_le_bytes(), values].concat()
-    }
+    use crate::streams::channel;
 
     fn prints(input: &[Vec<u8>], lines: &[&str]) {
         let expected: String = lines.iter().map(|line| format!("{line}\n")).collect();

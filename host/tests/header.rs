@@ -1,19 +1,21 @@
 //! include/polar.h is C11 without a warning, and a program in C gets the answers of document 01.
 
+use std::fs;
 use std::path::Path;
 use std::process::Command;
 
-/// Compiles a program of tests/c with the header and the library, runs it, and gives what it
+use host::files::repository;
+
+/// Compiles the program of a folder with the header and the library, runs it, and gives what it
 /// prints.
-fn run(name: &str) -> String {
-    let folder = Path::new(env!("CARGO_MANIFEST_DIR"));
+fn run(folder: &str, name: &str) -> String {
     let program = Path::new(env!("CARGO_TARGET_TMPDIR")).join(name);
     let built = Command::new("gcc")
         .args(["-std=c11", "-Wall", "-Wextra", "-Werror", "-pedantic"])
         .arg("-I")
-        .arg(folder.join("../include"))
-        .arg(folder.join(format!("tests/c/{name}.c")))
-        .arg(folder.join("../target/staticlib/libpolar.a"))
+        .arg(repository().join("include"))
+        .arg(repository().join(format!("{folder}/{name}.c")))
+        .arg(repository().join("target/staticlib/libpolar.a"))
         .arg("-o")
         .arg(&program)
         .output()
@@ -42,7 +44,7 @@ q = 8: refusal 0, value 0, steps 0, 00 00 00 00 00 00 00 00
 32: refusal 13, value 7, steps 0, ee ee ee ee ee ee ee ee
 -32: refusal 13, value 7, steps 0, ee ee ee ee ee ee ee ee
 ";
-    assert_eq!(run("encode_resume"), expected);
+    assert_eq!(run("host/tests/c", "encode_resume"), expected);
 }
 
 #[test]
@@ -58,5 +60,15 @@ zeros: refusal 0, value 1, steps 24, 00
 32: refusal 13, value 7, steps 0, ee
 ";
     let restarted = expected.replace("steps 48", "steps 32");
-    assert_eq!(run("decode"), format!("{expected}{restarted}"));
+    assert_eq!(
+        run("host/tests/c", "decode"),
+        format!("{expected}{restarted}")
+    );
+}
+
+#[test]
+fn the_example() {
+    let path = repository().join("examples/frame.out");
+    let expected = fs::read_to_string(path).expect("what the example prints");
+    assert_eq!(run("examples", "frame"), expected);
 }

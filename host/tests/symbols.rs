@@ -1,15 +1,12 @@
 //! What the static libraries export, and what they need.
 
 use std::fs;
-use std::path::{Path, PathBuf};
 use std::process::Command;
+
+use host::files::repository;
 
 /// All that a library may need.
 const NEEDED: [&str; 3] = ["memcpy", "memmove", "memset"];
-
-fn repository() -> PathBuf {
-    Path::new(env!("CARGO_MANIFEST_DIR")).join("..")
-}
 
 /// The symbols of a library, each with the letter that `nm` gives it.
 fn symbols(library: &str) -> Vec<(String, char)> {

@@ -1,10 +1,11 @@
 //! The files that the program crate `vectors` is run on and held to are what the reference has.
 
+use host::files::repository;
 use host::rows;
 
 fn file(name: &str) -> String {
-    let path = format!("{}/../crates/vectors/{name}", env!("CARGO_MANIFEST_DIR"));
-    std::fs::read_to_string(&path).expect("a file of crates/vectors")
+    let path = repository().join("crates/vectors").join(name);
+    std::fs::read_to_string(path).expect("a file of crates/vectors")
 }
 
 #[test]
