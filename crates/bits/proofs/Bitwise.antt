@@ -1,11 +1,11 @@
 -- The bits of a number: after shifts, and under exclusive-or, and, or. Assumes nothing.
 use mathlib.Core.Path.{_≡_, refl, sym, ap, _∙_}
-use Prim.Native.Nat.{ℕ, zero, suc, _+_, _-_, _*_, _/_, _%_, _^_, _<_, max}
+use Prim.Native.Nat.{ℕ, zero, suc, _+_, _-_, _*_, _/_, _%_, _^_, _<_}
 use native.Mathlib.Nat.{mod-lt, zero-lt-suc, div-one, div-eq-of-lt}
 use native.Mathlib.Numerals.{one-add}
 use native.Mathlib.Omega.{arith}
 use lib.Pow.{shr-shr, field, mod-mod-pow, pow-pos}
-use lib.Bits.{bitAnd, bitOr, bitXor, and-shr, or-shr, xor-shr, and-mod, or-mod, xor-mod}
+use lib.Bits.{bitAnd, bitXor, xor-shr, xor-mod}
 use Rattle.bits.specs.Bit.{bit}
 
 pub bit-lt : (x i : ℕ) → bit x i < 2
@@ -59,15 +59,6 @@ xor-bits = two-bits (λ a b. bitXor a b ≡ (a + b) % 2) refl refl refl refl
 pub and-bits : (a b : ℕ) → a < 2 → b < 2 → bitAnd a b ≡ a * b
 and-bits = two-bits (λ a b. bitAnd a b ≡ a * b) refl refl refl refl
 
-pub or-bits : (a b : ℕ) → a < 2 → b < 2 → bitOr a b ≡ max a b
-or-bits = two-bits (λ a b. bitOr a b ≡ max a b) refl refl refl refl
-
--- and on any two numbers, bit by bit
+-- and of any two numbers, bit by bit
 pub bit-xor : (a b i : ℕ) → bit (bitXor a b) i ≡ (bit a i + bit b i) % 2
 bit-xor = bitwise bitXor (λ a b. (a + b) % 2) xor-shr xor-mod xor-bits
-
-pub bit-and : (a b i : ℕ) → bit (bitAnd a b) i ≡ bit a i * bit b i
-bit-and = bitwise bitAnd (λ a b. a * b) and-shr and-mod and-bits
-
-pub bit-or : (a b i : ℕ) → bit (bitOr a b) i ≡ max (bit a i) (bit b i)
-bit-or = bitwise bitOr max or-shr or-mod or-bits

@@ -1,11 +1,10 @@
 -- Lists made of lists of bits are lists of bits. Assumes nothing.
-use mathlib.Core.Path.{subst, sym}
 use mathlib.Core.List.{List, [], _∷_, _++_}
-use Prim.Native.Nat.{ℕ, zero, suc, _+_, _<_}
+use Prim.Native.Nat.{ℕ, zero, suc, _<_}
 use native.Mathlib.Omega.{arith}
 use lib.ListN.{getD, take, drop}
-use lib.Seq.{getD-drop}
 use Rattle.laws.specs.Segment.{table}
+use Rattle.laws.proofs.Each.{each-append, each-take, each-drop, each-table}
 use Rattle.bits.specs.Bit.{Bits, bitsOf}
 use Rattle.bits.specs.Packing.{unpacked}
 use Rattle.bits.proofs.Bitwise.{bit-lt}
@@ -24,21 +23,16 @@ pub bits-tail : {x : ℕ} {xs : List ℕ} → Bits (x ∷ xs) → Bits xs
 bits-tail p = record { at = λ i. p .at (suc i) }
 
 pub bits-append : (xs ys : List ℕ) → Bits xs → Bits ys → Bits (xs ++ ys)
-bits-append [] ys p q = q
-bits-append (x ∷ xs) ys p q = bits-cons (p .at 0) (bits-append xs ys (bits-tail p) q)
+bits-append xs ys p q = record { at = each-append (λ b. b < 2) 0 xs ys (p .at) (q .at) }
 
 pub bits-take : (n : ℕ) (xs : List ℕ) → Bits xs → Bits (take n xs)
-bits-take zero xs p = bits-nil
-bits-take (suc n) [] p = bits-nil
-bits-take (suc n) (x ∷ xs) p = bits-cons (p .at 0) (bits-take n xs (bits-tail p))
+bits-take n xs p = record { at = each-take (λ b. b < 2) 0 (omega arith) n xs (p .at) }
 
 pub bits-drop : (n : ℕ) (xs : List ℕ) → Bits xs → Bits (drop n xs)
-bits-drop n xs p = record { at = λ i. subst (λ (b : ℕ). b < 2) (sym (getD-drop n xs i 0)) (p .at (n + i)) }
+bits-drop n xs p = record { at = each-drop (λ b. b < 2) 0 n xs (p .at) }
 
 pub bits-table : (f : ℕ → ℕ) (n : ℕ) → ((i : ℕ) → f i < 2) → Bits (table f n)
-unfolding table
-bits-table f zero h = bits-nil
-bits-table f (suc n) h = bits-cons (h 0) (bits-table (λ i. f (suc i)) n (λ i. h (suc i)))
+bits-table f n h = record { at = each-table (λ b. b < 2) 0 (omega arith) f n h }
 
 pub bits-of : (w x : ℕ) → Bits (bitsOf w x)
 bits-of zero x = bits-nil

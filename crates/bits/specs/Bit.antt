@@ -1,4 +1,4 @@
--- Bits are the numbers 0 and 1.
+-- Bits, for the masks, polynomials, payloads and codewords of document 01: the numbers 0 and 1.
 use mathlib.Core.List.{List, [], _∷_}
 use Prim.Native.Nat.{ℕ, zero, suc, _+_, _*_, _/_, _%_, _^_, _<_}
 use lib.ListN.{getD}

@@ -13,6 +13,7 @@ bytesFor k = (k + 7) / 8
 abbrev pub packedByte : List ℕ → ℕ → ℕ
 packedByte bits m = number (λ b. getD bits (8 * m + b) 0) 8
 
+-- bits, packed into as many bytes as they take
 unfoldable pub packed : List ℕ → List ℕ
 packed bits = table (packedByte bits) (bytesFor (length bits))
 

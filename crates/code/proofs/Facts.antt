@@ -63,15 +63,17 @@ module _ (d : List ℕ) (n r p k : ℕ) (code : describe d ≡ Code n r p k) whe
       let enough = ltb-false (onesIn (maskOf d)) (getD d 5 0 + 1) (s8 .0) in
       let size : 8 * length (maskOf d) ≡ 2 ^ getD d 4 0 = omega (arith, length-drop 8 d, eight-bytes (getD d 4 0) (n-in .0)) in
       record {
-        n-least = omega arith;
-        n-most = omega arith;
-        r-least = omega arith;
-        r-most = omega arith;
+        coded = record {
+          n-least = omega arith;
+          n-most = omega arith;
+          r-least = omega arith;
+          r-most = omega arith;
+          mask-size = size ∙ ap (λ (x : ℕ). 2 ^ x) en;
+          k-least = omega arith;
+          K-is = omega arith;
+          K-most = omega (arith, ones-le (maskOf d) (8 * length (maskOf d)), ap (λ (x : ℕ). 2 ^ x) en);
+        };
         polynomial-odd = ap (λ (x : ℕ). bit x 0) (sym ep) ∙ omega (arith, bit-lt (word d 6) 0);
         polynomial-fits = subst₂ (λ (x y : ℕ). x < 2 ^ y) ep er (below-pow (word d 6) (getD d 5 0) (same (word d 6 / 2 ^ getD d 5 0) 0 (p-in .1)));
         header = omega arith;
-        mask-size = size ∙ ap (λ (x : ℕ). 2 ^ x) en;
-        k-least = omega arith;
-        K-is = omega arith;
-        K-most = omega (arith, ones-le (maskOf d) (8 * length (maskOf d)), ap (λ (x : ℕ). 2 ^ x) en);
       }

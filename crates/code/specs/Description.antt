@@ -47,6 +47,7 @@ refusals d =
 abbrev pub accepted : List ℕ → Description
 accepted d = Code (getD d 4 0) (getD d 5 0) (word d 6) (onesIn (maskOf d) - getD d 5 0)
 
+-- the answer
 unfoldable pub describe : List ℕ → Description
 describe d = firstOr (refusals d) (accepted d)
 

@@ -45,6 +45,7 @@ fn is_bad_polynomial(p: u32, r: u32) -> bool
     p & 1 == 0 || p >> r != 0
 }
 
+// Reads a description: refusals 1 to 8 in order, then its code.
 pub fn read_description(d: &[u8]) -> Description
     ensures { λ a. ⌜ a ≡ describe (now (d .entry)) ⌝ }
 {

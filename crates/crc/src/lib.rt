@@ -1,7 +1,7 @@
 // The cyclic check: a register of r bits, into which the payload goes bit by bit. Bits are bytes of 0 and 1.
 ghost use mathlib.Core.Path.{_≡_};
 ghost use mathlib.Core.List.{_++_};
-ghost use Prim.Native.Nat.{_+_, _%_, _^_, _<_, _≤_};
+ghost use Prim.Native.Nat.{_+_, _*_, _%_, _^_, _<_, _≤_};
 ghost use lib.ListN.{length, take, drop};
 ghost use Rattle.laws.specs.Segment.{splice};
 ghost use Rattle.bits.specs.Bit.{bit, bitsOf};
@@ -29,13 +29,21 @@ fn feedback(poly: u32, r: u32) -> u32
     word
 }
 
+// The word where `out` is 1, else 0. A payload's bits cannot be foretold, so that a branch would cost more.
+fn word_if(out: u32, word: u32) -> u32
+    requires { ⌜ (out < 2) × (word < 2 ^ 16) ⌝ }
+    ensures { λ x. ⌜ x ≡ out * word ⌝ }
+{
+    (word << out) - word
+}
+
 // One bit goes in: the register moves up by one place, and the word is added where the coefficient that leaves is 1.
 fn register_step(register: u32, next: u8, r: u32, word: u32) -> u32
     requires { ⌜ (1 ≤ r) × (r ≤ 16) × (word < 2 ^ r) ⌝ }
     ensures { λ a. ⌜ (bitsOf r a ≡ step (bitsOf r word) (bitsOf r register) next) × (a < 2 ^ r) ⌝ }
 {
     let out = (coefficient(register, r - 1) + next as u32) % 2;
-    (out * word) ^ ((register << 1) & ((1u32 << r) - 1))
+    word_if(out, word) ^ ((register << 1) & ((1u32 << r) - 1))
 }
 
 // The check of a payload, as a number of r bits.

@@ -1,9 +1,9 @@
 -- Placing by a mask and taking out: lengths, bits, and that what was placed comes out. Assumes nothing.
 use mathlib.Core.Path.{_≡_, refl, sym, ap, ap₂, _∙_, subst}
-use mathlib.Core.Bool.{Bool, true, false, cond}
+use mathlib.Core.Bool.{cond}
 use mathlib.Core.Logic.{_⊎_, inl, inr, ⊎-elim}
 use mathlib.Core.List.{List, [], _∷_, _++_, append-nil}
-use Prim.Native.Nat.{ℕ, zero, suc, _+_, _/_, _%_, _≤_, _<_}
+use Prim.Native.Nat.{ℕ, zero, suc, _+_, _*_, _/_, _%_, _≤_, _<_}
 use native.Mathlib.Nat.{zero-add}
 use native.Mathlib.Numerals.{add-one}
 use native.Mathlib.Omega.{arith}
@@ -11,13 +11,16 @@ use lib.Dec.{eqb}
 use lib.ListN.{length, getD, take, set, length-append}
 use lib.Seq.{take-suc}
 use Rattle.laws.specs.Segment.{splice}
+use Rattle.laws.proofs.Choice.{cond-ind}
 use Rattle.laws.proofs.Table.{length-table, getD-table}
 use Rattle.laws.proofs.Filling.{splice-snoc}
-use Rattle.bits.specs.Bit.{Bits}
+use Rattle.bits.specs.Bit.{bit, Bits, number}
 use Rattle.bits.specs.Mask.{maskBit, onesBelow}
-use Rattle.bits.proofs.Bitwise.{bit-lt}
+use Rattle.bits.specs.Packing.{packedByte}
+use Rattle.bits.proofs.Bitwise.{bit-lt, bit-zero}
+use Rattle.bits.proofs.Number.{number-ext}
 use Rattle.bits.proofs.Lists.{bits-nil, bits-cons, bits-append, bits-table}
-use Rattle.bits.proofs.Mask.{ones-le}
+use Rattle.bits.proofs.Mask.{mask-bit, ones-le}
 use Rattle.encoder.specs.Place.{placedBit, placed, taken}
 
 -- what an index adds is its bit of the mask
@@ -45,11 +48,19 @@ getD-placed mask message n i l = getD-table _ n i 0 l
 
 pub bits-placed : (mask message : List ℕ) (n : ℕ) → Bits message → Bits (placed mask message n)
 unfolding placed
-bits-placed mask message n p = bits-table _ n (λ i. each (eqb (maskBit mask i) 1) i)
+bits-placed mask message n p =
+    bits-table _ n (λ i. cond-ind (λ (x : ℕ). x < 2) (eqb (maskBit mask i) 1) _ 0 (λ _. p .at _) (λ _. omega arith))
+
+-- a byte of the mask without an information index
+pub frozen-byte : (mask message : List ℕ) (m : ℕ) → m < length mask → getD mask m 0 ≡ 0 → 0 ≡ packedByte (placed mask message (8 * length mask)) m
+unfolding number
+frozen-byte mask message m l e = sym (number-ext (λ b. getD (placed mask message (8 * length mask)) (8 * m + b) 0) (λ b. 0) 8 each)
   where
-    each : (t : Bool) (i : ℕ) → cond t (getD message (onesBelow mask i) 0) 0 < 2
-    each true i = p .at (onesBelow mask i)
-    each false i = omega arith
+    each : (b : ℕ) → b < 8 → getD (placed mask message (8 * length mask)) (8 * m + b) 0 ≡ 0
+    each b h =
+        let none : maskBit mask (8 * m + b) ≡ 0 = mask-bit mask m b h ∙ ap (λ (x : ℕ). bit x b) e ∙ bit-zero b in
+        getD-placed mask message (8 * length mask) (8 * m + b) (omega arith)
+        ∙ ap (λ (x : ℕ). cond (eqb x 1) (getD message (onesBelow mask (8 * m + b)) 0) 0) none
 
 -- ---- taken bits
 

@@ -8,6 +8,7 @@ use Rattle.laws.specs.Choice.{firstOr}
 use Rattle.bits.specs.Bit.{Bits, bitsOf}
 use Rattle.bits.specs.Packing.{bytesFor, packed, unpacked, unusedBits}
 use Rattle.code.specs.Description.{differs, maskOf, describe, onDescription}
+use Rattle.code.specs.Described.{Coded}
 use Rattle.crc.specs.Check.{checkOf}
 use Rattle.transform.specs.Transform.{transformed}
 use Rattle.encoder.specs.declared.Encoded.{Encoded}
@@ -36,6 +37,7 @@ unfoldable pub encodedBy : List ℕ → ℕ → ℕ → ℕ → ℕ → List ℕ
 encodedBy mask n r polynomial k payload output =
     firstOr (encodingRefusals n k payload output) (Done, codeword mask n r polynomial k payload)
 
+-- the same for a description: refusals 1 to 8 first
 unfoldable pub encoded : List ℕ → List ℕ → List ℕ → Encoded × List ℕ
 encoded d payload output =
     onDescription (describe d) (λ i. (Refused i, output)) (λ n r polynomial k. encodedBy (maskOf d) n r polynomial k payload output)
@@ -47,26 +49,21 @@ pub record MessagePre (k r : ℕ) (payload message : List ℕ) : Type 0 where
   pub payload-size : k ≤ 8 * length payload
   pub message-size : length message ≡ k + r
 
+-- a message to be placed by a mask
+pub record PlacePre (mask message : List ℕ) : Type 0 where
+  pub short : length mask ≤ 128
+  pub bits : Bits message
+
 -- a message for a code of length 2^n, and room for its codeword
 pub record CodewordPre (mask : List ℕ) (n : ℕ) (message output : List ℕ) : Type 0 where
+  pub n-least : 3 ≤ n
   pub n-most : n ≤ 10
   pub mask-size : 8 * length mask ≡ 2 ^ n
   pub bits : Bits message
   pub output-size : length output ≡ length mask
 
+-- a payload for a code, and room for its codeword
 pub record PayloadPre (mask : List ℕ) (n r k : ℕ) (payload output : List ℕ) : Type 0 where
-  pub n-most : n ≤ 10
-  pub mask-size : 8 * length mask ≡ 2 ^ n
-  pub r-least : 1 ≤ r
-  pub r-most : r ≤ 16
-  pub K-most : k + r ≤ 2 ^ n
+  pub coded : Coded mask n r k
   pub payload-size : length payload ≡ bytesFor k
   pub output-size : length output ≡ length mask
-
--- what a description that is accepted says of its code
-pub record CodePre (mask : List ℕ) (n r k : ℕ) : Type 0 where
-  pub n-most : n ≤ 10
-  pub mask-size : 8 * length mask ≡ 2 ^ n
-  pub r-least : 1 ≤ r
-  pub r-most : r ≤ 16
-  pub K-most : k + r ≤ 2 ^ n

@@ -1,5 +1,6 @@
 // Placing bits by a mask, taking them out again, and the encoder.
 use code::Description;
+use transform::ByteArray;
 use transform::SIZE;
 ghost use mathlib.Core.Path.{_≡_};
 ghost use mathlib.Core.Bool.{cond};
@@ -8,9 +9,12 @@ ghost use lib.Dec.{eqb};
 ghost use lib.ListN.{length, getD, set};
 ghost use Rattle.laws.specs.Segment.{splice};
 ghost use Rattle.code.specs.Description.{differs};
+ghost use Rattle.code.specs.Described.{Coded};
 ghost use Rattle.encoder.specs.Place.{placed, taken};
-ghost use Rattle.encoder.specs.Encode.{MessagePre, CodewordPre, PayloadPre, CodePre, messageOf, codeword, encodedBy, encoded};
-ghost use Rattle.bits.specs.Packing.{bytesFor, packed, unpacked, unusedBits};
+ghost use Rattle.encoder.specs.Encode.{PlacePre, MessagePre, CodewordPre, PayloadPre, messageOf, codeword, encodedBy, encoded};
+ghost use Rattle.bits.specs.Bit.{Bits};
+ghost use Rattle.bits.specs.Mask.{onesBelow};
+ghost use Rattle.bits.specs.Packing.{bytesFor, packedByte, packed, unpacked, unusedBits};
 ghost use Rattle.transform.specs.Transform.{transformed};
 
 // What encode answers: the codeword is written, or the number of the refusal.
@@ -19,29 +23,47 @@ pub enum Encoded {
     Refused(u8),
 }
 
-// The bit for an index: message bit c at an information index, and 0 at a frozen one.
+// The bit for an index: message bit c at an information index, and 0 at a frozen one. A mask cannot be foretold, so that a branch would
+// cost more.
 fn placed_bit(message: &[u8], c: usize, information: u8) -> u8
+    requires { ⌜ (information < 2) × Bits (now message) ⌝ }
     ensures { λ r. ⌜ r ≡ cond (eqb information 1) (getD (now (message .entry)) c 0) 0 ⌝ }
 {
-    if information == 1 {
-        bits::bit_or_zero(message, c)
-    } else {
-        0
-    }
+    information & bits::bit_or_zero(message, c)
 }
 
-// Places the message's bits at the information indices, in ascending order, and zeros at the frozen ones.
-pub fn place(mask: &[u8], message: &[u8], u: &mut [u8])
-    requires { ⌜ 8 * length (now mask) ≤ length (now u) ⌝ }
-    ensures { λ _. ⌜ now (u .exit) ≡ splice (now (u .entry)) 0 (placed (now (mask .entry)) (now (message .entry)) (8 * length (now (mask .entry)))) ⌝ }
+// The bits for the indices of mask byte m, packed; `count` information indices stand before them. Where all eight are frozen there is
+// nothing to do.
+fn placed_byte(mask: &[u8], message: &[u8], m: usize, count: usize) -> u8
+    requires { ⌜ PlacePre (now mask) (now message) × (m < length (now mask)) × (count ≡ onesBelow (now mask) (8 * m)) ⌝ }
+    ensures { λ r. ⌜ r ≡ packedByte (placed (now (mask .entry)) (now (message .entry)) (8 * length (now (mask .entry)))) m ⌝ }
+{
+    if mask[m] == 0 {
+        return 0;
+    }
+    let mut byte: u8 = 0;
+    let mut c = count;
+    let mut b: usize = 0;
+    while b < 8 {
+        let information = bits::mask_bit(mask, 8 * m + b);
+        byte = byte * 2 + placed_bit(message, c, information);
+        c += information as usize;
+        b += 1;
+    }
+    byte
+}
+
+// Places the message's bits at the information indices, in ascending order, and zeros at the frozen ones, packed.
+fn place(mask: &[u8], message: &[u8], u: &mut ByteArray)
+    requires { do ⌜ PlacePre (now mask) (now message) × (length (now u) ≡ (← ⟦SIZE⟧)) ⌝ }
+    ensures { λ _. ⌜ now (u .exit) ≡ splice (now (u .entry)) 0 (packed (placed (now (mask .entry)) (now (message .entry)) (8 * length (now (mask .entry))))) ⌝ }
 {
     let mut c: usize = 0;
-    let mut i: usize = 0;
-    while i < 8 * mask.len() {
-        let information = bits::mask_bit(mask, i);
-        u[i] = placed_bit(message, c, information);
-        c += information as usize;
-        i += 1;
+    let mut m: usize = 0;
+    while m < mask.len() {
+        u[m] = placed_byte(mask, message, m, c);
+        c += u8::count_ones(mask[m]) as usize;
+        m += 1;
     }
 }
 
@@ -79,16 +101,16 @@ pub fn message_of(payload: &[u8], k: usize, r: u32, polynomial: u32, message: &m
     crc::append_check(message, k, r, polynomial, 0);
 }
 
-// The codeword of a message: placed by the mask, transformed, packed.
+// The codeword of a message: placed by the mask, then transformed.
 fn write_codeword(mask: &[u8], n: u32, message: &[u8], output: &mut [u8])
     requires { ⌜ CodewordPre (now mask) n (now message) (now output) ⌝ }
     ensures { λ _. ⌜ now (output .exit) ≡ packed (transformed n (placed (now (mask .entry)) (now (message .entry)) (2 ^ n))) ⌝ }
 {
-    let size = 8 * mask.len();
+    let size = mask.len();
     let mut u = [0u8; SIZE];
     place(mask, message, &mut u);
-    transform::transform(n, size, 0, &mut u);
-    bits::pack(&u[..size], output);
+    transform::transform_packed(n - 3, size, &mut u);
+    bits::copy(&u, output);
 }
 
 // The codeword of a payload; the message is made in `room`.
@@ -131,7 +153,7 @@ fn encode_by(
     payload: &[u8],
     output: &mut [u8],
 ) -> Encoded
-    requires { ⌜ CodePre (now mask) n r k ⌝ }
+    requires { ⌜ Coded (now mask) n r k ⌝ }
     ensures { λ a. ⌜ (a, now (output .exit)) ≡ encodedBy (now (mask .entry)) n r polynomial k (now (payload .entry)) (now (output .entry)) ⌝ }
 {
     if payload.len() != bits::bytes_for(k) {

@@ -10,15 +10,18 @@ use lib.ListN.{length, take}
 use Rattle.bits.specs.Packing.{packed}
 use Rattle.code.specs.declared.Description.the-variants.{Code}
 use Rattle.code.specs.Description.{maskOf, describe}
+use Rattle.code.proofs.Facts.{described}
 use Rattle.sc.specs.Pass.{Out}
 use Rattle.sc.specs.Layers.{channelValues}
+use Rattle.trial.specs.Trial.{messageIn, trialPasses}
 use Rattle.flip.specs.declared.Decoded.{Decoded}
 use Rattle.flip.specs.declared.Decoded.the-variants.{Accepted, Failed}
 use Rattle.flip.specs.Trials.{flipOrder, trials, Verdict, passed, failed, run}
 use Rattle.flip.specs.Ends.{PassedAt, AllFailed, Ends}
-use Rattle.flip.specs.Decode.{messageIn, trialPasses, answerOf, decodedBy, decodedWith}
+use Rattle.flip.specs.Decode.{answerOf, decodedBy, decodedWith}
 use Rattle.flip.specs.WellFormed.{WellFormed}
-use Rattle.flip.proofs.Trials.{length-order, length-trials}
+use Rattle.flip.proofs.FlipOrder.{length-order}
+use Rattle.flip.proofs.Trials.{length-trials}
 use Rattle.flip.proofs.Run.{run-ends}
 use Rattle.flip.proofs.WellFormed.{answer-well-formed, decoded-by}
 
@@ -66,7 +69,7 @@ module _ (later : List ℕ → ℕ → List ℤ → ℕ → Out) (d : List ℕ) 
       go w (failed t s) p q =
           let a : Failed t s ≡ Failed made steps = ap (λ (z : Decoded × List ℕ). z .0) q in
           let m : t ≡ made = cc in
-          let room : limit ≤ length (flipOrder mask n (channelValues channel)) + 1 = omega (arith, w .limit-most, length-order d n r polynomial k (channelValues channel) code) in (
+          let room : limit ≤ length (flipOrder mask n (channelValues channel)) + 1 = omega (arith, w .limit-most, length-order (described d n r polynomial k code .coded) (channelValues channel)) in (
             subst₂ (AllFailed ok os) m (cc) p,
             sym m ∙ p .all ∙ length-trials later mask n (channelValues channel) limit (w .limit-least) room,
             sym (ap (λ (z : Decoded × List ℕ). z .1) q),

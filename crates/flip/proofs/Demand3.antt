@@ -11,15 +11,18 @@ use lib.Seq.{take-all}
 use Rattle.bits.specs.Packing.{packed}
 use Rattle.code.specs.declared.Description.the-variants.{Code}
 use Rattle.code.specs.Description.{maskOf, describe}
+use Rattle.code.proofs.Facts.{described}
 use Rattle.sc.specs.Pass.{Out}
 use Rattle.sc.specs.Layers.{channelValues}
+use Rattle.trial.specs.Trial.{fullTrial, restartedTrial, messageIn, trialPasses}
 use Rattle.flip.specs.declared.Decoded.the-variants.{Accepted, Failed}
-use Rattle.flip.specs.Trials.{fullTrial, restartedTrial, flipOrder, trials, Verdict, passed, failed, run}
+use Rattle.flip.specs.Trials.{flipOrder, trials, Verdict, passed, failed, run}
 use Rattle.flip.specs.Ends.{stepsOf, Ends, SameButSteps}
-use Rattle.flip.specs.Decode.{messageIn, trialPasses, answerOf, decodedFull, decodedRestarted}
+use Rattle.flip.specs.Decode.{answerOf, decodedFull, decodedRestarted}
 use Rattle.flip.specs.WellFormed.{WellFormed}
 use Rattle.flip.specs.Demand3.{flippedIn, skippedOver, BothDecode, Demand3}
-use Rattle.flip.proofs.Trials.{length-order, length-trials, take-trials, same-trials, full-total, restarted-total}
+use Rattle.flip.proofs.FlipOrder.{length-order}
+use Rattle.flip.proofs.Trials.{length-trials, take-trials, same-trials, full-total, restarted-total}
 use Rattle.flip.proofs.Run.{run-ends, run-same}
 use Rattle.flip.proofs.WellFormed.{well-formed-answer, decoded-by}
 
@@ -41,7 +44,7 @@ module _ (d : List ℕ) (n r polynomial k : ℕ) (channel : List ℕ) (limit : �
   os′ = trials restartedTrial mask n v limit
 
   room : (t : ℕ) → t ≤ limit → t ≤ length (flipOrder mask n v) + 1
-  room t l = omega (arith, w .limit-most, length-order d n r polynomial k v code)
+  room t l = omega (arith, w .limit-most, length-order (described d n r polynomial k code .coded) v)
 
   full-answer : decodedFull d channel limit output ≡ answerOf mask n k output (run ok 0 0 os)
   full-answer =

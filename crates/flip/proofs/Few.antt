@@ -1,7 +1,7 @@
 -- A decoder makes at most 1,025 trials: one for each information index, and trial 1. Assumes nothing.
 use mathlib.Core.Path.{_≡_, refl, sym, ap, _∙_}
-use mathlib.Core.List.{List, map}
-use Prim.Native.Nat.{ℕ, _+_, _-_, _^_, _≤_}
+use mathlib.Core.List.{List}
+use Prim.Native.Nat.{ℕ, _-_, _≤_}
 use native.Mathlib.Omega.{arith}
 use lib.IntN.{ℤ}
 use lib.ListN.{length, take, length-map, length-take}
@@ -16,7 +16,7 @@ use Rattle.flip.specs.declared.Decoded.{Decoded}
 use Rattle.flip.specs.declared.Decoded.the-variants.{Accepted, Failed, Refused}
 use Rattle.flip.specs.Trials.{flipOrder, trials}
 use Rattle.flip.specs.Decode.{decodedBy, decodedWith}
-use Rattle.flip.proofs.Trials.{length-order}
+use Rattle.flip.proofs.FlipOrder.{length-order}
 use Rattle.flip.proofs.Answers.{accepts-passing, fails-after-all}
 
 module _ (later : List ℕ → ℕ → List ℤ → ℕ → Out) (d channel : List ℕ) (limit : ℕ) (output : List ℕ) where
@@ -25,7 +25,7 @@ module _ (later : List ℕ → ℕ → List ℤ → ℕ → Out) (d channel : Li
       let f = described d n r polynomial k e in
       let v = channelValues channel in
       let order : List ℕ = flipOrder (maskOf d) n v in
-      omega (arith, length-map (take (limit - 1) order) (later (maskOf d) n v), length-take (limit - 1) order, length-order d n r polynomial k v e, f .K-most, pow-mono (f .n-most))
+      omega (arith, length-map (take (limit - 1) order) (later (maskOf d) n v), length-take (limit - 1) order, length-order (f .coded) v, f .coded .K-most, pow-mono (f .coded .n-most))
 
   -- without a code there is no trial
   refused : (i : ℕ) → describe d ≡ NoCode i → decodedWith later d channel limit output ≡ (Refused i, output)

@@ -1,6 +1,4 @@
 pub mod FlipOrder
-pub mod ResumeAt
-pub mod Agree
 pub mod Run
 pub mod WellFormed
 pub mod Trials
@@ -9,9 +7,6 @@ pub mod Few
 pub mod Demand3
 pub mod NoiselessDecoding
 pub mod Starred
-pub mod Lists
-pub mod Message
-pub mod Passes
 pub mod Leaves
 pub mod Loop
 pub mod Turns

@@ -38,12 +38,12 @@ use Rattle.sc.specs.Layers.{channelValues}
 use Rattle.sc.proofs.Steps.{steps-whole}
 use Rattle.sc.proofs.Favours.{Favours}
 use Rattle.sc.proofs.Noiseless.{Signs, Carries, noiseless}
+use Rattle.trial.specs.Trial.{firstTrial, fullTrial, restartedTrial, messageIn, trialPasses}
+use Rattle.trial.proofs.Agree.{rule-usual, rule-frozen}
 use Rattle.flip.specs.declared.Decoded.the-variants.{Accepted}
-use Rattle.flip.specs.Trials.{firstTrial, fullTrial, restartedTrial}
-use Rattle.flip.specs.Decode.{messageIn, trialPasses, answerOf, decodedWith}
+use Rattle.flip.specs.Decode.{answerOf, decodedWith}
 use Rattle.flip.specs.WellFormed.{WellFormed}
 use Rattle.flip.specs.Noiseless.{Received, NoiselessDecoding}
-use Rattle.flip.proofs.Agree.{rule-usual, rule-frozen}
 use Rattle.flip.proofs.Run.{run-first}
 use Rattle.flip.proofs.WellFormed.{well-formed-answer, decoded-by}
 
@@ -139,7 +139,7 @@ module _ (later : List ℕ → ℕ → List ℤ → ℕ → Out) (d : List ℕ) 
   first-accepted =
       let p : Described d n r polynomial k = described d n r polynomial k code in
       let e : EncodedFrom mask n r polynomial k payload bytes = encoded-from d n r polynomial k payload encodeOutput bytes code enc in
-      let ones : onesBelow mask (2 ^ n) ≡ k + r = ap (onesBelow mask) (sym (p .mask-size)) ∙ p .K-is in
+      let ones : onesBelow mask (2 ^ n) ≡ k + r = ap (onesBelow mask) (sym (p .coded .mask-size)) ∙ p .coded .K-is in
       let v : List ℤ = channelValues channel in
       let first : firstTrial mask n v .bits ≡ u mask n r polynomial k payload ones =
       first-recovers mask n r polynomial k payload ones channel (subst (λ (x : List ℕ). Received (2 ^ n) x channel) (sym (e .gives)) received) in

@@ -3,6 +3,7 @@ use mathlib.Core.Path.{_≡_, refl}
 use mathlib.Core.List.{List, [], _∷_}
 use Prim.Native.Nat.{ℕ}
 use Rattle.laws.specs.Choice.{firstOr}
+use Rattle.laws.specs.First.{firstWhere}
 use Rattle.laws.specs.Segment.{table}
 use Rattle.bits.specs.Bit.{number}
 use Rattle.bits.specs.Mask.{onesBelow}
@@ -13,13 +14,12 @@ use Rattle.crc.specs.Check.{checkOf}
 use Rattle.transform.specs.Transform.{covers, parity, transformed, xors}
 use Rattle.encoder.specs.Place.{taken}
 use Rattle.sc.specs.Values.{channelValue, f, g, leftValues, rightValues}
-use Rattle.sc.specs.First.{firstWhere}
 use Rattle.sc.specs.Pass.{node}
 use Rattle.sc.specs.Layers.{channelValues}
 use Rattle.flip.specs.declared.Decoded.{Decoded}
 use Rattle.flip.specs.declared.Decoded.the-variants.{Accepted, Failed, Refused, RefusedAt}
 use Rattle.order.specs.Order.{information, insert, ordered}
-use Rattle.flip.specs.Trials.{firstFrom, flipOrder, run}
+use Rattle.flip.specs.Trials.{flipOrder, run}
 use Rattle.flip.specs.Decode.{decodedBy, decodedWith, decodedFull, decodedRestarted}
 
 -- V of document 01, −1, 3, 2, 2, −2, −2, 3, 2, as bytes in two's complement
@@ -55,5 +55,5 @@ StarredDecoding byte =
     (flipOrder (maskOf (starredD 0xE8)) 3 (channelValues starredV) ≡ 5 ∷ 3 ∷ 6 ∷ 7 ∷ []) × Rows (decodedFull (starredD 0xE8)) 48 (byte ∷ []) × Rows (decodedRestarted (starredD 0xE8)) 32 (byte ∷ [])
 
 pub starred-decoding : (byte : ℕ) → StarredDecoding byte
-unfolding firstOr table number onesBelow packed describe checkOf covers parity transformed xors taken channelValue f g leftValues rightValues firstWhere node information insert ordered firstFrom run decodedBy decodedWith
+unfolding firstOr table number onesBelow packed describe checkOf covers parity transformed xors taken channelValue f g leftValues rightValues firstWhere node information insert ordered run decodedBy decodedWith
 starred-decoding byte = (refl, (refl, refl, refl, refl, refl, refl, refl, refl, refl, refl), (refl, refl, refl, refl, refl, refl, refl, refl, refl, refl))

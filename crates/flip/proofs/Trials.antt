@@ -6,26 +6,16 @@ use native.Mathlib.Omega.{arith}
 use lib.IntN.{ℤ}
 use lib.ListN.{length, getD, take, length-take, length-map}
 use lib.Seq.{getD-take, take-take}
-use Rattle.bits.specs.Mask.{onesBelow}
-use Rattle.code.specs.declared.Description.the-variants.{Code}
-use Rattle.code.specs.Description.{maskOf, describe}
-use Rattle.code.specs.Described.{Described}
-use Rattle.code.proofs.Facts.{described}
 use Rattle.sc.specs.Pass.{Out}
 use Rattle.sc.specs.Rules.{maskRule}
 use Rattle.sc.proofs.Steps.{steps-whole}
-use Rattle.order.specs.Sorted.{Information}
-use Rattle.flip.specs.Trials.{firstTrial, fullTrial, restartedTrial, flipOrder, trials}
+use Rattle.trial.specs.Trial.{firstTrial, fullTrial, restartedTrial}
+use Rattle.trial.specs.Work.{Flipped}
+use Rattle.trial.proofs.Agree.{full-steps, same-bits, restarted-steps}
+use Rattle.flip.specs.Trials.{flipOrder, trials}
 use Rattle.flip.specs.Ends.{bitsOfEach, stepsOf}
 use Rattle.flip.specs.Demand3.{flippedIn, skippedOver}
-use Rattle.flip.proofs.FlipOrder.{flip-order}
-use Rattle.flip.proofs.Agree.{full-steps, same-bits, restarted-steps}
-
--- as many indices can be flipped as the code has information indices
-pub length-order : (d : List ℕ) (n r polynomial k : ℕ) (v : List ℤ) → describe d ≡ Code n r polynomial k → length (flipOrder (maskOf d) n v) ≡ k + r
-length-order d n r polynomial k v code =
-    let p : Described d n r polynomial k = described d n r polynomial k code in
-    flip-order (maskOf d) n v .1 .many ∙ ap (onesBelow (maskOf d)) (sym (p .mask-size)) ∙ p .K-is
+use Rattle.flip.proofs.FlipOrder.{order-flipped}
 
 take-map : {A B : Type 0} (f : A → B) (m : ℕ) (xs : List A) → take m (map f xs) ≡ map f (take m xs)
 take-map f zero xs = refl
@@ -50,13 +40,13 @@ module _ (later : List ℕ → ℕ → List ℤ → ℕ → Out) (mask : List �
 module _ (mask : List ℕ) (n : ℕ) (v : List ℤ) where
   -- information indices alone
   abbrev All : List ℕ → Type 0
-  All is = (a : ℕ) → a < length is → Information mask (2 ^ n) (getD is a 0)
+  All is = (a : ℕ) → a < length is → Flipped mask n (getD is a 0)
 
   all-taken : (m : ℕ) → All (take m (flipOrder mask n v))
   all-taken m a l =
       let order : List ℕ = flipOrder mask n v in
       let c = length-take m order in
-      subst (Information mask (2 ^ n)) (sym (getD-take m order a 0 (omega arith))) (flip-order mask n v .1 .each a (omega arith))
+      subst (Flipped mask n) (sym (getD-take m order a 0 (omega arith))) (order-flipped mask n v a (omega arith))
 
   bits-later : (is : List ℕ) → All is → bitsOfEach (map (fullTrial mask n v) is) ≡ bitsOfEach (map (restartedTrial mask n v) is)
   bits-later [] p = refl

@@ -13,18 +13,16 @@ use Rattle.code.specs.declared.Description.{Description}
 use Rattle.code.specs.declared.Description.the-variants.{Code}
 use Rattle.code.specs.Description.{differs, outside, maskOf, describe, onDescription}
 use Rattle.code.proofs.Tests.{same, inside}
-use Rattle.sc.specs.Resume.{firstOutside}
-use Rattle.sc.proofs.First.{first-le}
+use Rattle.sc.specs.Outside.{firstOutside}
+use Rattle.sc.proofs.Outside.{first-outside-le}
 use Rattle.sc.specs.Pass.{Out}
 use Rattle.sc.specs.Layers.{channelValues}
+use Rattle.trial.specs.Trial.{trialPasses}
 use Rattle.flip.specs.declared.Decoded.{Decoded}
 use Rattle.flip.specs.declared.Decoded.the-variants.{Accepted, Failed, Refused, RefusedAt}
 use Rattle.flip.specs.Trials.{trials, Verdict, run}
-use Rattle.flip.specs.Decode.{trialPasses, answerOf, decodedBy, decodedWith}
+use Rattle.flip.specs.Decode.{answerOf, decodedBy, decodedWith}
 use Rattle.flip.specs.WellFormed.{WellFormed}
-
-first-outside-le : (channel : List ℕ) → firstOutside channel ≤ length channel
-first-outside-le channel = first-le _ (length channel)
 
 differs-no : (a b : ℕ) → a ≡ b → differs a b ≡ false
 differs-no a b e = ap not (eq-eqb a b e)

@@ -6,25 +6,15 @@ use lib.Dec.{ltb}
 use lib.IntN.{ℤ}
 use lib.ListN.{length, take}
 use Rattle.laws.specs.Choice.{firstOr}
-use Rattle.bits.specs.Bit.{bitsOf}
 use Rattle.bits.specs.Packing.{bytesFor, packed}
 use Rattle.code.specs.Description.{differs, outside, maskOf, describe, onDescription}
-use Rattle.crc.specs.Check.{passes}
-use Rattle.encoder.specs.Place.{taken}
-use Rattle.sc.specs.Resume.{firstOutside}
+use Rattle.sc.specs.Outside.{firstOutside}
 use Rattle.sc.specs.Pass.{Out}
 use Rattle.sc.specs.Layers.{channelValues}
+use Rattle.trial.specs.Trial.{fullTrial, restartedTrial, messageIn, trialPasses}
 use Rattle.flip.specs.declared.Decoded.{Decoded}
 use Rattle.flip.specs.declared.Decoded.the-variants.{Accepted, Failed, Refused, RefusedAt}
-use Rattle.flip.specs.Trials.{fullTrial, restartedTrial, trials, Verdict, passed, failed, run}
-
--- payload and check of a trial's bits: those at the information indices
-abbrev pub messageIn : List ℕ → ℕ → List ℕ → List ℕ
-messageIn mask n bits = taken mask bits (2 ^ n)
-
--- a trial passes when the remainder of its payload equals its check bits
-abbrev pub trialPasses : List ℕ → ℕ → ℕ → ℕ → ℕ → List ℕ → Bool
-trialPasses mask n r polynomial k bits = passes (bitsOf r polynomial) (bitsOf r 0) k (messageIn mask n bits)
+use Rattle.flip.specs.Trials.{trials, Verdict, passed, failed, run}
 
 -- acceptance writes the packed payload; refusal 16 carries the trials made and writes nothing
 abbrev pub answerOf : List ℕ → ℕ → ℕ → List ℕ → Verdict → Decoded × List ℕ
@@ -47,6 +37,7 @@ decodedBy later mask n r polynomial k channel limit output =
     (answerOf mask n k output
     (run (trialPasses mask n r polynomial k) 0 0 (trials later mask n (channelValues channel) limit)))
 
+-- the same for a description: refusals 1 to 8 first
 unfoldable pub decodedWith : (List ℕ → ℕ → List ℤ → ℕ → Out) → List ℕ → List ℕ → ℕ → List ℕ → Decoded × List ℕ
 decodedWith later d channel limit output =
     onDescription (describe d) (λ i. (Refused i, output))

@@ -9,8 +9,9 @@ use Rattle.code.specs.declared.Description.the-variants.{Code}
 use Rattle.code.specs.Description.{maskOf, describe}
 use Rattle.sc.specs.Skipped.{skipped}
 use Rattle.sc.specs.Layers.{channelValues}
+use Rattle.trial.specs.Trial.{resumeAt}
 use Rattle.flip.specs.declared.Decoded.the-variants.{Accepted, Failed}
-use Rattle.flip.specs.Trials.{resumeAt, flipOrder}
+use Rattle.flip.specs.Trials.{flipOrder}
 use Rattle.flip.specs.WellFormed.{WellFormed}
 use Rattle.flip.specs.Decode.{decodedFull, decodedRestarted}
 

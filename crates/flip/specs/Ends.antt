@@ -36,6 +36,7 @@ pub record AllFailed (ok : List ℕ → Bool) (os : List Out) (made steps : ℕ)
   pub each : (t : ℕ) → 1 ≤ t → t ≤ length os → ok (bitsOfTrial os t) ≡ false
   pub steps-are : steps ≡ stepsOf os
 
+-- what a verdict on the trials says of them
 abbrev pub Ends : (List ℕ → Bool) → List Out → Verdict → Type 0
 Ends ok os (passed trial steps bits) = PassedAt ok os trial steps bits
 Ends ok os (failed made steps) = AllFailed ok os made steps

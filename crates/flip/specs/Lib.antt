@@ -1,6 +1,5 @@
 pub mod Trials
 pub mod Decode
-pub mod FirstAfter
 pub mod Ends
 pub mod WellFormed
 pub mod Demand3

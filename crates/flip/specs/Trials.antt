@@ -1,46 +1,13 @@
 -- Document 01, "Flip decoding, full and restarted": the trials of a run, and the first that passes. Document 000, section II-C: the
 -- trial limit counts trial 1.
 use mathlib.Core.Bool.{Bool, cond}
-use mathlib.Core.List.{List, [], _∷_, _++_, map}
-use Prim.Native.Nat.{ℕ, zero, suc, _+_, _-_, _^_}
-use lib.Dec.{eqb}
+use mathlib.Core.List.{List, [], _∷_, map}
+use Prim.Native.Nat.{ℕ, _+_, _-_, _^_}
 use lib.IntN.{ℤ}
-use lib.ListN.{getD, take, replicate}
-use Rattle.bits.specs.Mask.{maskBit}
-use Rattle.sc.specs.Values.{Rule, opposite}
-use Rattle.sc.specs.Pass.{Out, node}
-use Rattle.sc.specs.Rules.{maskRule}
+use lib.ListN.{take}
+use Rattle.sc.specs.Pass.{Out}
 use Rattle.order.specs.Order.{information, ordered}
-
--- trial 1: a plain pass
-abbrev pub firstTrial : List ℕ → ℕ → List ℤ → Out
-firstTrial mask n v = node n [] (maskRule mask) v
-
--- the opposite decision at index i, the usual one elsewhere
-abbrev pub flipRule : List ℕ → ℕ → ℕ → Rule
-flipRule mask i j = cond (eqb j i) opposite (maskRule mask j)
-
--- a later trial that repeats the pass from the root
-abbrev pub fullTrial : List ℕ → ℕ → List ℤ → ℕ → Out
-fullTrial mask n v i = node n [] (flipRule mask i) v
-
--- the first information index among j, …, j + m - 1, or j + m
-unfoldable pub firstFrom : List ℕ → ℕ → ℕ → ℕ
-firstFrom mask j zero = j
-firstFrom mask j (suc m) = cond (eqb (maskBit mask j) 1) j (firstFrom mask (j + 1) m)
-
--- q: the first information index above i, or N
-abbrev pub resumeAt : List ℕ → ℕ → ℕ → ℕ
-resumeAt mask n i = firstFrom mask (i + 1) (2 ^ n - (i + 1))
-
--- trial 1's bits before i, its opposite at i, zeros up to q
-abbrev pub flippedBits : List ℕ → ℕ → ℕ → List ℕ
-flippedBits bits i q = take i bits ++ ((1 - getD bits i 0) ∷ replicate (q - (i + 1)) 0)
-
--- a later trial that resumes at q
-abbrev pub restartedTrial : List ℕ → ℕ → List ℤ → ℕ → Out
-restartedTrial mask n v i =
-    node n (flippedBits (firstTrial mask n v .bits) i (resumeAt mask n i)) (maskRule mask) v
+use Rattle.trial.specs.Trial.{firstTrial}
 
 -- the order of flipped indices: trial t, from 2, flips the one at place t - 1
 abbrev pub flipOrder : List ℕ → ℕ → List ℤ → List ℕ

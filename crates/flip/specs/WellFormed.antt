@@ -5,7 +5,7 @@ use mathlib.Core.List.{List}
 use Prim.Native.Nat.{ℕ, _+_, _^_, _≤_}
 use lib.ListN.{length}
 use Rattle.bits.specs.Packing.{bytesFor}
-use Rattle.sc.specs.Resume.{firstOutside}
+use Rattle.sc.specs.Outside.{firstOutside}
 
 -- for a code of length 2^n with k payload bits and r check bits: refusals 12, 13, 14 and 15 in turn do not apply
 pub record WellFormed (n r k : ℕ) (channel : List ℕ) (limit : ℕ) (output : List ℕ) : Type 0 where

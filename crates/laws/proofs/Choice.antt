@@ -26,6 +26,12 @@ module _ {X : Type 0} where
   first-past true x rest y z f e = absurd (f e)
   first-past false x rest y z f e = (refl, e)
 
+  -- what holds of the answer beside the first test where it holds, and of the rest where it does not
+  pub first-ind {ℓ} : (P : X → Type ℓ) (t : Bool) (x : X) (rest : List (Bool × X)) (y : X) → (T t → P x) → (T (not t) → P (firstOr rest y)) → P (firstOr ((t, x) ∷ rest) y)
+  unfolding firstOr
+  first-ind P true x rest y f g = f tt
+  first-ind P false x rest y f g = g tt
+
   -- what holds of each choice where the test gives it
   pub cond-ind {ℓ} : (P : X → Type ℓ) (t : Bool) (x y : X) → (T t → P x) → (T (not t) → P y) → P (cond t x y)
   cond-ind P true x y f g = f tt

@@ -3,14 +3,13 @@
 use mathlib.Core.Path.{_≡_, refl, sym, ap, _∙_}
 use mathlib.Core.List.{List, [], _∷_, _++_, append-assoc}
 use Prim.Native.Nat.{ℕ, zero, suc, _+_, _<_, _≤_}
-use native.Mathlib.Nat.{add-zero}
 use native.Mathlib.Numerals.{add-one}
 use native.Mathlib.Omega.{arith}
-use lib.ListN.{length, take, drop, getD, set, length-set, length-append, take-append-drop}
+use lib.ListN.{length, take, drop, getD, set, length-set, length-append}
 use lib.Seq.{getD-set-other, length-take-le, set-at, drop-cons, append-snoc}
 use Rattle.laws.specs.Segment.{table, splice}
 use Rattle.laws.proofs.Table.{length-table, table-snoc}
-use Rattle.laws.proofs.Segment.{splice-whole}
+use Rattle.laws.proofs.Segment.{splice-nil, splice-whole}
 
 module _ {A : Type 0} where
   unfoldable pub filled : (ℕ → A) → ℕ → List A → ℕ → List A
@@ -41,14 +40,10 @@ module _ {A : Type 0} where
       ∙ append-assoc (take at w) (ys ++ (a ∷ [])) rest
       ∙ ap (λ (k : ℕ). take at w ++ ((ys ++ (a ∷ [])) ++ drop k w)) seam
 
-  splice-none : (f : ℕ → A) (w : List A) (at : ℕ) → w ≡ splice w at (table f 0)
-  unfolding splice table
-  splice-none f w at = rw add-zero (sym (take-append-drop at w))
-
   -- all stores together are one splice
   filled-splice : (f : ℕ → A) (at : ℕ) (w : List A) (n : ℕ) → at + n ≤ length w → filled f at w n ≡ splice w at (table f n)
-  unfolding filled
-  filled-splice f at w zero h = splice-none f w at
+  unfolding filled table
+  filled-splice f at w zero h = sym (splice-nil w at)
   filled-splice f at w (suc n) h =
       ap (λ (r : List A). set r (at + n) (f n)) (filled-splice f at w n (omega arith))
       ∙ splice-snoc w at (table f n) n (f n) (length-table f n) (omega arith)

@@ -1,5 +1,7 @@
 pub mod Choice
+pub mod First
 pub mod Table
+pub mod Each
 pub mod Segment
 pub mod Filling
 pub mod Powers

@@ -1,14 +1,41 @@
--- Segments of a list, and a list with a segment replaced. Assumes nothing.
+-- Beginnings and segments of a list, and a list with a segment replaced. Assumes nothing.
 use mathlib.Core.Path.{_≡_, refl, sym, ap, ap₂, _∙_}
 use mathlib.Core.List.{List, [], _∷_, _++_, append-assoc, append-nil}
 use Prim.Native.Nat.{ℕ, zero, suc, _+_, _-_, _<_, _≤_}
-use native.Mathlib.Nat.{zero-add, suc-add, le-of-eq}
+use native.Mathlib.Nat.{add-zero, le-of-eq, le-of-suc-le-suc}
+use native.Mathlib.Numerals.{add-one}
 use native.Mathlib.Omega.{arith}
-use lib.ListN.{length, take, drop, getD, length-append, length-drop, take-append-drop, drop-of-length-le}
-use lib.Seq.{getD-take, getD-drop, take-take, take-at, drop-at, drop-drop, length-take-le, take-nil, take-all}
+use lib.ListN.{length, take, drop, getD, set, replicate, length-append, length-drop, take-append-drop, drop-of-length-le}
+use lib.Seq.{getD-take, getD-drop, take-take, take-at, drop-at, drop-drop, length-take-le, take-nil, take-all, set-split}
 use Rattle.laws.specs.Segment.{segment, splice}
 
 module _ {A : Type 0} where
+  -- ---- beginnings
+
+  pub take-swap : (m n : ℕ) (l : List A) → take m (take n l) ≡ take n (take m l)
+  take-swap zero n l = sym (take-nil n)
+  take-swap (suc m) zero l = refl
+  take-swap (suc m) (suc n) [] = refl
+  take-swap (suc m) (suc n) (x ∷ l) = ap (λ (r : List A). x ∷ r) (take-swap m n l)
+
+  -- what is left of the first k after the first n
+  pub drop-of-take : (n k : ℕ) (l : List A) → drop n (take k l) ≡ take (k - n) (drop n l)
+  drop-of-take zero k l = let e : k ≡ k - 0 = omega arith in ap (λ (j : ℕ). take j l) e
+  drop-of-take (suc n) zero l = let e : 0 ≡ 0 - suc n = omega arith in ap (λ (j : ℕ). take j (drop (suc n) l)) e
+  drop-of-take (suc n) (suc k) [] = sym (take-nil (suc k - suc n))
+  drop-of-take (suc n) (suc k) (x ∷ l) =
+      let e : k - n ≡ suc k - suc n = omega arith in drop-of-take n k l ∙ ap (λ (j : ℕ). take j (drop n l)) e
+
+  pub drop-take : (n m : ℕ) (l : List A) → drop n (take (n + m) l) ≡ take m (drop n l)
+  drop-take n m l =
+      let e : n + m - n ≡ m = omega arith in drop-of-take n (n + m) l ∙ ap (λ (j : ℕ). take j (drop n l)) e
+
+  -- the first elements of equal ones
+  pub take-replicate : (n m : ℕ) (a : A) → n ≤ m → take n (replicate m a) ≡ replicate n a
+  take-replicate zero m a h = refl
+  take-replicate (suc n) zero a h = absurd (omega arith)
+  take-replicate (suc n) (suc m) a h = ap (λ (l : List A). a ∷ l) (take-replicate n m a (le-of-suc-le-suc h))
+
   -- ---- segments
 
   pub length-segment : (w : List A) (at n : ℕ) → at + n ≤ length w → length (segment w at n) ≡ n
@@ -16,11 +43,6 @@ module _ {A : Type 0} where
 
   pub getD-segment : (w : List A) (at n i : ℕ) (d : A) → i < n → getD (segment w at n) i d ≡ getD w (at + i) d
   getD-segment w at n i d h = getD-take n (drop at w) i d h ∙ getD-drop at w i d
-
-  pub drop-take : (n m : ℕ) (l : List A) → drop n (take (n + m) l) ≡ take m (drop n l)
-  drop-take zero m l = ap (λ (k : ℕ). take k l) (zero-add m)
-  drop-take (suc n) m [] = ap (drop (suc n)) (take-nil (suc n + m)) ∙ sym (take-nil m)
-  drop-take (suc n) m (x ∷ xs) = ap (λ (k : ℕ). drop (suc n) (take k (x ∷ xs))) (suc-add n m) ∙ drop-take n m xs
 
   -- the halves of a segment
   pub segment-front : (w : List A) (at h : ℕ) → take h (segment w at (h + h)) ≡ segment w at h
@@ -35,9 +57,6 @@ module _ {A : Type 0} where
       let q : k + (at - k) ≡ at = omega arith in
       ap (λ (j : ℕ). drop j w′) (sym q) ∙ sym (drop-drop (at - k) k w′) ∙ ap (drop (at - k)) e ∙ drop-drop (at - k) k w
       ∙ ap (λ (j : ℕ). drop j w) q
-
-  pub segment-past : (w w′ : List A) (k at n : ℕ) → k ≤ at → drop k w′ ≡ drop k w → segment w′ at n ≡ segment w at n
-  segment-past w w′ k at n l e = ap (take n) (drop-past w w′ k at l e)
 
   -- ---- one splice
 
@@ -61,6 +80,16 @@ module _ {A : Type 0} where
     pub length-splice : length (splice w at ys) ≡ length w
     unfolding splice
     length-splice = simp (length-append, length-drop, length-take-le at w (omega arith)) (omega arith)
+
+  -- nothing spliced in
+  pub splice-nil : (w : List A) (at : ℕ) → splice w at [] ≡ w
+  unfolding splice
+  splice-nil w at = rw add-zero (take-append-drop at w)
+
+  -- one element
+  pub set-splice : (w : List A) (i : ℕ) (a : A) → i < length w → set w i a ≡ splice w i (a ∷ [])
+  unfolding splice
+  set-splice w i a l = set-split w i a l ∙ ap (λ (k : ℕ). take i w ++ a ∷ drop k w) (sym (add-one i))
 
   -- a segment put in its own place
   pub splice-segment : (w : List A) (at n : ℕ) → at + n ≤ length w → splice w at (segment w at n) ≡ w

@@ -4,7 +4,7 @@ use Prim.Native.Nat.{ℕ, zero, suc, _+_, _-_, _^_, _≤_, _<_}
 use native.Mathlib.Omega.{arith}
 use lib.Dec.{T, ltb, ltb→lt}
 use lib.IntN.{ℤ, pos, negsuc, negℤ, natAbs, subℕ, _+ℤ_, _-ℤ_, +ℤ-idl}
-use lib.Signed.{mag, ltZ, leZ, nonNeg}
+use lib.Signed.{mag, ltZ, nonNeg}
 use mir.Syntax.{Width}
 use mir.Val.{SFits, Fits, toZ, ofZ, hbits}
 use mir.ValLaws.{toZ-ofZ}
@@ -52,12 +52,9 @@ module _ (w : Width) where
   back-small z h = toZ-ofZ w z (sfits z h)
 
   module _ (a b : ℤ) (fa : SFits w a) (fb : SFits w b) where
-    -- the machine's tests of two numbers are those of the numbers
+    -- the machine's test of two numbers is that of the numbers
     pub less-is : ltZ (back a) (back b) ≡ ltZ a b
     less-is = rw (back-is a fa, back-is b fb)
-
-    pub atMost-is : leZ (back a) (back b) ≡ leZ a b
-    atMost-is = rw (back-is a fa, back-is b fb)
 
     module _ (small : natAbs a + natAbs b < 2 ^ hbits w) where
       pub add-fits : SFits w (back a +ℤ back b)

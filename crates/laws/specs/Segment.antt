@@ -1,4 +1,4 @@
--- Lists that are read and written by segments.
+-- Lists given by their elements, and read and written by segments: the words in which all definitions and contracts speak of arrays.
 use mathlib.Core.List.{List, [], _∷_, _++_}
 use Prim.Native.Nat.{ℕ, zero, suc, _+_}
 use lib.ListN.{length, take, drop}

@@ -13,6 +13,7 @@ unfoldable pub information : List ℕ → ℕ → List ℕ
 information mask zero = []
 information mask (suc n) = information mask n ++ cond (eqb (maskBit mask n) 1) (n ∷ []) []
 
+-- the magnitude of the leaf value at index i
 abbrev pub magnitude : List ℤ → ℕ → ℕ
 magnitude leaves i = natAbs (getD leaves i (pos 0))
 
@@ -26,6 +27,7 @@ unfoldable pub insert : List ℤ → ℕ → List ℕ → List ℕ
 insert leaves i [] = i ∷ []
 insert leaves i (j ∷ js) = cond (before leaves i j) (i ∷ j ∷ js) (j ∷ insert leaves i js)
 
+-- indices in order
 unfoldable pub ordered : List ℤ → List ℕ → List ℕ
 ordered leaves [] = []
 ordered leaves (i ∷ is) = insert leaves i (ordered leaves is)

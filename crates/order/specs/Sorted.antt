@@ -13,6 +13,7 @@ use Rattle.order.specs.Order.{before}
 pub record Pairwise (R : ℕ → ℕ → Type 0) (is : List ℕ) : Type 0 where
   pub at : (a b : ℕ) → a < b → b < length is → R (getD is a 0) (getD is b 0)
 
+-- each index stands before every later one
 abbrev pub Sorted : List ℤ → List ℕ → Type 0
 Sorted leaves = Pairwise (λ i j. before leaves i j ≡ true)
 

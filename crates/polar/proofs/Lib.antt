@@ -1,3 +1,5 @@
 pub mod Answers
+pub mod Fitting
+pub mod Fields
 pub mod Quantised
 pub mod Starred

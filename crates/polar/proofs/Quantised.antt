@@ -3,19 +3,20 @@
 use mathlib.Core.Path.{_≡_}
 use mathlib.Core.List.{List}
 use Prim.Native.Nat.{ℕ}
+use native.Mathlib.Omega.{arith}
 use borrow.Author.Tests.{le-ltb}
 use lib.Ieee.{Float}
 use lib.ListN.{length}
-use Rattle.quantiser.specs.declared.Quantised.{Quantised}
+use Rattle.laws.proofs.First.{first-is}
 use Rattle.quantiser.specs.declared.Quantised.the-variants.{Done}
 use Rattle.quantiser.specs.declared.Summary.{Summary}
 use Rattle.quantiser.specs.Quantise.{quantised}
 use Rattle.quantiser.proofs.Accepted.{channel-values}
 use Rattle.sc.specs.Values.{channelValue}
-use Rattle.sc.specs.Resume.{firstOutside}
-use Rattle.sc.proofs.First.{first-end}
+use Rattle.sc.specs.Outside.{firstOutside}
 
 pub quantised-in-range : (scale : Float) (samples : List Float) (output : List ℕ) (s : Summary) (written : List ℕ) → quantised scale samples output ≡ (Done s, written) → firstOutside written ≡ length written
 unfolding channelValue
 quantised-in-range scale samples output s written done =
-    first-end _ (length written) (λ k l. le-ltb 31 _ (channel-values scale samples output s written done k l))
+    first-is _ (length written) (length written) (omega arith) (λ k l. le-ltb 31 _ (channel-values scale samples output s written done k l))
+    (λ l. absurd (omega arith))

@@ -3,8 +3,8 @@ use Prim.Native.Nat.{ℕ}
 use Rattle.code.proofs.Starred.{StarredDescriptions, starred-descriptions}
 use Rattle.crc.proofs.Published.{StarredCheck, lone-one}
 use Rattle.encoder.proofs.Starred.{StarredEncoding, starred-encoding}
-use Rattle.sc.proofs.Starred.{StarredResume, starred-resume}
 use Rattle.sc.proofs.Steps.{StarredSkipped, skipped-starred}
+use Rattle.resume.proofs.Starred.{StarredResume, starred-resume}
 use Rattle.flip.proofs.Starred.{StarredDecoding, starred-decoding}
 
 -- whatever byte the output held

@@ -1,25 +1,25 @@
 // The codec for host firmware in C; include/polar.h has the prototypes.
 use encoder::Encoded;
 use flip::Decoded;
-use sc::Resumed;
+use resume::Resumed;
 ghost use mathlib.Core.Path.{_≡_};
 ghost use Prim.Native.Nat.{_<_, _^_};
 ghost use Rattle.encoder.specs.Encode.{encoded};
-ghost use Rattle.polar.specs.Number.{number, numbered, encodedNumber, resumedNumber, decodedNumber};
+ghost use Rattle.resume.specs.Resume.{resumed};
 ghost use Rattle.flip.specs.Decode.{decodedFull, decodedRestarted};
-ghost use Rattle.sc.specs.Resume.{resumed};
+ghost use Rattle.polar.specs.Number.{parts, Fitting, number, numbered, encodedParts, resumedParts, decodedParts};
 
 // The number that comes back: refusal, then trial or index, then steps.
 fn answer(refusal: u8, value: u32, steps: u32) -> u64
-    requires { ⌜ number refusal value steps < 2 ^ 64 ⌝ }
-    ensures { λ x. ⌜ x ≡ number refusal value steps ⌝ }
+    requires { ⌜ number (parts refusal value steps) < 2 ^ 64 ⌝ }
+    ensures { λ x. ⌜ x ≡ number (parts refusal value steps) ⌝ }
 {
     refusal as u64 + value as u64 * 0x100 + steps as u64 * 0x1_0000_0000
 }
 
 #[no_mangle]
 pub extern "C" fn polar_encode(description: &[u8], payload: &[u8], codeword: &mut [u8]) -> u64
-    ensures { λ x. ⌜ (x, now (codeword .exit)) ≡ numbered encodedNumber (encoded (now (description .entry)) (now (payload .entry)) (now (codeword .entry))) ⌝ }
+    ensures { λ x. ⌜ (x, now (codeword .exit)) ≡ numbered encodedParts (encoded (now (description .entry)) (now (payload .entry)) (now (codeword .entry))) ⌝ }
 {
     match encoder::encode(description, payload, codeword) {
         Encoded::Done => answer(0, 0, 0),
@@ -34,12 +34,25 @@ pub extern "C" fn polar_resume(
     prefix: &[u8],
     bits: &mut [u8],
 ) -> u64
-    ensures { λ x. ⌜ (x, now (bits .exit)) ≡ numbered resumedNumber (resumed (now (description .entry)) (now (channel .entry)) (now (prefix .entry)) (now (bits .entry))) ⌝ }
+    ensures { λ x. ⌜ (x, now (bits .exit)) ≡ numbered resumedParts (resumed (now (description .entry)) (now (channel .entry)) (now (prefix .entry)) (now (bits .entry))) ⌝ }
 {
-    match sc::resume(description, channel, prefix, bits) {
+    match resume::resume(description, channel, prefix, bits) {
         Resumed::Done { steps } => answer(0, 0, steps),
         Resumed::Refused(i) => answer(i, 0, 0),
         Resumed::RefusedAt { refusal, index } => answer(refusal, index, 0),
+    }
+}
+
+// The number of a decoder's answer.
+fn decoded_answer(decoded: Decoded) -> u64
+    requires { ⌜ Fitting (decodedParts decoded) ⌝ }
+    ensures { λ x. ⌜ x ≡ number (decodedParts decoded) ⌝ }
+{
+    match decoded {
+        Decoded::Accepted { trial, steps } => answer(0, trial, steps),
+        Decoded::Failed { trials, steps } => answer(16, trials, steps),
+        Decoded::Refused(i) => answer(i, 0, 0),
+        Decoded::RefusedAt { refusal, index } => answer(refusal, index, 0),
     }
 }
 
@@ -50,14 +63,9 @@ pub extern "C" fn polar_decode_full(
     limit: u32,
     payload: &mut [u8],
 ) -> u64
-    ensures { λ x. ⌜ (x, now (payload .exit)) ≡ numbered decodedNumber (decodedFull (now (description .entry)) (now (channel .entry)) limit (now (payload .entry))) ⌝ }
+    ensures { λ x. ⌜ (x, now (payload .exit)) ≡ numbered decodedParts (decodedFull (now (description .entry)) (now (channel .entry)) limit (now (payload .entry))) ⌝ }
 {
-    match flip::decode_full(description, channel, limit, payload) {
-        Decoded::Accepted { trial, steps } => answer(0, trial, steps),
-        Decoded::Failed { trials, steps } => answer(16, trials, steps),
-        Decoded::Refused(i) => answer(i, 0, 0),
-        Decoded::RefusedAt { refusal, index } => answer(refusal, index, 0),
-    }
+    decoded_answer(flip::decode_full(description, channel, limit, payload))
 }
 
 #[no_mangle]
@@ -67,12 +75,7 @@ pub extern "C" fn polar_decode_restarted(
     limit: u32,
     payload: &mut [u8],
 ) -> u64
-    ensures { λ x. ⌜ (x, now (payload .exit)) ≡ numbered decodedNumber (decodedRestarted (now (description .entry)) (now (channel .entry)) limit (now (payload .entry))) ⌝ }
+    ensures { λ x. ⌜ (x, now (payload .exit)) ≡ numbered decodedParts (decodedRestarted (now (description .entry)) (now (channel .entry)) limit (now (payload .entry))) ⌝ }
 {
-    match flip::decode_restarted(description, channel, limit, payload) {
-        Decoded::Accepted { trial, steps } => answer(0, trial, steps),
-        Decoded::Failed { trials, steps } => answer(16, trials, steps),
-        Decoded::Refused(i) => answer(i, 0, 0),
-        Decoded::RefusedAt { refusal, index } => answer(refusal, index, 0),
-    }
+    decoded_answer(flip::decode_restarted(description, channel, limit, payload))
 }

@@ -1,4 +1,4 @@
--- Answers as one 64-bit number, for tests of what document 01 does not export.
+-- The answer to a description (document 01, "Code description") as one 64-bit number, for tests.
 use Prim.Native.Nat.{ℕ, _+_, _*_, _^_}
 use Rattle.code.specs.declared.Description.{Description}
 use Rattle.code.specs.declared.Description.the-variants.{Code, Refused}

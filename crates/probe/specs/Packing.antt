@@ -1,4 +1,5 @@
--- Packing and unpacking for callers that promise nothing: a number, and the bytes that the output holds afterwards.
+-- Packing and masks (document 01, "Check and encoder" and "Code description") for tests, which promise nothing: a number, and the bytes
+-- that the output holds afterwards.
 use mathlib.Core.Bool.{Bool, true, not, _&&_}
 use mathlib.Core.List.{List, [], _∷_}
 use Prim.Native.Nat.{ℕ, _*_}
@@ -8,6 +9,7 @@ use Rattle.laws.specs.Choice.{firstOr}
 use Rattle.bits.specs.Mask.{maskBit, onesIn}
 use Rattle.bits.specs.Packing.{bytesFor, packed, unpacked}
 
+-- whether each number is 0 or 1
 abbrev pub allBits : List ℕ → Bool
 allBits [] = true
 allBits (x ∷ xs) = ltb x 2 && allBits xs

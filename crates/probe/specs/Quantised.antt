@@ -1,4 +1,4 @@
--- The quantiser's answer for tests: the peak, two numbers, and the output bytes.
+-- The answer of document 01, "Sample quantiser", for tests: the peak, two numbers, and the output bytes.
 use mathlib.Core.List.{List}
 use Prim.Native.Nat.{ℕ}
 use lib.Ieee.{Float}
@@ -13,5 +13,6 @@ told (Done s) numbers = (s .peak, set (set numbers 0 0) 1 (s .clipped))
 told (Refused i) numbers = (plusZero, set (set numbers 0 i) 1 0)
 told (RefusedAt i k) numbers = (plusZero, set (set numbers 0 i) 1 k)
 
+-- the same with the output bytes
 abbrev pub toldBy : Quantised × List ℕ → List ℕ → (Float × List ℕ) × List ℕ
 toldBy answer numbers = (told (answer .0) numbers, answer .1)

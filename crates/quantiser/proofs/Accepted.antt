@@ -7,7 +7,7 @@ use native.Mathlib.Omega.{arith}
 use borrow.Author.Tests.{eqb-true, ltb-false, not-false}
 use lib.Dec.{T}
 use lib.IntN.{natAbs}
-use lib.Ieee.{Float, isNan}
+use lib.Ieee.{Float}
 use lib.ListN.{length, getD}
 use Rattle.laws.specs.Choice.{firstOr}
 use Rattle.laws.proofs.Choice.{first-none, first-past}
@@ -15,9 +15,8 @@ use Rattle.laws.proofs.Table.{length-table, getD-table}
 use Rattle.quantiser.specs.declared.Summary.{Summary}
 use Rattle.quantiser.specs.declared.Quantised.{Quantised}
 use Rattle.quantiser.specs.declared.Quantised.the-variants.{Done, Refused, RefusedAt}
-use Rattle.quantiser.specs.First.{firstIndex}
 use Rattle.quantiser.specs.Level.{plusZero, magnitude, level, byteOf}
-use Rattle.quantiser.specs.Quantise.{product, peakOf, bytes, summary, validScale, accepted, quantised, Admitted}
+use Rattle.quantiser.specs.Quantise.{product, peakOf, bytes, summary, validScale, firstNan, accepted, quantised, Admitted}
 use Rattle.quantiser.proofs.Numbers.{admitted-number}
 use Rattle.quantiser.proofs.Totals.{Under, peak-above, peak-reached}
 use Rattle.quantiser.proofs.Level.{channelValue, channel-byte, level-le}
@@ -50,7 +49,7 @@ module _ (scale : Float) (samples : List Float) (output : List ℕ) (s : Summary
   pub admitted : Admitted scale samples output × (accepted scale samples ≡ answer)
   unfolding quantised
   admitted =
-      let k = firstIndex isNan samples in
+      let k = firstNan samples in
       let t20 = next (Refused 20) (not-done 20 s) _ _ done in
       let t21 = next (Refused 21) (not-done 21 s) _ _ (t20 .1) in
       let t22 = next (RefusedAt 22 k) (not-done-at 22 k s) _ _ (t21 .1) in (

@@ -1,4 +1,3 @@
-pub mod First
 pub mod Nearest
 pub mod Pattern
 pub mod Numbers

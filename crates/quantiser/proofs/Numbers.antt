@@ -10,8 +10,8 @@ use lib.Ieee.Compare.{differs-from-itself, nan-differs}
 use lib.Ieee.Fits.{and-l}
 use lib.ListN.{length, getD}
 use Rattle.laws.proofs.Choice.{cond-ind}
+use Rattle.laws.proofs.First.{first-before}
 use Rattle.quantiser.specs.Quantise.{product, validScale, Admitted}
-use Rattle.quantiser.proofs.First.{before-first}
 
 -- `y != y`
 pub differs-nan : (y : Float) → ne y y ≡ true → isNan y ≡ true
@@ -55,4 +55,4 @@ product-number f (fin false m e) (fin t q d) v n = round-number f _ _ _
 -- so every product of an admitted call is
 pub admitted-number : {scale : Float} {samples : List Float} {output : List ℕ} → Admitted scale samples output → (k : ℕ) → k < length samples → T (not (isNan (product scale samples k)))
 admitted-number {scale} {samples} a k h =
-    product-number binary32 scale (getD samples k nan) (a .scale-valid) (before-first isNan nan samples k (omega (arith, a .all-numbers)))
+    product-number binary32 scale (getD samples k nan) (a .scale-valid) (first-before (λ i. isNan (getD samples i nan)) (length samples) k (omega (arith, a .all-numbers)))

@@ -38,6 +38,7 @@ abbrev pub clip : ℤ → ℤ
 clip (pos n) = pos (min 31 n)
 clip (negsuc n) = negℤ (pos (min 31 (suc n)))
 
+-- the whole number that the output byte stands for
 unfoldable pub level : Float → ℤ
 level p = clip (whole p)
 

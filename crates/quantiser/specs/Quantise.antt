@@ -7,11 +7,11 @@ use lib.Dec.{T, ltb, eqb}
 use lib.Ieee.{Float, nan, inf, binary32, mul, lt, isNan}
 use lib.ListN.{length, getD}
 use Rattle.laws.specs.Choice.{firstOr}
+use Rattle.laws.specs.First.{firstWhere}
 use Rattle.laws.specs.Segment.{table}
 use Rattle.quantiser.specs.declared.Summary.{Summary}
 use Rattle.quantiser.specs.declared.Quantised.{Quantised}
 use Rattle.quantiser.specs.declared.Quantised.the-variants.{Done, Refused, RefusedAt}
-use Rattle.quantiser.specs.First.{firstIndex}
 use Rattle.quantiser.specs.Level.{plusZero, magnitude, level, isClipped, byteOf}
 
 -- p for sample i: scale · y, rounded a single time
@@ -35,6 +35,7 @@ unfoldable pub clippedOf : (ℕ → Float) → ℕ → ℕ
 clippedOf p zero = 0
 clippedOf p (suc n) = clippedOf p n + cond (isClipped (p n)) 1 0
 
+-- what the answer carries
 abbrev pub summary : (ℕ → Float) → ℕ → Summary
 summary p n = record { peak = peakOf p n; clipped = clippedOf p n }
 
@@ -42,11 +43,15 @@ summary p n = record { peak = peakOf p n; clipped = clippedOf p n }
 unfoldable pub validScale : Float → Bool
 validScale scale = lt plusZero scale && lt scale (inf false)
 
+-- the first index of a sample that is not a number, or the length
+abbrev pub firstNan : List Float → ℕ
+firstNan samples = firstWhere (λ i. isNan (getD samples i nan)) (length samples)
+
 -- the refusals in order, each test beside its answer and the output as it was: `Refused i` is refusal i, `RefusedAt i k` refusal i
 -- with index k
 abbrev pub refusals : Float → List Float → List ℕ → List (Bool × (Quantised × List ℕ))
 refusals scale samples output =
-    let k = firstIndex isNan samples in
+    let k = firstNan samples in
     (not (eqb (length samples) (length output)), (Refused 20, output))
     ∷ (not (validScale scale), (Refused 21, output))
     ∷ (ltb k (length samples), (RefusedAt 22 k, output))
@@ -67,4 +72,4 @@ quantised scale samples output = firstOr (refusals scale samples output) (accept
 pub record Admitted (scale : Float) (samples : List Float) (output : List ℕ) : Type 0 where
   pub same-length : length samples ≡ length output
   pub scale-valid : T (validScale scale)
-  pub all-numbers : length samples ≤ firstIndex isNan samples
+  pub all-numbers : length samples ≤ firstNan samples

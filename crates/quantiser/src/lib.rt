@@ -4,9 +4,8 @@ ghost use mathlib.Core.Bool.{not, cond};
 ghost use Prim.Native.Nat.{_<_, min, max};
 ghost use lib.Dec.{T};
 ghost use lib.Ieee.{isNan};
-ghost use Rattle.quantiser.specs.First.{firstIndex};
 ghost use Rattle.quantiser.specs.Level.{magnitude, nearest, quarters, level, isClipped, byteOf};
-ghost use Rattle.quantiser.specs.Quantise.{larger, validScale, accepted, quantised, Admitted};
+ghost use Rattle.quantiser.specs.Quantise.{larger, validScale, firstNan, accepted, quantised, Admitted};
 
 // What is told of the products: the largest magnitude, and how many were clipped.
 pub struct Summary {
@@ -121,7 +120,7 @@ fn is_valid(scale: f32) -> bool
 
 // The index of the first sample that is not a number, or the length.
 fn first_nan(samples: &[f32]) -> usize
-    ensures { λ i. ⌜ i ≡ firstIndex isNan (now (samples .entry)) ⌝ }
+    ensures { λ i. ⌜ i ≡ firstNan (now (samples .entry)) ⌝ }
 {
     let mut i = 0usize;
     while i < samples.len() {

@@ -1,4 +1,4 @@
--- The sizes of the program's buffers, and what fits them.
+-- For the contracts of document 01, "Program `receive`": the sizes of its buffers, and what fits them.
 use mathlib.Core.List.{List}
 use Prim.Native.Nat.{ℕ, _≤_}
 use lib.ListN.{length}

@@ -3,6 +3,7 @@ use mathlib.Core.Path.{_≡_, refl}
 use mathlib.Core.List.{List, [], _∷_}
 use Prim.Native.Nat.{ℕ}
 use Rattle.laws.specs.Choice.{firstOr}
+use Rattle.laws.specs.First.{firstWhere}
 use Rattle.laws.specs.Segment.{table}
 use Rattle.bits.specs.Bit.{number}
 use Rattle.bits.specs.Mask.{onesBelow}
@@ -13,10 +14,9 @@ use Rattle.crc.specs.Check.{checkOf}
 use Rattle.transform.specs.Transform.{covers, parity, transformed, xors}
 use Rattle.encoder.specs.Place.{taken}
 use Rattle.sc.specs.Values.{channelValue, f, g, leftValues, rightValues}
-use Rattle.sc.specs.First.{firstWhere}
 use Rattle.sc.specs.Pass.{node}
 use Rattle.order.specs.Order.{information, insert, ordered}
-use Rattle.flip.specs.Trials.{firstFrom, run}
+use Rattle.flip.specs.Trials.{run}
 use Rattle.flip.specs.Decode.{decodedBy, decodedWith}
 use Rattle.records.specs.Text.{text}
 use Rattle.records.specs.Line.{decimalIn}
@@ -30,5 +30,5 @@ abbrev D : List ℕ
 D = starredD 0xE8
 
 pub example : (responded [] D ≡ (text "code 8 3 1\n", D)) × (responded D (channelV 2) ≡ (text "ok 2 32 00\n", D)) × (responded D (channelV 1) ≡ (text "no 16\n", D))
-unfolding firstOr table number onesBelow packed describe checkOf covers parity transformed xors taken channelValue f g leftValues rightValues firstWhere node information insert ordered firstFrom run decodedBy decodedWith decimalIn descriptionResponse decodingLine channelLine responded
+unfolding firstOr table number onesBelow packed describe checkOf covers parity transformed xors taken channelValue f g leftValues rightValues firstWhere node information insert ordered run decodedBy decodedWith decimalIn descriptionResponse decodingLine channelLine responded
 example = (refl, refl, refl)

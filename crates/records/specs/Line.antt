@@ -41,6 +41,7 @@ abbrev pub fields : List (List ℕ) → List ℕ
 fields [] = text "\n"
 fields (field ∷ rest) = spaced field ++ fields rest
 
+-- a line: its first word, then its other fields
 abbrev pub line : List ℕ → List (List ℕ) → List ℕ
 line word rest = word ++ fields rest
 
@@ -60,6 +61,7 @@ noLine refusal = line (text "no") (decimal refusal ∷ [])
 abbrev pub skipLine : ℕ → List ℕ
 skipLine kind = line (text "skip") (decimal kind ∷ [])
 
+-- `cut` alone
 abbrev pub cutLine : List ℕ
 cutLine = line (text "cut") []
 

@@ -1,4 +1,4 @@
--- Text put into a buffer: what the printing functions promise.
+-- For the contracts of document 01, "Program `receive`": text put into a buffer, which the printing functions promise.
 use mathlib.Core.Path.{_≡_}
 use mathlib.Core.List.{List}
 use Prim.Native.Nat.{ℕ, _+_, _≤_}

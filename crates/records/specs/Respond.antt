@@ -31,6 +31,7 @@ answerLine (Failed trials steps) payload = noLine 16
 answerLine (Refused i) payload = noLine i
 answerLine (RefusedAt i index) payload = noLine i
 
+-- the same for both together
 abbrev pub lineOfAnswer : Decoded × List ℕ → List ℕ
 lineOfAnswer answer = answerLine (answer .0) (answer .1)
 

@@ -1,4 +1,4 @@
--- Text as bytes (ASCII).
+-- Text as bytes (ASCII), for the lines of document 01, "Program `receive`".
 use mathlib.Core.List.{List}
 use mathlib.Core.List.{[] as nil, _∷_ as cons}
 use Prim.Native.Nat.{ℕ}

@@ -1,5 +1,5 @@
 -- Bits before an index depend on the rules before it alone, and so does the leaf value at the index. Assumes nothing.
-use mathlib.Core.Path.{_≡_, refl, sym, ap₂, _∙_}
+use mathlib.Core.Path.{_≡_, sym, ap₂, _∙_}
 use mathlib.Core.List.{List}
 use Prim.Native.Nat.{ℕ, _+_, _^_, _<_, _≤_}
 use native.Mathlib.Omega.{arith}
@@ -7,7 +7,7 @@ use lib.IntN.{ℤ, pos}
 use lib.ListN.{length, getD, take}
 use Rattle.sc.specs.Values.{Rule, decided}
 use Rattle.sc.specs.Pass.{node}
-use Rattle.sc.proofs.Node.{Short, length-bits, length-leaves}
+use Rattle.sc.proofs.Node.{Short, length-bits}
 use Rattle.sc.proofs.Indices.{lt-cases, take-agree}
 use Rattle.sc.proofs.Decisions.{leafValue, leaf-before, decision}
 
@@ -38,10 +38,3 @@ module _ (s : ℕ) (p : List ℕ) (rule rule′ : ℕ → Rule) (v : List ℤ) (
   -- the leaf value at i
   pub leaf-at : (k : ℕ) → length p + k ≡ i → i < 2 ^ s → getD (node s p rule v .leaves) k (pos 0) ≡ getD (node s p rule′ v .leaves) k (pos 0)
   leaf-at k c l = same-leaf s p p rule rule′ v short short i l (bits-before (omega arith)) k k c c
-
--- so the leaf values up to and including index i
-pub leaves-upto : (s : ℕ) (p : List ℕ) (rule rule′ : ℕ → Rule) (v : List ℤ) → Short s p → (i : ℕ) → ((j : ℕ) → length p ≤ j → j < i → rule j ≡ rule′ j) → (k : ℕ) → length p + k ≤ i + 1 → length p + k ≤ 2 ^ s → take k (node s p rule v .leaves) ≡ take k (node s p rule′ v .leaves)
-leaves-upto s p rule rule′ v short i agree k c l =
-    take-agree (node s p rule v .leaves) (node s p rule′ v .leaves) (pos 0) k
-    (omega (arith, length-leaves s p rule v short)) (omega (arith, length-leaves s p rule′ v short))
-    (λ j m _. leaf-at s p rule rule′ v short (length p + j) (λ x d n. agree x d (omega arith)) j refl (omega arith))

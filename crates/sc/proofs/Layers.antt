@@ -9,13 +9,12 @@ use lib.ListN.{length, getD, drop, List·getD-map}
 use mir.Syntax.{w32}
 use Rattle.laws.specs.Segment.{table}
 use Rattle.laws.proofs.Table.{length-table}
-use Rattle.laws.proofs.Segment.{getD-segment, drop-past, drop-splice, length-splice}
+use Rattle.laws.proofs.Segment.{getD-segment, drop-past, drop-splice, length-splice, splice-nil}
 use Rattle.laws.proofs.Signed.{back, back-small}
 use Rattle.laws.proofs.Filling.{Filling, filling-past, filling-done}
 use Rattle.sc.specs.Values.{channelValue}
 use Rattle.sc.specs.Bounds.{Within}
 use Rattle.sc.specs.Layers.{nodeValues, Inner, channelValues, unless, Computed}
-use Rattle.sc.proofs.Lists.{splice-nil}
 
 -- all values of a half are computed
 pub computed : {h j steps : ℕ} {work work′ : List ℤ} {x : ℕ → ℤ} → Filling x h h work work′ j → steps ≡ j → h ≤ j → h + h ≤ length work → Computed (table x h) h work work′ steps

@@ -3,30 +3,30 @@ use mathlib.Core.Path.{_≡_, refl, sym, ap, ap₂, _∙_, subst, subst₂}
 use mathlib.Core.Bool.{Bool, true, false}
 use mathlib.Core.List.{List, [], _∷_, _++_}
 use Prim.Native.Nat.{ℕ, suc, _+_, _-_, _*_, _^_, _≤_, _<_, min}
-use native.Mathlib.Nat.{add-zero, add-assoc, mul-le-mul-left, mul-le-mul-right}
+use native.Mathlib.Nat.{add-assoc, mul-le-mul-left, mul-le-mul-right}
 use native.Mathlib.Omega.{arith}
 use borrow.Author.Tests.{le-leb, lt-leb, leb-true, leb-false}
 use lib.Dec.{leb}
-use lib.IntN.{ℤ, pos}
+use lib.IntN.{ℤ}
 use lib.ListN.{length, take, drop, getD, length-take, length-drop, length-append}
 use lib.Pow.{pow-mono, pow-pos}
-use lib.Seq.{take-take, take-all}
+use lib.Seq.{take-take}
 use Rattle.laws.specs.Segment.{segment, splice}
-use Rattle.laws.proofs.Segment.{length-segment, getD-segment, segment-back, drop-past, drop-splice, segment-splice, length-splice, splice-segment, splice-next, splice-over, segment-splice-front, segment-splice-back}
+use Rattle.laws.proofs.Segment.{take-swap, drop-of-take, length-segment, segment-back, drop-past, drop-splice, segment-splice, splice-nil, splice-next}
 use Rattle.bits.specs.Bit.{Bits}
 use Rattle.bits.proofs.Lists.{bits-take, bits-drop, bits-append}
-use Rattle.transform.specs.Transform.{transformed, xors, BitsAt}
+use Rattle.transform.specs.Transform.{xors, BitsAt}
 use Rattle.transform.proofs.BitsAt.{bits-at-splice}
-use Rattle.transform.proofs.Xors.{length-xors}
 use Rattle.transform.proofs.Halves.{Halving}
 use Rattle.sc.specs.Values.{leftValues, rightValues, Rule}
-use Rattle.sc.specs.Pass.{Out, forced, leaf, node}
+use Rattle.sc.specs.Pass.{Out, node}
 use Rattle.sc.specs.Rules.{ruleOf}
 use Rattle.sc.specs.Bounds.{Within, most}
 use Rattle.sc.specs.Layers.{addable, nodeValues, Inner, unless, Computed}
 use Rattle.sc.specs.Arrays.{Arrays, arrays, Whole, forcedBits, rulesFrom, deepest, NodeOn, nodeOf, Placed, Worked}
-use Rattle.sc.proofs.Node.{leftOf, left, right, halves, length-left, length-right, length-bits, length-sums, length-leaves, node-forced, node-leaf, node-halves}
-use Rattle.sc.proofs.Lists.{splice-nil, take-swap, drop-of-take}
+use Rattle.sc.proofs.Node.{leftOf, left, right, halves, length-left, length-right, length-bits, length-sums, length-leaves, node-forced, node-halves}
+use Rattle.sc.proofs.Ending.{worked-whole}
+use Rattle.sc.proofs.Combined.{combined-sums}
 use Rattle.sc.proofs.Bounds.{within-left, within-right, within-more, most-below}
 use Rattle.sc.proofs.Layers.{computed-whole, computed-kept}
 use Rattle.sc.proofs.Sums.{bits-sums}
@@ -35,93 +35,6 @@ use Rattle.sc.proofs.StepsMost.{left-most, steps-most}
 length-none : {A : Type 0} (l : List A) → length l ≡ 0 → l ≡ []
 length-none [] e = refl
 length-none (x ∷ l) e = absurd (omega arith)
-
-module _ {room layer size base q : ℕ} {a : Arrays} {v : List ℤ} (rules : List ℕ) (p : NodeOn room layer size base q a v) where
-  -- the forced bits of the node
-  abbrev P : List ℕ
-  P = forcedBits (a .bits) base size q
-
-  abbrev here : Out
-  here = nodeOf layer size base q rules (a .bits) v
-
-  long : length (segment (a .bits) base size) ≡ size
-  long = length-segment (a .bits) base size (omega (arith, p .fits, p .whole .bits))
-
-  short : length P ≤ 2 ^ layer
-  short = omega (arith, length-take (q - base) (segment (a .bits) base size), long, p .pow)
-
-  -- every array keeps its length
-  pub worked-whole : {a′ : Arrays} {count : ℕ} → Worked here size base (length P) a a′ count → Whole room a′
-  worked-whole w =
-      let f = p .fits in
-      let pw = p .pow in
-      let nb = length-bits layer P (rulesFrom rules base) v short in
-      let ns = length-sums layer P (rulesFrom rules base) v in
-      let nl = length-leaves layer P (rulesFrom rules base) v short in
-      let wb = p .whole .bits in
-      let ws = p .whole .sums in
-      let wl = p .whole .leaves in
-      record {
-        work = w .whole ∙ p .whole .work;
-        bits = ap length (w .placed .bits) ∙ length-splice (a .bits) base (here .bits) _ refl (omega arith) ∙ wb;
-        sums = ap length (w .sums) ∙ length-splice (a .sums) base (here .sums) _ refl (omega arith) ∙ ws;
-        leaves = ap length (w .placed .leaves) ∙ length-splice (a .leaves) (base + length P) (here .leaves) _ refl (omega arith) ∙ wl;
-      }
-
-  -- all bits are forced
-  module _ (l : base + size ≤ q) where
-    all : P ≡ segment (a .bits) base size
-    all = take-all (q - base) (segment (a .bits) base size) (omega (arith, long))
-
-    pub forced-bits : BitsAt room (a .bits) base size
-    forced-bits = record { whole = p .whole .bits; fits = p .fits; bits = subst Bits all (p .bits) }
-
-    forced-is : here ≡ forced layer (segment (a .bits) base size)
-    forced-is =
-        node-forced layer P (rulesFrom rules base) v (omega (arith, ap length all, long, p .pow)) ∙ ap (forced layer) all
-
-    pub forced-worked : {sums′ : List ℕ} → sums′ ≡ splice (a .sums) base (transformed layer (segment (a .bits) base size)) → Worked here size base (length P) a (arrays (a .work) (a .bits) sums′ (a .leaves)) 0
-    forced-worked {sums′} e =
-        subst (λ (o : Out). Worked o size base (length P) a (arrays (a .work) (a .bits) sums′ (a .leaves)) 0) (sym forced-is)
-        (record {
-          placed = record {
-            bits = sym (splice-segment (a .bits) base size (omega (arith, p .fits, p .whole .bits)));
-            leaves = sym (splice-nil (a .leaves) (base + length P));
-            steps = refl;
-          };
-          sums = e;
-          kept = refl;
-          whole = refl;
-        })
-
-  -- a leaf whose bit is decided
-  module _ (more : q < base + size) (none : layer ≡ 0) where
-    one : size ≡ 1
-    one = p .pow ∙ ap (λ (k : ℕ). 2 ^ k) none
-
-    pub leaf-fits : base < room
-    leaf-fits = omega (arith, one, p .fits)
-
-    empty : length P ≡ 0
-    empty = omega (arith, one, length-take (q - base) (segment (a .bits) base size))
-
-    leaf-is : here ≡ leaf (ruleOf (getD rules base 0)) (getD v 0 (pos 0))
-    leaf-is =
-        ap (λ (n : ℕ). node n P (rulesFrom rules base) v) none
-        ∙ node-leaf P (rulesFrom rules base) v (omega (arith, empty))
-        ∙ ap (λ (k : ℕ). leaf (ruleOf (getD rules k 0)) (getD v 0 (pos 0))) (add-zero base)
-
-    -- its value stands at 1
-    pub leaf-value : v ≡ segment (a .work) size size → getD (a .work) 1 (pos 0) ≡ getD v 0 (pos 0)
-    leaf-value own =
-        let e : 1 ≡ size + 0 = omega (arith, one) in
-        ap (λ (k : ℕ). getD (a .work) k (pos 0)) e ∙ sym (getD-segment (a .work) size size 0 (pos 0) (omega (arith, one)))
-        ∙ ap (λ (x : List ℤ). getD x 0 (pos 0)) (sym own)
-
-    pub leaf-worked : {x : ℤ} {a′ : Arrays} → x ≡ getD v 0 (pos 0) → Worked (leaf (ruleOf (getD rules base 0)) x) 1 base 0 a a′ 0 → Worked here size base (length P) a a′ 0
-    leaf-worked {x} {a′} e w =
-        subst₂ (λ (n k : ℕ). Worked here n base k a a′ 0) (sym one) (sym empty)
-        (subst (λ (o : Out). Worked o 1 base 0 a a′ 0) (ap (leaf (ruleOf (getD rules base 0))) e ∙ sym leaf-is) w)
 
 -- ---- two halves
 
@@ -398,11 +311,7 @@ module _ {room layer size n h base q : ℕ} {a : Arrays} {v : List ℤ} (rules :
           halves-worked total e = record {
             placed = let r = placed total in record { bits = r .bits; leaves = r .leaves; steps = r .steps };
             sums =
-                e ∙ ap (λ (s : List ℕ). splice s base (xors h (segment s base h) (segment s (base + h) h))) both-sums
-                ∙ ap₂ (λ (x y : List ℕ). splice (splice (a .sums) base (L .sums ++ R .sums)) base (xors h x y))
-                (segment-splice-front (a .sums) base (L .sums) (R .sums) h h length-L-sums length-R-sums room-sums)
-                (segment-splice-back (a .sums) base (L .sums) (R .sums) h h length-L-sums length-R-sums room-sums)
-                ∙ splice-over (a .sums) base (L .sums) (R .sums) h h length-L-sums length-R-sums room-sums (xors h (L .sums) (R .sums)) (length-xors h (L .sums) (R .sums))
+                combined-sums (a .sums) base (L .sums) (R .sums) length-L-sums length-R-sums (omega (arith, d .two, p .fits, p .whole .sums)) both-sums e
                 ∙ ap (λ (o : Out). splice (a .sums) base (o .sums)) (sym halves-are);
             kept =
                 ap (λ (k : ℕ). drop k (a₄ .work)) (d .two)
@@ -411,9 +320,6 @@ module _ {room layer size n h base q : ℕ} {a : Arrays} {v : List ℤ} (rules :
                 ∙ ap (λ (k : ℕ). drop k (a .work)) (sym (d .two));
             whole = whole₄ .work ∙ sym (p .whole .work);
           }
-            where
-              room-sums : base + (h + h) ≤ length (a .sums)
-              room-sums = omega (arith, d .two, p .fits, p .whole .sums)
 
 -- ---- an inner node, whose own values stand in the working array
 

@@ -10,7 +10,7 @@ use lib.ListN.{length, take}
 use lib.Pow.{pow-pos}
 use lib.Seq.{take-take, length-take-le}
 use Rattle.laws.specs.Segment.{segment, splice}
-use Rattle.laws.proofs.Segment.{splice-segment}
+use Rattle.laws.proofs.Segment.{splice-nil, splice-segment}
 use Rattle.bits.specs.Bit.{Bits}
 use Rattle.transform.proofs.Halves.{Halving}
 use Rattle.sc.specs.Values.{leftValues, rightValues, Rule}
@@ -19,7 +19,6 @@ use Rattle.sc.specs.Rules.{ruleAt}
 use Rattle.sc.specs.Layers.{channelValues, Root, unless, Computed}
 use Rattle.sc.specs.Arrays.{Arrays, arrays, forcedBits, deepest, NodeOn, nodeOf, Worked, PassOn, passOf, Passed}
 use Rattle.sc.proofs.Node.{node-forced}
-use Rattle.sc.proofs.Lists.{splice-nil}
 use Rattle.sc.proofs.Bounds.{within-more}
 use Rattle.sc.proofs.Recursion.{half-fits, left-at, whole₂, whole₄, right-at, placed, left-few, right-few}
 

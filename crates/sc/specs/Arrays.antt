@@ -1,4 +1,5 @@
--- The arrays that a pass works on, and what a node's call asks of them and leaves in them.
+-- For the contracts of document 01, "A decoding pass": the arrays that a pass works on, and what a node's call asks of them and leaves in
+-- them.
 use mathlib.Core.Path.{_≡_}
 use mathlib.Core.List.{List}
 use Prim.Native.Nat.{ℕ, _+_, _-_, _^_, _≤_, _<_}
@@ -67,8 +68,24 @@ pub record Worked (o : Out) (size base k : ℕ) (a a′ : Arrays) (count : ℕ) 
   pub kept : drop size (a′ .work) ≡ drop size (a .work)
   pub whole : length (a′ .work) ≡ length (a .work)
 
+-- ---- a node without forced bits, worked on by value
+
+-- `size` indices from `base` on lie within arrays of `room` entries: bits b, sums s, leaf values v
+pub record Holds (room size base : ℕ) (b s : List ℕ) (v : List ℤ) : Type 0 where
+  pub fits : base + size ≤ room
+  pub bits : length b ≡ room
+  pub sums : length s ≡ room
+  pub leaves : length v ≡ room
+
+-- o in its place, from `base` on
+pub record Laid (o : Out) (base : ℕ) (b s : List ℕ) (v : List ℤ) (b′ s′ : List ℕ) (v′ : List ℤ) : Type 0 where
+  pub bits : b′ ≡ splice b base (o .bits)
+  pub sums : s′ ≡ splice s base (o .sums)
+  pub leaves : v′ ≡ splice v base (o .leaves)
+
 -- ---- a whole pass
 
+-- a pass on 2^n channel values whose first q bits are forced
 pub record PassOn (room n q : ℕ) (channel : List ℕ) (a : Arrays) : Type 0 where
   pub n-least : 1 ≤ n
   pub n-most : n ≤ deepest

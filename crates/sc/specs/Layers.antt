@@ -1,4 +1,5 @@
--- The working array: the 2^s values of the node that is worked on at layer s stand from index 2^s on, below the root.
+-- For the contracts of document 01, "A decoding pass": the working array. Below the root, the 2^s values of the node that is worked on at
+-- layer s stand from index 2^s on.
 use mathlib.Core.Path.{_≡_}
 use mathlib.Core.Bool.{Bool, cond}
 use mathlib.Core.List.{List, [], map}
@@ -13,10 +14,11 @@ use Rattle.sc.specs.Bounds.{Within}
 abbrev pub addable : ℕ
 addable = 2 ^ 30 - 1
 
--- the 2h values of an inner node, within an array of `size` entries
+-- the 2h values of an inner node
 abbrev pub nodeValues : List ℤ → ℕ → List ℤ
 nodeValues work h = segment work (h + h) (h + h)
 
+-- an array of `size` entries that holds them; any two of them can be added
 pub record Inner (size : ℕ) (work : List ℤ) (h : ℕ) : Type 0 where
   pub whole : length work ≡ size
   pub fits : h + h + (h + h) ≤ size
@@ -26,6 +28,7 @@ pub record Inner (size : ℕ) (work : List ℤ) (h : ℕ) : Type 0 where
 abbrev pub channelValues : List ℕ → List ℤ
 channelValues channel = map channelValue channel
 
+-- 2h channel values within their range, and an array of `size` entries that has room for the values of a half
 pub record Root (size : ℕ) (channel : List ℕ) (work : List ℤ) (h : ℕ) : Type 0 where
   pub whole : length work ≡ size
   pub fits : h + h ≤ size

@@ -4,6 +4,5 @@ pub mod Rules
 pub mod Bounds
 pub mod Layers
 pub mod Arrays
-pub mod First
-pub mod Resume
+pub mod Outside
 pub mod Skipped

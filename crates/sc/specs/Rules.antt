@@ -1,4 +1,5 @@
--- The rule of each index as a byte: bit 0 marks an information index, bit 1 the opposite decision.
+-- For the contracts of document 01, "A decoding pass": the rule of each index as a byte. Bit 0 marks an information index, bit 1
+-- the opposite decision.
 use mathlib.Core.Path.{_≡_}
 use mathlib.Core.Bool.{cond}
 use mathlib.Core.List.{List}
@@ -9,6 +10,7 @@ use Rattle.bits.specs.Bit.{bit}
 use Rattle.bits.specs.Mask.{maskBit}
 use Rattle.sc.specs.Values.{Rule, frozen, usual, opposite}
 
+-- the rule that a byte stands for
 unfoldable pub ruleOf : ℕ → Rule
 ruleOf code = cond (eqb (bit code 0) 0) frozen (cond (eqb (bit code 1) 0) usual opposite)
 

@@ -39,6 +39,7 @@ pub data Rule : Type 0 where
   usual : Rule
   opposite : Rule
 
+-- the bit at a leaf with value v
 abbrev pub decided : Rule → ℤ → ℕ
 decided frozen v = 0
 decided usual v = hard v

@@ -1,21 +1,24 @@
-// One decoding pass by successive cancellation, and resume.
-use code::Description;
+// One decoding pass by successive cancellation.
 use transform::BitArray;
 use transform::SIZE;
 use transform::combine;
 use transform::transform;
 ghost use mathlib.Core.Path.{_≡_};
+ghost use mathlib.Core.Bool.{_&&_};
+ghost use mathlib.Core.List.{[], _∷_};
 ghost use Prim.Native.Nat.{_+_, _*_, _^_, _<_, _≤_, min};
+ghost use lib.Dec.{eqb, leb};
 ghost use lib.IntN.{pos, natAbs};
-ghost use lib.ListN.{length, getD, take};
+ghost use lib.ListN.{length};
 ghost use Rattle.laws.specs.Segment.{segment, splice};
 ghost use Rattle.transform.specs.Transform.{transformed, BitsAt};
 ghost use Rattle.sc.specs.Values.{channelValue, hard, f, g, leftValues, rightValues, decided};
-ghost use Rattle.sc.specs.Pass.{leaf};
-ghost use Rattle.sc.specs.Rules.{ruleOf, maskRule, Ruled};
+ghost use Rattle.sc.specs.Pass.{leaf, node};
+ghost use Rattle.sc.specs.Rules.{ruleOf, ruleAt, maskRule, Ruled};
+ghost use Rattle.sc.specs.Bounds.{Within, most};
 ghost use Rattle.sc.specs.Layers.{nodeValues, Inner, channelValues, Root, unless, Computed};
-ghost use Rattle.sc.specs.Arrays.{arrays, Whole, forcedBits, deepest, NodeOn, nodeOf, Worked, PassOn, passOf, Passed};
-ghost use Rattle.sc.specs.Resume.{firstOutside, badBit, firstBad, resumePass, Resumable, resumedCode, resumed};
+ghost use Rattle.sc.specs.Arrays.{arrays, rulesFrom, forcedBits, deepest, Holds, Laid, NodeOn, nodeOf, Worked, PassOn, passOf, Passed};
+ghost use Rattle.sc.specs.Outside.{firstOutside};
 
 // A working array of values: below the root, those of the node at layer s stand from index 2^s on.
 pub type ValueArray = [i32; SIZE];
@@ -38,13 +41,6 @@ impl Work {
             steps: self.steps + other.steps,
         }
     }
-}
-
-// What resume answers: the steps made, or the number of the refusal, in two cases with its first index.
-pub enum Resumed {
-    Done { steps: u32 },
-    Refused(u8),
-    RefusedAt { refusal: u8, index: u32 },
 }
 
 // A channel byte in two's complement.
@@ -191,23 +187,79 @@ fn rebuild(layer: u32, size: usize, base: usize, bits: &BitArray, sums: &mut Bit
     transform(layer, size, base, sums);
 }
 
-// A leaf whose bit is decided: its value is work[1].
+// A leaf whose bit is decided by its value; the bit comes back.
 fn leaf(
+    base: usize,
+    value: i32,
+    rules: &RuleArray,
+    bits: &mut BitArray,
+    sums: &mut BitArray,
+    leaves: &mut ValueArray,
+) -> u8
+    requires { do ⌜ Holds (← ⟦SIZE⟧) 1 base (now bits) (now sums) (now leaves) ⌝ }
+    ensures { λ bit. ⌜ (bit ≡ decided (ruleAt (now (rules .entry)) base) value) × Laid (leaf (ruleAt (now (rules .entry)) base) value) base (now (bits .entry)) (now (sums .entry)) (now (leaves .entry)) (now (bits .exit)) (now (sums .exit)) (now (leaves .exit)) ⌝ }
+{
+    let bit = decide(rules[base], value);
+    bits[base] = bit;
+    sums[base] = bit;
+    leaves[base] = value;
+    bit
+}
+
+// A node of layer 1 with no forced bit, whose values are a and b.
+fn decode_two(
+    base: usize,
+    a: i32,
+    b: i32,
+    rules: &RuleArray,
+    bits: &mut BitArray,
+    sums: &mut BitArray,
+    leaves: &mut ValueArray,
+) -> Work
+    requires { do ⌜ Holds (← ⟦SIZE⟧) 2 base (now bits) (now sums) (now leaves) × (natAbs a + natAbs b < 2 ^ 31) ⌝ }
+    ensures { λ r. ⌜ Laid (node 1 [] (rulesFrom (now (rules .entry)) base) (a ∷ b ∷ [])) base (now (bits .entry)) (now (sums .entry)) (now (leaves .entry)) (now (bits .exit)) (now (sums .exit)) (now (leaves .exit)) × (r .steps ≡ 2) ⌝ }
+{
+    let mut steps = 0;
+    let first = leaf(base, f(a, b), rules, bits, sums, leaves);
+    steps += 1;
+    leaf(base + 1, g(a, b, first), rules, bits, sums, leaves);
+    steps += 1;
+    combine(sums, base, 1);
+    Work { steps }
+}
+
+// A node of layer 2 with no forced bit. Most calls of a pass are at or below this layer, so that it has no loop and no recursion.
+fn decode_four(
     base: usize,
     rules: &RuleArray,
     work: &ValueArray,
     bits: &mut BitArray,
     sums: &mut BitArray,
     leaves: &mut ValueArray,
-)
-    requires { do ⌜ (base < (← ⟦SIZE⟧)) × Whole (← ⟦SIZE⟧) (arrays (now work) (now bits) (now sums) (now leaves)) ⌝ }
-    ensures { λ _. ⌜ Worked (leaf (ruleOf (getD (now (rules .entry)) base 0)) (getD (now (work .entry)) 1 (pos 0))) 1 base 0 (arrays (now (work .entry)) (now (bits .entry)) (now (sums .entry)) (now (leaves .entry))) (arrays (now (work .entry)) (now (bits .exit)) (now (sums .exit)) (now (leaves .exit))) 0 ⌝ }
+) -> Work
+    requires { do ⌜ Holds (← ⟦SIZE⟧) 4 base (now bits) (now sums) (now leaves) × Within (most deepest 2) (segment (now work) 4 4) ⌝ }
+    ensures { λ r. ⌜ Laid (node 2 [] (rulesFrom (now (rules .entry)) base) (segment (now (work .entry)) 4 4)) base (now (bits .entry)) (now (sums .entry)) (now (leaves .entry)) (now (bits .exit)) (now (sums .exit)) (now (leaves .exit)) × (r .steps ≡ 8) ⌝ }
 {
-    let value = work[1];
-    let bit = decide(rules[base], value);
-    bits[base] = bit;
-    sums[base] = bit;
-    leaves[base] = value;
+    let a = work[4];
+    let b = work[5];
+    let c = work[6];
+    let d = work[7];
+    let mut steps = 0;
+    let l = decode_two(base, f(a, c), f(b, d), rules, bits, sums, leaves);
+    steps += 2;
+    let s = sums[base];
+    let t = sums[base + 1];
+    let r = decode_two(base + 2, g(a, c, s), g(b, d, t), rules, bits, sums, leaves);
+    steps += 2;
+    combine(sums, base, 2);
+    Work { steps }.plus(l.plus(r))
+}
+
+// Whether a node is of layer 2 and has no forced bit.
+fn is_free_four(layer: u32, base: usize, q: usize) -> bool
+    ensures { λ b. ⌜ b ≡ (eqb layer 2 && leb q base) ⌝ }
+{
+    layer == 2 && q <= base
 }
 
 // A node below the root: `size` is 2^layer, and its indices start at `base`. Bits at indices below q are forced.
@@ -229,8 +281,11 @@ fn decode_node(
         rebuild(layer, size, base, bits, sums);
         return Work { steps: 0 };
     }
+    if is_free_four(layer, base, q) {
+        return decode_four(base, rules, work, bits, sums, leaves);
+    }
     if layer == 0 {
-        leaf(base, rules, work, bits, sums, leaves);
+        leaf(base, work[1], rules, bits, sums, leaves);
         return Work { steps: 0 };
     }
     let h = size / 2;
@@ -293,124 +348,4 @@ pub fn first_outside(channel: &[u8]) -> usize
         i += 1;
     }
     i
-}
-
-// Whether a prefix byte is other than 0 or 1, or a 1 at a frozen index, which the mask does not mark.
-fn is_bad(byte: u8, marked: u8) -> bool
-    ensures { λ b. ⌜ b ≡ badBit byte marked ⌝ }
-{
-    1 < byte || byte == 1 && marked == 0
-}
-
-// The first index of such a byte, or the prefix's length.
-fn first_bad(mask: &[u8], prefix: &[u8]) -> usize
-    requires { ⌜ length (now prefix) ≤ 8 * length (now mask) ⌝ }
-    ensures { λ r. ⌜ r ≡ firstBad (now (mask .entry)) (now (prefix .entry)) ⌝ }
-{
-    let mut i = 0;
-    while i < prefix.len() {
-        if is_bad(prefix[i], bits::mask_bit(mask, i)) {
-            return i;
-        }
-        i += 1;
-    }
-    i
-}
-
-// Puts a prefix in its place.
-fn copy_in(prefix: &[u8], bits: &mut BitArray)
-    requires { do ⌜ (length (now prefix) ≤ (← ⟦SIZE⟧)) × (length (now bits) ≡ (← ⟦SIZE⟧)) ⌝ }
-    ensures { λ _. ⌜ now (bits .exit) ≡ splice (now (bits .entry)) 0 (now (prefix .entry)) ⌝ }
-{
-    let mut i = 0;
-    while i < prefix.len() {
-        bits[i] = prefix[i];
-        i += 1;
-    }
-}
-
-// Takes as many bits as the output holds.
-fn copy_out(bits: &BitArray, output: &mut [u8])
-    requires { do ⌜ (length (now output) ≤ (← ⟦SIZE⟧)) × (length (now bits) ≡ (← ⟦SIZE⟧)) ⌝ }
-    ensures { λ _. ⌜ now (output .exit) ≡ take (length (now (output .entry))) (now (bits .entry)) ⌝ }
-{
-    let mut i = 0;
-    while i < output.len() {
-        output[i] = bits[i];
-        i += 1;
-    }
-}
-
-// The pass of an accepted call.
-fn resume_pass(n: u32, mask: &[u8], channel: &[u8], prefix: &[u8], output: &mut [u8]) -> Work
-    requires { ⌜ Resumable n (now mask) (now channel) (now prefix) (now output) ⌝ }
-    ensures { λ r. ⌜ (r .steps ≡ resumePass n (now (mask .entry)) (now (channel .entry)) (now (prefix .entry)) .steps) × (now (output .exit) ≡ resumePass n (now (mask .entry)) (now (channel .entry)) (now (prefix .entry)) .bits) ⌝ }
-{
-    let mut rules = [0u8; SIZE];
-    let mut work = [0i32; SIZE];
-    let mut bits = [0u8; SIZE];
-    let mut sums = [0u8; SIZE];
-    let mut leaves = [0i32; SIZE];
-    rules_from(mask, &mut rules);
-    copy_in(prefix, &mut bits);
-    let done = pass(
-        n,
-        prefix.len(),
-        channel,
-        &rules,
-        &mut work,
-        &mut bits,
-        &mut sums,
-        &mut leaves,
-    );
-    copy_out(&bits, output);
-    done
-}
-
-// The operation under a code of length 2^n.
-fn resume_code(n: u32, mask: &[u8], channel: &[u8], prefix: &[u8], output: &mut [u8]) -> Resumed
-    requires { ⌜ (1 ≤ n) × (n ≤ deepest) × (8 * length (now mask) ≡ 2 ^ n) ⌝ }
-    ensures { λ r. ⌜ (r, now (output .exit)) ≡ resumedCode n (now (mask .entry)) (now (channel .entry)) (now (prefix .entry)) (now (output .entry)) ⌝ }
-{
-    let size = 1usize << n;
-    if channel.len() != size {
-        return Resumed::Refused(12);
-    }
-    let outside = first_outside(channel);
-    if outside < channel.len() {
-        return Resumed::RefusedAt {
-            refusal: 13,
-            index: outside as u32,
-        };
-    }
-    if size < prefix.len() {
-        return Resumed::Refused(17);
-    }
-    let bad = first_bad(mask, prefix);
-    if bad < prefix.len() {
-        return Resumed::RefusedAt {
-            refusal: 18,
-            index: bad as u32,
-        };
-    }
-    if output.len() != size {
-        return Resumed::Refused(19);
-    }
-    let done = resume_pass(n, mask, channel, prefix, output);
-    Resumed::Done { steps: done.steps }
-}
-
-// All N bits of a pass whose first bits are the prefix, one a byte.
-pub fn resume(description: &[u8], channel: &[u8], prefix: &[u8], output: &mut [u8]) -> Resumed
-    ensures { λ r. ⌜ (r, now (output .exit)) ≡ resumed (now (description .entry)) (now (channel .entry)) (now (prefix .entry)) (now (output .entry)) ⌝ }
-{
-    match code::read_description(description) {
-        Description::Code {
-            n,
-            r: _,
-            polynomial: _,
-            k: _,
-        } => resume_code(n, code::mask_of(description), channel, prefix, output),
-        Description::Refused(refusal) => Resumed::Refused(refusal),
-    }
 }

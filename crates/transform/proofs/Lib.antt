@@ -3,5 +3,7 @@ pub mod Parity
 pub mod Xors
 pub mod Transformed
 pub mod BitsAt
+pub mod Folded
+pub mod Packed
 pub mod Halves
 pub mod Example

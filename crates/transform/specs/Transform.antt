@@ -23,6 +23,7 @@ parity f (suc n) = (parity f n + f n) % 2
 abbrev pub codeBit : ℕ → List ℕ → ℕ → ℕ
 codeBit n u j = parity (λ i. cond (covers n i j) (getD u i 0) 0) (2 ^ n)
 
+-- x_0, …, x_(2^n - 1)
 unfoldable pub transformed : ℕ → List ℕ → List ℕ
 transformed n u = table (codeBit n u) (2 ^ n)
 

@@ -7,17 +7,13 @@ use denote.Ref.{now}
 use Rattle.code.specs.declared.Description.{Description}
 use Rattle.code.specs.declared.Description.the-variants.{Code}
 use Rattle.code.specs.Description.{maskOf, describe, onDescription}
-use Rattle.code.specs.Described.{Described}
+use Rattle.code.specs.Described.{Coded, Described}
 use Rattle.code.proofs.Facts.{described}
 use Rattle.encoder.specs.declared.Encoded.{Encoded}
 use Rattle.encoder.specs.declared.Encoded.the-variants.{Refused}
-use Rattle.encoder.specs.Encode.{CodePre, encodedBy, encoded}
+use Rattle.encoder.specs.Encode.{encodedBy, encoded}
 use Rattle.encoder.proofs.encode.Statement.{statement}
 use Rattle.encoder.proofs.encode.Tie as tie
-
--- what acceptance says of the code
-code-pre : {d : List ℕ} {n r polynomial k : ℕ} → Described d n r polynomial k → CodePre (maskOf d) n r k
-code-pre f = record { n-most = f .n-most; mask-size = f .mask-size; r-least = f .r-least; r-most = f .r-most; K-most = f .K-most }
 
 -- the definition, by an answer of `describe`
 module _ (d payload output : List ℕ) where
@@ -50,7 +46,7 @@ module _ (c : tie.After-known-told) where
 encode-by-requires : tie.Need-encode-by-requires
 encode-by-requires c κs =
     let a = c .before .before in
-    subst (λ (mask : List ℕ). CodePre mask (n a) (r a) (k a)) (sym (c .before .mask-of .ensures)) (code-pre (facts a))
+    subst (λ (mask : List ℕ). Coded mask (n a) (r a) (k a)) (sym (c .before .mask-of .ensures)) (facts a .coded)
 
 returns : tie.Need-returns
 unfolding encoded

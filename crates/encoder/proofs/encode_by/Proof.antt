@@ -11,14 +11,15 @@ use lib.ListN.{length, drop}
 use lib.Pow.{pow-mono}
 use Rattle.laws.specs.Choice.{firstOr}
 use Rattle.laws.proofs.Choice.{first-none, first-yes, first-no}
+use Rattle.code.specs.Described.{Coded}
 use Rattle.encoder.specs.declared.Encoded.{Encoded}
 use Rattle.encoder.specs.declared.Encoded.the-variants.{Done}
-use Rattle.encoder.specs.Encode.{CodePre, encodingRefusals, codeword, encodedBy}
+use Rattle.encoder.specs.Encode.{encodingRefusals, codeword, encodedBy}
 use Rattle.encoder.proofs.encode_by.Statement.{statement}
 use Rattle.encoder.proofs.encode_by.Tie as tie
 
 -- as many bytes as the mask has
-bytes-of : {mask : List ℕ} {n r k : ℕ} → CodePre mask n r k → length mask ≡ 2 ^ n / 8
+bytes-of : {mask : List ℕ} {n r k : ℕ} → Coded mask n r k → length mask ≡ 2 ^ n / 8
 bytes-of p = omega (arith, p .mask-size)
 
 -- the definition at a place, once the first i tests have failed
@@ -56,11 +57,7 @@ encode-in-requires c κs =
     let c1 = c3 .before .before .before in
     let p = s1 c1 .pre in (
       record {
-        n-most = p .n-most;
-        mask-size = p .mask-size;
-        r-least = p .r-least;
-        r-most = p .r-most;
-        K-most = p .K-most;
+        coded = p;
         payload-size = c1 .if1 .left ∙ c1 .before .bytes-for .ensures;
         output-size = c3 .if3 .left;
       },

@@ -21,14 +21,14 @@ use Rattle.encoder.proofs.encode_in.Tie as tie
 part-length : (c : tie.After-message-of-arg) → length (take (c .before .before .before .before .before .args .k + c .before .before .before .before .before .args .r) (now (c .before .before .before .before .before .args .room))) ≡ c .before .before .before .before .before .args .k + c .before .before .before .before .before .args .r
 part-length c =
     let p = c .before .before .before .before .before .pre in
-    length-take-le _ _ (omega (arith, p .0 .K-most, p .1))
+    length-take-le _ _ (omega (arith, p .0 .coded .K-most, p .1))
 
 message-of-requires : tie.Need-message-of-requires
 message-of-requires c κs =
     let p = c .before .before .before .before .before .pre .0 in
     record {
-      r-least = p .r-least;
-      r-most = p .r-most;
+      r-least = p .coded .r-least;
+      r-most = p .coded .r-most;
       payload-size = omega (arith, p .payload-size);
       message-size = part-length c;
     }
@@ -58,8 +58,9 @@ write-codeword-requires c κs =
     let m = c .before .before .before .before in
     let p = s m .pre .0 in
     record {
-      n-most = p .n-most;
-      mask-size = p .mask-size;
+      n-least = p .coded .n-least;
+      n-most = p .coded .n-most;
+      mask-size = p .coded .mask-size;
       bits = subst Bits (sym (message-is m)) (bits-message (s m .args .r) (s m .args .polynomial) _ (bits-unpacked _ _));
       output-size = p .output-size;
     }

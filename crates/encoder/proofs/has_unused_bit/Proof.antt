@@ -26,10 +26,12 @@ none-unused payload k e z =
 low-bits : (k : ℕ) → (k % 8 ≡ 0 → ⊥) → 1 * 2 ^ (8 - k % 8) % 256 ≡ 2 ^ (8 - k % 8)
 low-bits k h = one-shl (8 - k % 8) 8 (omega arith)
 
+-- a power of two within a byte is not 0
+shl-pos : (i : ℕ) → i < 8 → 0 < 1 * 2 ^ i % 256
+shl-pos i l = subst (λ (x : ℕ). 0 < x) (sym (one-shl i 8 l)) (pow-pos i)
+
 rem-result : tie.Need-rem-result
-rem-result c =
-    let k = c .before .before .args .k in
-    subst (λ (x : ℕ). 0 < x) (sym (low-bits k (c .before .if1 .left))) (pow-pos (8 - k % 8))
+rem-result c = shl-pos _ (omega arith)
 
 returns-2 : tie.Need-returns-2
 returns-2 c =

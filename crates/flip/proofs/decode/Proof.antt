@@ -2,33 +2,20 @@
 use mathlib.Core.Path.{_≡_, sym, ap, _∙_, subst}
 use mathlib.Core.Bool.{Bool}
 use mathlib.Core.List.{List}
-use Prim.Native.Nat.{ℕ, _≤_}
-use native.Mathlib.Omega.{arith}
+use Prim.Native.Nat.{ℕ}
 use borrow.Author.Needs.{needs}
 use denote.Ref.{now}
 use Rattle.code.specs.declared.Description.{Description}
 use Rattle.code.specs.declared.Description.the-variants.{Code}
 use Rattle.code.specs.Description.{maskOf, describe, onDescription}
-use Rattle.code.specs.Described.{Described}
+use Rattle.code.specs.Described.{Coded, Described}
 use Rattle.code.proofs.Facts.{described}
+use Rattle.trial.specs.Work.{laterBy}
 use Rattle.flip.specs.declared.Decoded.{Decoded}
 use Rattle.flip.specs.declared.Decoded.the-variants.{Refused}
-use Rattle.flip.specs.Work.{CodeOn, laterBy}
 use Rattle.flip.specs.Decode.{decodedBy, decodedWith}
 use Rattle.flip.proofs.decode.Statement.{statement}
 use Rattle.flip.proofs.decode.Tie as tie
-
--- what acceptance says of the code
-code-on : {d : List ℕ} {n r polynomial k : ℕ} → Described d n r polynomial k → CodeOn (maskOf d) (record { n = n; r = r; polynomial = polynomial; k = k })
-code-on f = record {
-  n-least = omega (arith, f .n-least);
-  n-most = f .n-most;
-  mask-size = f .mask-size;
-  r-least = f .r-least;
-  r-most = f .r-most;
-  K-is = f .K-is;
-  K-most = f .K-most;
-}
 
 -- the definition, by an answer of `describe`
 module _ (restart : Bool) (d channel : List ℕ) (limit : ℕ) (output : List ℕ) where
@@ -65,7 +52,7 @@ module _ (c : tie.After-known-told) where
 decode-by-requires : tie.Need-decode-by-requires
 decode-by-requires c κs =
     let a = c .before .before in
-    subst (λ (mask : List ℕ). CodeOn mask (record { n = n a; r = r a; polynomial = polynomial a; k = k a })) (sym (c .before .mask-of .ensures)) (code-on (facts a))
+    subst (λ (mask : List ℕ). Coded mask (n a) (r a) (k a)) (sym (c .before .mask-of .ensures)) (facts a .coded)
 
 returns : tie.Need-returns
 unfolding decodedWith

@@ -2,7 +2,7 @@
 use mathlib.Core.Path.{_≡_, sym, ap, _∙_}
 use mathlib.Core.Bool.{not}
 use mathlib.Core.List.{List}
-use Prim.Native.Nat.{ℕ, _+_, _*_, _^_, _≤_, _<_}
+use Prim.Native.Nat.{ℕ, _^_, _≤_, _<_}
 use native.Mathlib.Omega.{arith}
 use borrow.Author.Needs.{needs}
 use borrow.Author.Tests.{eq-eqb, ne-eqb, lt-ltb, le-ltb, ltb-false}
@@ -12,13 +12,14 @@ use lib.Pow.{pow-mono}
 use Rattle.laws.specs.Choice.{firstOr}
 use Rattle.laws.proofs.Choice.{first-none, first-yes, first-no, or-false}
 use Rattle.sc.specs.Layers.{channelValues}
-use Rattle.sc.specs.Resume.{firstOutside}
-use Rattle.sc.proofs.Resuming.{all-inside}
+use Rattle.sc.specs.Outside.{firstOutside}
+use Rattle.sc.proofs.Outside.{all-inside}
+use Rattle.trial.specs.Trial.{trialPasses}
+use Rattle.trial.specs.Work.{laterBy}
 use Rattle.flip.specs.declared.Decoded.{Decoded}
 use Rattle.flip.specs.declared.Decoded.the-variants.{RefusedAt}
 use Rattle.flip.specs.Trials.{trials, run}
-use Rattle.flip.specs.Work.{laterBy}
-use Rattle.flip.specs.Decode.{trialPasses, answerOf, decodingRefusals, decodedBy}
+use Rattle.flip.specs.Decode.{answerOf, decodingRefusals, decodedBy}
 use Rattle.flip.proofs.decode_by.Statement.{statement}
 use Rattle.flip.proofs.decode_by.Tie as tie
 

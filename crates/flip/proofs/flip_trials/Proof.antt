@@ -1,9 +1,8 @@
 -- `flip::flip_trials` meets its contract. The invariant: the run of all later trials is the run of those that are left (`Going`), and
 -- rules and output are as they were. Assumes nothing.
 use mathlib.Core.Path.{_≡_, refl, sym, ap, _∙_, subst}
-use mathlib.Core.Bool.{Bool}
 use mathlib.Core.List.{List}
-use Prim.Native.Nat.{ℕ, _+_, _-_, _*_, _^_, _≤_, _<_}
+use Prim.Native.Nat.{ℕ, _-_, _^_, _≤_}
 use native.Mathlib.Omega.{arith}
 use borrow.Author.Needs.{needs}
 use denote.Ref.{now}
@@ -13,21 +12,15 @@ use lib.Pow.{pow-mono}
 use Rattle.sc.specs.Pass.{Out}
 use Rattle.sc.specs.Layers.{channelValues}
 use Rattle.sc.specs.Arrays.{arrays, Whole}
-use Rattle.flip.specs.declared.Decoded.{Decoded}
+use Rattle.trial.specs.Work.{Plain, Flipped, laterBy, passesBy}
+use Rattle.trial.proofs.Bounds.{steps-few, later-bits, later-steps}
 use Rattle.flip.specs.declared.Decoded.the-variants.{Failed}
 use Rattle.flip.specs.Trials.{flipOrder}
-use Rattle.flip.specs.Work.{Plain, Flipped, laterBy, passesBy}
 use Rattle.flip.specs.Decode.{answerOf}
 use Rattle.flip.proofs.Loop.{Going, going-start, going-ended, going-passed, going-on}
-use Rattle.flip.proofs.Turns.{steps-few, later-bits, later-steps, trial-on, payload-bits, accepted, order-long, next-pre, next-is, next-flipped}
+use Rattle.flip.proofs.Turns.{trial-on, payload-bits, accepted, order-long, next-pre, next-is, next-flipped}
 use Rattle.flip.proofs.flip_trials.Statement.{statement}
 use Rattle.flip.proofs.flip_trials.Tie as tie
-use Rattle.flip.proofs.flip_trials.Reads as reads
-use Rattle.flip.proofs.flip_trials.Lts as lts
-use Rattle.flip.proofs.accept.Reads as accept-reads
-use Rattle.flip.proofs.flip_trial.Reads as flip-trial-reads
-use Rattle.flip.proofs.trial_passes.Reads as trial-passes-reads
-use Rattle.order.proofs.next_flip.Reads as next-flip-reads
 
 abbrev Inv-loop : tie.InvT-loop
 Inv-loop restart mask code channel limit start first values rules₀ work₀ bits₀ sums₀ leaves₀ message₀ output₀ n made₀ steps₀ i₀ rules work bits sums leaves message output made steps i =

@@ -2,7 +2,7 @@
 use mathlib.Core.Path.{_≡_, sym, ap, _∙_}
 use mathlib.Core.Bool.{Bool}
 use mathlib.Core.List.{List, []}
-use Prim.Native.Nat.{ℕ, _+_, _*_, _^_, _≤_}
+use Prim.Native.Nat.{ℕ, _+_, _^_, _≤_}
 use native.Mathlib.Nat.{zero-add}
 use native.Mathlib.Omega.{arith}
 use borrow.Author.Needs.{needs}
@@ -15,11 +15,13 @@ use Rattle.sc.specs.Pass.{Out}
 use Rattle.sc.specs.Rules.{maskRule}
 use Rattle.sc.specs.Layers.{channelValues}
 use Rattle.sc.proofs.StepsMost.{steps-most}
-use Rattle.flip.specs.Trials.{firstTrial, trials, Verdict, passed, run}
-use Rattle.flip.specs.Work.{laterBy, passesBy}
+use Rattle.trial.specs.Trial.{firstTrial}
+use Rattle.trial.specs.Work.{laterBy, passesBy}
+use Rattle.trial.proofs.Bounds.{first-bits}
+use Rattle.flip.specs.Trials.{trials, passed, run}
 use Rattle.flip.specs.Decode.{answerOf}
 use Rattle.flip.proofs.Loop.{run-passes, run-fails}
-use Rattle.flip.proofs.Turns.{first-bits, payload-bits, accepted}
+use Rattle.flip.proofs.Turns.{payload-bits, accepted}
 use Rattle.flip.proofs.run_trials.Statement.{statement}
 use Rattle.flip.proofs.run_trials.Tie as tie
 
@@ -31,7 +33,7 @@ first-trial-requires : tie.Need-first-trial-requires
 first-trial-requires c κs =
     let p = c .before .before .before .before .before .before .before .before .before .pre in (
       record {
-        n-least = p .0 .coded .n-least;
+        n-least = omega (arith, p .0 .coded .n-least);
         n-most = p .0 .coded .n-most;
         q-most = omega arith;
         long = p .0 .long;

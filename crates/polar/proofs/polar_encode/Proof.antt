@@ -1,6 +1,6 @@
 -- `polar::polar_encode` meets its contract. Assumes nothing.
 use borrow.Author.Needs.{needs}
-use Rattle.polar.specs.Number.{encodedNumber}
+use Rattle.polar.specs.Number.{encodedParts}
 use Rattle.polar.proofs.Answers.{answered}
 use Rattle.polar.proofs.polar_encode.Statement.{statement}
 use Rattle.polar.proofs.polar_encode.Tie as tie
@@ -8,12 +8,12 @@ use Rattle.polar.proofs.polar_encode.Tie as tie
 returns : tie.Need-returns
 returns c =
     let e = c .before .before .before .before .before .encode in
-    answered encodedNumber (c .answer .ensures) (c .before .enum-told .given .1) (e .ensures)
+    answered encodedParts (c .answer .ensures) (c .before .enum-told .given .1) (e .ensures)
 
 returns-2 : tie.Need-returns-2
 returns-2 c =
     let e = c .before .before .before .before .before .before .encode in
-    answered encodedNumber (c .answer2 .ensures) (c .before .before .i .given .1) (e .ensures)
+    answered encodedParts (c .answer2 .ensures) (c .before .before .i .given .1) (e .ensures)
 
 pub polar-encode-spec : {M : Type 1} → statement M
 polar-encode-spec =

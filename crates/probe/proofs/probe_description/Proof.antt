@@ -14,7 +14,7 @@ k-small : (c : tie.After-known-told) → c .before .n .given .0 .1 .1 .1 .0 ≤ 
 k-small c =
     let s = c .before .before .before in
     let f = described (now (s .before .before .args .d)) _ _ _ _ (sym (s .read-description .ensures) ∙ c .before .n .given .1) in
-    omega (arith, pow-mono (f .n-most))
+    omega (arith, pow-mono (f .coded .n-most))
 
 returns : tie.Need-returns
 returns c = ap numberOf (sym (c .before .n .given .1) ∙ c .before .before .before .read-description .ensures)

@@ -1,5 +1,5 @@
 -- `quantiser::first_nan` meets its contract. The invariant: no sample below i is a NaN. Assumes nothing.
-use mathlib.Core.Path.{_≡_}
+use mathlib.Core.Path.{_≡_, sym}
 use mathlib.Core.Bool.{false}
 use Prim.Native.Nat.{ℕ, _≤_, _<_, _-_}
 use native.Mathlib.Omega.{arith}
@@ -8,7 +8,7 @@ use borrow.Author.Needs.{needs}
 use denote.Ref.{now}
 use lib.Ieee.{nan, isNan}
 use lib.ListN.{length, getD}
-use Rattle.quantiser.proofs.First.{first-is}
+use Rattle.laws.proofs.First.{first-is}
 use Rattle.quantiser.proofs.Numbers.{differs-nan, same-number}
 use Rattle.quantiser.proofs.first_nan.Statement.{statement}
 use Rattle.quantiser.proofs.first_nan.Tie as tie
@@ -22,7 +22,7 @@ abbrev μ-loop : tie.MeasureT-loop
 returns : tie.Need-returns Inv-loop μ-loop
 returns c =
     let l = c .before .before .before in
-    first-is isNan nan (now (l .before .args .samples)) (l .loop .i) (l .loop .inv .0) (l .loop .inv .1) (λ h. differs-nan _ (c .if1 .taken))
+    sym (first-is _ (length (now (l .before .args .samples))) (l .loop .i) (l .loop .inv .0) (l .loop .inv .1) (λ h. differs-nan _ (c .if1 .taken)))
 
 loop-again : tie.Need-loop-again Inv-loop μ-loop
 loop-again c = (search needs, below-more _ _ (c .before .before .before .loop .inv .1) (same-number _ (c .if1 .left)))
@@ -30,7 +30,7 @@ loop-again c = (search needs, below-more _ _ (c .before .before .before .loop .i
 returns-2 : tie.Need-returns-2 Inv-loop μ-loop
 returns-2 c =
     let l = c .before in
-    first-is isNan nan (now (l .before .args .samples)) (l .loop .i) (l .loop .inv .0) (l .loop .inv .1) (λ h. absurd (omega arith))
+    sym (first-is _ (length (now (l .before .args .samples))) (l .loop .i) (l .loop .inv .0) (l .loop .inv .1) (λ h. absurd (omega arith)))
 
 pub first-nan-spec : {M : Type 1} → statement M
 first-nan-spec =

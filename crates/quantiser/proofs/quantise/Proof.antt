@@ -8,14 +8,12 @@ use borrow.Author.Needs.{needs}
 use borrow.Author.Tests.{le-ltb, lt-ltb, eq-eqb, ne-eqb, not-false}
 use denote.Ref.{now}
 use lib.Dec.{T}
-use lib.Ieee.{isNan}
 use lib.ListN.{length, drop}
 use Rattle.laws.specs.Choice.{firstOr}
 use Rattle.laws.proofs.Choice.{first-none, first-yes, first-no}
 use Rattle.quantiser.specs.declared.Quantised.{Quantised}
 use Rattle.quantiser.specs.declared.Quantised.the-variants.{RefusedAt}
-use Rattle.quantiser.specs.First.{firstIndex}
-use Rattle.quantiser.specs.Quantise.{refusals, accepted, quantised}
+use Rattle.quantiser.specs.Quantise.{firstNan, refusals, accepted, quantised}
 use Rattle.quantiser.proofs.quantise.Statement.{statement}
 use Rattle.quantiser.proofs.quantise.Tie as tie
 
@@ -44,7 +42,7 @@ past-1 c = first-no _ _ _ _ (ap not (eq-eqb _ _ (c .if1 .left)))
 past-2 : (c : tie.Else2) → whole (s2 c) ≡ past 2 (s2 c)
 past-2 c = past-1 (c .before .before) ∙ first-no _ _ _ _ (ap not (sym (c .before .is-valid .ensures)) ∙ c .if2 .left)
 
-numbers : (c : tie.Else3) → let samples = now (s3 c .args .samples) in length samples ≤ firstIndex isNan samples
+numbers : (c : tie.Else3) → let samples = now (s3 c .args .samples) in length samples ≤ firstNan samples
 numbers c = omega arith
 
 past-3 : (c : tie.Else3) → whole (s3 c) ≡ past 3 (s3 c)
@@ -61,7 +59,7 @@ returns-3 : tie.Need-returns-3
 returns-3 c =
     let s = s2 (c .before .before) in
     ap (λ (k : ℕ). (RefusedAt 22 k, now (s .args .output))) (c .before .first-nan .ensures)
-    ∙ first-yes _ _ _ _ (lt-ltb (firstIndex isNan (now (s .args .samples))) (length (now (s .args .samples))) (omega arith)) ∙ sym (past-2 (c .before .before))
+    ∙ first-yes _ _ _ _ (lt-ltb (firstNan (now (s .args .samples))) (length (now (s .args .samples))) (omega arith)) ∙ sym (past-2 (c .before .before))
 
 fill-requires : tie.Need-fill-requires
 fill-requires c κs =

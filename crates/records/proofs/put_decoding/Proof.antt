@@ -7,6 +7,7 @@ use borrow.Author.Needs.{needs}
 use denote.Ref.{now}
 use lib.ListN.{length, take, replicate}
 use lib.Seq.{length-take-le}
+use Rattle.laws.proofs.Segment.{take-replicate}
 use Rattle.bits.specs.Packing.{bytesFor}
 use Rattle.code.specs.declared.Description.{Description}
 use Rattle.code.specs.declared.Description.the-variants.{Code}
@@ -17,7 +18,7 @@ use Rattle.flip.specs.Decode.{decodedRestarted}
 use Rattle.records.specs.Line.{noLine}
 use Rattle.records.specs.Respond.{lineOfAnswer, decodingLine}
 use Rattle.records.proofs.Putting.{put-as}
-use Rattle.records.proofs.Room.{payload-most, take-replicate}
+use Rattle.records.proofs.Room.{payload-most}
 use Rattle.records.proofs.put_decoding.Statement.{statement}
 use Rattle.records.proofs.put_decoding.Tie as tie
 

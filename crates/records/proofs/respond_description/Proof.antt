@@ -61,7 +61,7 @@ returns c =
       line-fits = omega (arith, code .fits, length-put code);
       held-fits = omega (arith, kept .fits, length-put kept);
       answer-is = ap₂ (λ (x y : List ℕ). (x, y)) (take-put code) (take-put kept)
-          ∙ ap (λ (size : ℕ). (codeLine size (k a) (r a), d a)) (one-shl (n a) 64 (omega (arith, facts a .n-most)))
+          ∙ ap (λ (size : ℕ). (codeLine size (k a) (r a), d a)) (one-shl (n a) 64 (omega (arith, facts a .coded .n-most)))
           ∙ ap (by (take (s .args .size) (now (s .args .held))) (d a)) (accepted a);
     }
 
@@ -82,7 +82,7 @@ respond-description-spec =
     (λ c. search needs)
     put-bytes-requires
     (λ c. search needs)
-    (λ c. omega (arith, facts (c .before .before .before .before .before .before) .n-most))
+    (λ c. omega (arith, facts (c .before .before .before .before .before .before) .coded .n-most))
     (λ c. search needs)
     (λ c κs. search needs)
     (λ c. search needs)

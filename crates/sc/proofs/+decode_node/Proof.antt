@@ -1,17 +1,27 @@
 -- `sc::decode_node` meets its contract: each need is a law of proofs/Recursion.antt. The measure is the layer. Assumes nothing.
-use mathlib.Core.Path.{refl, ap₂, _∙_}
+use mathlib.Core.Path.{refl, ap₂, _∙_, subst}
 use Prim.Native.Nat.{ℕ, _+_, _-_, _*_, _/_, _^_, _≤_, _<_}
 use native.Mathlib.Omega.{arith}
 use borrow.Author.Needs.{needs}
 use borrow.Fn.Kinds.{In}
 use borrow.Fn.PlainCycle.{Measures, is, falls, and}
 use denote.Ref.{now}
+use lib.IntN.{pos}
+use lib.ListN.{getD}
+use mir.Syntax.{w32}
+use Rattle.laws.proofs.Signed.{back-is}
+use Rattle.sc.specs.Bounds.{Within, most}
+use Rattle.sc.specs.Arrays.{deepest}
 use Rattle.transform.proofs.Halves.{Halving, halving}
-use Rattle.sc.proofs.Recursion.{forced-bits, forced-worked, leaf-fits, leaf-value, leaf-worked, left-at, half-fits, whole₂, own-kept, right-at, combine-at, left-few, right-few, halves-worked, inner-at, left-of-own, inner-again, right-of-own}
+use Rattle.sc.proofs.Ending.{forced-bits, forced-worked, leaf-value, leaf-holds, leaf-worked}
+use Rattle.sc.proofs.Free.{is-free, four-holds, four-values, four-small, four-worked}
+use Rattle.sc.proofs.Recursion.{left-at, half-fits, whole₂, own-kept, right-at, combine-at, left-few, right-few, halves-worked, inner-at, left-of-own, inner-again, right-of-own}
 use Rattle.sc.proofs.decode_node.Reads as node
 use Rattle.sc.proofs.decode_node.Kinds as kinds
 use Rattle.sc.proofs.+decode_node.Lts-decode_node as lts
 use Rattle.sc.proofs.Work.plus.Reads as plus-reads
+use Rattle.sc.proofs.is_free_four.Reads as is-free-four-reads
+use Rattle.sc.proofs.decode_four.Reads as decode-four-reads
 use Rattle.sc.proofs.leaf.Reads as leaf-reads
 use Rattle.sc.proofs.left_values.Reads as left-values-reads
 use Rattle.sc.proofs.rebuild.Reads as rebuild-reads
@@ -34,6 +44,10 @@ abbrev Q : ℕ → lts.Claims
 Q t = (
   rebuild-reads.Asked,
   rebuild-reads.Learnt,
+  is-free-four-reads.Asked,
+  is-free-four-reads.Learnt,
+  decode-four-reads.Asked,
+  decode-four-reads.Learnt,
   leaf-reads.Asked,
   leaf-reads.Learnt,
   left-values-reads.Asked,
@@ -62,28 +76,51 @@ module _ (t : ℕ) where
       let s = c .before .before .before .before in
       forced-worked (now (s .args .rules)) (s .pre .1 .0) (c .before .before .before .if1 .taken) (c .rebuild .ensures)
 
+  -- ---- a node of layer 2 without a forced bit
+
+  decode-four-requires : lts.Need-decode-four-requires (Q t) (at t) node.Post
+  decode-four-requires c κs =
+      let k = c .before .before .before .before .before in
+      let s = k .before .before in
+      let rules = now (s .args .rules) in
+      let p = s .pre .1 .0 in
+      let free = is-free (s .args .layer) (s .args .base) (s .args .q) (k .is-free-four .ensures) (c .before .before .before .before .if2 .taken) in
+      (four-holds rules p (free .0) (free .1), subst (Within (most deepest 2)) (four-values rules p (free .0) (free .1) (now (s .args .work))) (four-small rules p (free .0) (free .1)))
+
+  returns-2 : lts.Need-returns-2 (Q t) (at t) node.Post
+  returns-2 c =
+      let k = c .before .before .before .before .before .before in
+      let s = k .before .before in
+      let rules = now (s .args .rules) in
+      let p = s .pre .1 .0 in
+      let free = is-free (s .args .layer) (s .args .base) (s .args .q) (k .is-free-four .ensures) (c .before .before .before .before .before .if2 .taken) in
+      four-worked rules p (free .0) (free .1) (four-values rules p (free .0) (free .1) (now (s .args .work))) (c .decode-four .ensures)
+
   -- ---- a leaf
 
   leaf-requires : lts.Need-leaf-requires (Q t) (at t) node.Post
   leaf-requires c κs =
       let e = c .before .before .before .before in
-      let s = e .before .before in
-      let p = s .pre .1 .0 in
-      (leaf-fits (now (s .args .rules)) p (e .before .if1 .left) (e .if2 .taken), p .whole)
+      let s = e .before .before .before .before in
+      leaf-holds (now (s .args .rules)) (s .pre .1 .0) (e .before .before .before .if1 .left) (e .if3 .taken)
 
-  returns-2 : lts.Need-returns-2 (Q t) (at t) node.Post
-  returns-2 c =
+  returns-3 : lts.Need-returns-3 (Q t) (at t) node.Post
+  returns-3 c =
       let e = c .before .before .before .before .before in
-      let s = e .before .before in
+      let s = e .before .before .before .before in
       let p = s .pre .1 .0 in
-      let more = e .before .if1 .left in
+      let more = e .before .before .before .if1 .left in
       let rules = now (s .args .rules) in
-      leaf-worked rules p more (e .if2 .taken) (leaf-value rules p more (e .if2 .taken) refl) (c .leaf .ensures)
+      let value = back-is w32 (getD (now (s .args .work)) 1 (pos 0)) (record { sfits = c .before .before .before .before .leaf-arg .given }) in
+      leaf-worked rules p more (e .if3 .taken) (value ∙ leaf-value rules p more (e .if3 .taken) refl) (c .leaf .ensures .1)
 
   -- ---- two halves
 
-  abbrev Else2 : Type 0
-  Else2 = lts.Else2 (Q t) (at t) node.Post
+  abbrev Else3 : Type 0
+  Else3 = lts.Else3 (Q t) (at t) node.Post
+
+  abbrev start : Else3 → lts.Start (Q t) (at t) node.Post
+  start e = e .before .before .before .before
 
   -- back from a place to the one after an earlier call
   abbrev left-done : lts.After-decode-node (Q t) (at t) node.Post → lts.After-left-values (Q t) (at t) node.Post
@@ -95,23 +132,23 @@ module _ (t : ℕ) where
   abbrev right-done : lts.After-decode-node2 (Q t) (at t) node.Post → lts.After-right-values (Q t) (at t) node.Post
   right-done c = c .before .before .before .before .before
 
-  two : (c : Else2) → let s = c .before .before .args in Halving (s .layer) (s .size) (s .layer - 1) (s .size / 2)
-  two c = halving (c .if2 .left) (c .before .before .pre .1 .0 .pow)
+  two : (c : Else3) → let s = start c .args in Halving (s .layer) (s .size) (s .layer - 1) (s .size / 2)
+  two c = halving (c .if3 .left) (start c .pre .1 .0 .pow)
 
   left-values-requires : lts.Need-left-values-requires (Q t) (at t) node.Post
   left-values-requires c κs =
       let e = c .before in
-      let s = e .before .before in
-      inner-at (now (s .args .rules)) (two e) (s .pre .1 .0) (e .before .if1 .left) (s .pre .1 .1)
+      let s = start e in
+      inner-at (now (s .args .rules)) (two e) (s .pre .1 .0) (e .before .before .before .if1 .left) (s .pre .1 .1)
 
   node-requires : lts.Need-decode-node-requires (Q t) (at t) node.Post
   node-requires c κs =
       let l = c .before .before .before .before in
       let e = l .before .before in
-      let s = e .before .before in
+      let s = start e in
       let rules = now (s .args .rules) in
       let p = s .pre .1 .0 in
-      let more = e .before .if1 .left in
+      let more = e .before .before .before .if1 .left in
       let own = left-of-own rules (two e) p more (s .pre .1 .1) (l .left-values .ensures) in
       (omega (arith, s .pre .0, two e .below), (left-at rules (two e) p more own, half-fits rules (two e) p more))
 
@@ -120,11 +157,11 @@ module _ (t : ℕ) where
       let k = c .before .before in
       let l = left-done k in
       let e = l .before .before in
-      let s = e .before .before in
+      let s = start e in
       let rules = now (s .args .rules) in
       let d = two e in
       let p = s .pre .1 .0 in
-      let more = e .before .if1 .left in
+      let more = e .before .before .before .if1 .left in
       let c₁ = left-of-own rules d p more (s .pre .1 .1) (l .left-values .ensures) in
       let c₂ = k .decode-node .ensures in
       (inner-again rules d p more (s .pre .1 .1) (whole₂ rules d p more c₁ c₂) (own-kept rules d p more c₁ c₂), omega (arith, d .two, p .fits))
@@ -135,11 +172,11 @@ module _ (t : ℕ) where
       let k = left-node-done r in
       let l = left-done k in
       let e = l .before .before in
-      let s = e .before .before in
+      let s = start e in
       let rules = now (s .args .rules) in
       let d = two e in
       let p = s .pre .1 .0 in
-      let more = e .before .if1 .left in
+      let more = e .before .before .before .if1 .left in
       let c₁ = left-of-own rules d p more (s .pre .1 .1) (l .left-values .ensures) in
       let c₂ = k .decode-node .ensures in
       let c₃ = right-of-own rules d p more (s .pre .1 .1) (whole₂ rules d p more c₁ c₂) (own-kept rules d p more c₁ c₂) (r .right-values .ensures) in
@@ -151,11 +188,11 @@ module _ (t : ℕ) where
       let k = left-node-done r in
       let l = left-done k in
       let e = l .before .before in
-      let s = e .before .before in
+      let s = start e in
       let rules = now (s .args .rules) in
       let d = two e in
       let p = s .pre .1 .0 in
-      let more = e .before .if1 .left in
+      let more = e .before .before .before .if1 .left in
       let c₁ = left-of-own rules d p more (s .pre .1 .1) (l .left-values .ensures) in
       let c₂ = k .decode-node .ensures in
       let c₃ = right-of-own rules d p more (s .pre .1 .1) (whole₂ rules d p more c₁ c₂) (own-kept rules d p more c₁ c₂) (r .right-values .ensures) in
@@ -172,30 +209,30 @@ module _ (t : ℕ) where
       let k = left-node-done r in
       let l = left-done k in
       let e = l .before .before in
-      let s = e .before .before in
+      let s = start e in
       let rules = now (s .args .rules) in
       let d = two e in
       let p = s .pre .1 .0 in
-      let more = e .before .if1 .left in
+      let more = e .before .before .before .if1 .left in
       let c₁ = left-of-own rules d p more (s .pre .1 .1) (l .left-values .ensures) in
       let c₂ = k .decode-node .ensures in
       let c₃ = right-of-own rules d p more (s .pre .1 .1) (whole₂ rules d p more c₁ c₂) (own-kept rules d p more c₁ c₂) (r .right-values .ensures) in
       let c₄ = c .decode-node2 .ensures in
       (left-few rules d p more c₁ c₂ c₃ c₄, right-few rules d p more c₁ c₂ c₃ c₄)
 
-  returns-3 : lts.Need-returns-3 (Q t) (at t) node.Post
-  returns-3 c =
+  returns-4 : lts.Need-returns-4 (Q t) (at t) node.Post
+  returns-4 c =
       let m = c .before .before .before in
       let n = m .before .before in
       let r = right-done n in
       let k = left-node-done r in
       let l = left-done k in
       let e = l .before .before in
-      let s = e .before .before in
+      let s = start e in
       let rules = now (s .args .rules) in
       let d = two e in
       let p = s .pre .1 .0 in
-      let more = e .before .if1 .left in
+      let more = e .before .before .before .if1 .left in
       let c₁ = left-of-own rules d p more (s .pre .1 .1) (l .left-values .ensures) in
       let c₂ = k .decode-node .ensures in
       let c₃ = right-of-own rules d p more (s .pre .1 .1) (whole₂ rules d p more c₁ c₂) (own-kept rules d p more c₁ c₂) (r .right-values .ensures) in
@@ -209,18 +246,22 @@ pub +decode-node-spec : {M : Type 1} → statement M
     (λ c. omega (arith, c .pre .1 .0 .fits))
     (rebuild-requires t)
     (returns t)
-    (leaf-requires t)
+    (λ c κs. search needs)
+    (decode-four-requires t)
     (returns-2 t)
-    (λ c. omega (arith, c .before .before .pre .1 .0 .fits))
+    (λ c. search needs)
+    (leaf-requires t)
+    (returns-3 t)
+    (λ c. omega (arith, start t c .pre .1 .0 .fits))
     (left-values-requires t)
     (λ c. search needs)
     (node-requires t)
     (right-values-requires t)
     (λ c. search needs)
-    (λ c. omega (arith, c .before .before .before .before .before .before .before .before .before .before .before .before .pre .1 .0 .fits))
+    (λ c. omega (arith, start t (c .before .before .before .before .before .before .before .before .before .before) .pre .1 .0 .fits))
     (node-requires-2 t)
     (combine-requires t)
     (λ c κs. omega (arith, few t (c .before .before)))
     (λ c κs. omega (arith, few t (c .before .before .before)))
     (λ c κs. omega (arith, c .before .plus .ensures, c .plus2 .ensures, few t (c .before .before .before .before)))
-    (returns-3 t)
+    (returns-4 t)

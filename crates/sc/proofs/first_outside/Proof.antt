@@ -12,9 +12,9 @@ use lib.ListN.{length, getD}
 use lib.Signed.{ltZ}
 use mir.Syntax.{w32}
 use Rattle.laws.proofs.Choice.{cond-ind}
+use Rattle.laws.proofs.First.{first-is}
 use Rattle.laws.proofs.Signed.{back, back-small, abs-minus}
 use Rattle.sc.specs.Values.{channelValue}
-use Rattle.sc.proofs.First.{first-end, first-at}
 use Rattle.sc.proofs.first_outside.Statement.{statement}
 use Rattle.sc.proofs.first_outside.Tie as tie
 
@@ -55,7 +55,7 @@ returns : tie.Need-returns Inv-loop μ-loop
 returns c =
     let l = c .before .before .before .before .before .loop in
     let s = c .before .before .before .before .before .before .before .args in
-    sym (first-at _ (length (now (s .channel))) (l .i) (omega arith) (l .inv .1) (sym (test (c .before)) ∙ c .if1 .taken))
+    sym (first-is _ (length (now (s .channel))) (l .i) (l .inv .0) (l .inv .1) (λ _. sym (test (c .before)) ∙ c .if1 .taken))
 
 loop-again : tie.Need-loop-again Inv-loop μ-loop
 loop-again c =
@@ -66,8 +66,7 @@ returns-2 : tie.Need-returns-2 Inv-loop μ-loop
 returns-2 c =
     let l = c .before .loop in
     let s = c .before .before .before .args in
-    let e : l .i ≡ length (now (s .channel)) = omega arith in
-    e ∙ sym (first-end _ (length (now (s .channel))) (λ k m. l .inv .1 k (omega arith)))
+    sym (first-is _ (length (now (s .channel))) (l .i) (l .inv .0) (l .inv .1) (λ m. absurd (omega arith)))
 
 pub first-outside-spec : {M : Type 1} → statement M
 first-outside-spec =

@@ -1,0 +1,2 @@
+pub mod Resuming
+pub mod Starred

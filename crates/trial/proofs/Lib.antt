@@ -1,0 +1,5 @@
+pub mod ResumeAt
+pub mod Agree
+pub mod Bounds
+pub mod Passes
+pub mod Message
