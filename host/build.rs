@@ -15,7 +15,7 @@ const COMPILERS: [&str; 2] = ["gcc", "clang"];
 
 fn main() {
     link_libraries();
-    println!("cargo:rerun-if-changed=bench/plain.c");
+    println!("cargo:rerun-if-changed=bench");
     println!("cargo:rustc-check-cfg=cfg(plain_c, values(\"gcc\", \"clang\"))");
     for name in COMPILERS {
         compile_plain(name);

@@ -1,57 +1,93 @@
 //! The benchmark: the codec beside the same algorithm in plain C and in plain Rust, on the same
 //! inputs, in one run.
 
+mod choice;
 mod codec;
 mod frames;
+mod growth;
+mod process;
 mod report;
 mod task;
 mod timing;
 
-pub use codec::{others, Codec, Way};
+pub use choice::{Choice, USAGE};
+pub use codec::others;
 
-use codec::Library;
-use frames::Frame;
+use codec::{Codec, LIBRARY};
+use frames::{Frame, Frames};
+use process::PROCESSES;
 use report::Row;
 use task::Task;
+use timing::Times;
 
 /// The code lengths, as n.
 const LAYERS: [usize; 3] = [5, 7, 10];
 
-/// Compares all results, takes all times, and prints them.
-pub fn run() {
-    let mut codecs: Vec<Box<dyn Codec>> = vec![Box::new(Library)];
+/// Compares all results, takes all times, and prints them; or, where the words ask for that, takes
+/// and prints the times alone.
+pub fn run(choice: &Choice, words: &[String]) {
+    let mut codecs = vec![LIBRARY];
     codecs.extend(others());
+    let lengths: Vec<Frames> = choice
+        .layers
+        .iter()
+        .map(|&n| Frames::of_length(n))
+        .collect();
+    if choice.times_only {
+        return print_times(choice, &codecs, &lengths);
+    }
     report::print_setting();
-    report::print_heading(&codecs);
-    let mut rows = Vec::new();
-    for n in LAYERS {
-        let frames = frames::of_length(n);
-        for task in Task::all() {
-            let row = Row {
-                n,
-                task,
-                answers: compare(task, &codecs, &frames),
-                times: timing::take(task, &codecs, &frames),
-            };
-            report::print_row(&row);
-            rows.push(row);
+    let mut rows = rows(choice, &codecs, &lengths);
+    for index in 1..=PROCESSES {
+        eprintln!("process {index} of {PROCESSES}");
+        for (row, times) in rows.iter_mut().zip(process::times(words)) {
+            row.add(times);
         }
     }
-    report::print_growth(&rows);
+    for row in &mut rows {
+        row.times = timing::quiet_half(&row.times);
+    }
+    report::print_heading(&codecs);
+    rows.iter().for_each(report::print_row);
+    growth::print(choice, &lengths, &rows);
+}
+
+fn print_times(choice: &Choice, codecs: &[Codec], lengths: &[Frames]) {
+    for frames in lengths {
+        for &task in &choice.tasks {
+            process::print_row(&timing::take(task, codecs, &frames.list, choice.rounds));
+        }
+    }
+}
+
+/// The rows, without a time yet.
+fn rows(choice: &Choice, codecs: &[Codec], lengths: &[Frames]) -> Vec<Row> {
+    let mut rows = Vec::new();
+    for frames in lengths {
+        for &task in &choice.tasks {
+            rows.push(Row {
+                n: frames.n,
+                task,
+                answers: compare(task, codecs, &frames.list),
+                times: vec![Times::default(); codecs.len()],
+            });
+        }
+    }
+    rows
 }
 
 /// The library's answers; panics where another codec gives another answer or output.
-fn compare(task: Task, codecs: &[Box<dyn Codec>], frames: &[Frame]) -> Vec<u64> {
-    let library = codecs[0].as_ref();
+fn compare(task: Task, codecs: &[Codec], frames: &[Frame]) -> Vec<u64> {
+    let library = &codecs[0];
     let mut answers = Vec::with_capacity(frames.len());
     for (index, frame) in frames.iter().enumerate() {
         let expected = task.result(library, frame);
         for codec in &codecs[1..] {
             assert!(
-                task.result(codec.as_ref(), frame) == expected,
+                task.result(codec, frame) == expected,
                 "{} differs from {}: {task}, n = {}, frame {index}",
-                codec.name(),
-                library.name(),
+                codec.name,
+                library.name,
                 frame.code.n
             );
         }

@@ -22,6 +22,20 @@ pub fn lend_input<A>(content: &[u8], call: impl FnOnce(&[u8]) -> A) -> A {
     answer
 }
 
+/// Lends a copy of `content` to the reference. Answers what the call answered and the content after
+/// it; panics where a refusal has written.
+pub fn lend_reference<A, R>(
+    content: &[u8],
+    call: impl FnOnce(&mut [u8]) -> Result<A, R>,
+) -> (Result<A, R>, Vec<u8>) {
+    let mut output = content.to_vec();
+    let answer = call(&mut output);
+    if answer.is_err() {
+        assert_eq!(output, content, "a refusal writes nothing");
+    }
+    (answer, output)
+}
+
 /// What stands between the guard bytes.
 fn guarded(buffer: &[u8]) -> &[u8] {
     let (before, rest) = buffer.split_at(GUARD.len());
@@ -52,6 +66,15 @@ mod tests {
         assert_eq!(lend_input(&[1, 2, 3], |lent| lent[2]), 3);
         assert_eq!(guarded(&written_at(64)), [7, 2, 3]);
         assert_eq!(guarded(&written_at(66)), [1, 2, 7]);
+    }
+
+    #[test]
+    #[should_panic(expected = "a refusal writes nothing")]
+    fn notices_a_refusal_that_writes() {
+        let _ = lend_reference(&[1, 2, 3], |lent| {
+            lent[1] = 7;
+            Err::<(), ()>(())
+        });
     }
 
     #[test]

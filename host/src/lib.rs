@@ -6,11 +6,13 @@
 //! serves the tests: `library` calls the codec, `guard` lends buffers to it, `stack` measures what
 //! a call takes, `random` and `samples` make inputs, `paper` has the inputs that the paper names,
 //! `rows` the executed vectors, `streams` what `receive` reads, `files` the repository's folder.
-//! `bench` is the benchmark, and `plain` a fast codec to compare with.
+//! `bench` is the benchmark, and `plain` a fast codec to compare with. `simulation` shows what
+//! flipping gains, on codes of `construction` under the noise of `noise`.
 
 pub mod bench;
 pub mod channel;
 pub mod check;
+pub mod construction;
 pub mod description;
 pub mod encode;
 pub mod files;
@@ -18,12 +20,12 @@ pub mod flip;
 pub mod guard;
 pub mod hex;
 pub mod library;
+pub mod noise;
 pub mod number;
 pub mod packing;
 pub mod paper;
 pub mod pass;
 pub mod placing;
-pub mod plain;
 pub mod quantise;
 pub mod random;
 pub mod receive;
@@ -31,6 +33,7 @@ pub mod refusal;
 pub mod resume;
 pub mod rows;
 pub mod samples;
+pub mod simulation;
 pub mod stack;
 pub mod streams;
 pub mod transform;

@@ -2,6 +2,7 @@
 //! tests only. The exports of `polar` have modules of their own: a test program links with a
 //! library that has only those exports which it calls.
 
+pub(crate) mod call;
 mod decode;
 mod encode;
 mod quantise;
@@ -22,8 +23,9 @@ extern "C" {
     fn probe_ones(mask: *const u8, len: usize) -> u64;
 }
 
-// SAFETY of every call here and in the modules below: each pointer goes with the length of the
-// slice that it comes from, the library reads and writes these bytes only, and it keeps no pointer.
+// SAFETY of every call here and in the modules above: as `call` asks. Each pointer goes with the
+// length of the slice that it comes from, the library reads and writes these bytes only, and it
+// keeps no pointer.
 
 /// Reads a description; the answer is as in `description_number`.
 pub fn description(d: &[u8]) -> u64 {

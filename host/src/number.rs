@@ -3,6 +3,7 @@
 //! the steps; what an answer lacks is 0.
 
 use crate::flip::Accepted;
+use crate::quantise::Quantised;
 use crate::refusal::Refusal;
 
 /// The number of an answer of `encode`.
@@ -26,6 +27,16 @@ pub fn decode_number(answer: &Result<Accepted, Refusal>) -> u64 {
     match answer {
         Ok(accepted) => number(0, accepted.trial, accepted.steps),
         Err(refusal) => number_of_refusal(refusal),
+    }
+}
+
+/// An answer of the quantiser as `library::quantise` gives it: the peak, or positive zero with a
+/// refusal; the refusal or 0, then the clipped count, a refusal's first index, or 0.
+pub fn quantise_numbers(answer: &Result<Quantised, Refusal>) -> (f32, [u64; 2]) {
+    match *answer {
+        Ok(Quantised { peak, clipped }) => (peak, [0, clipped as u64]),
+        Err(Refusal::At(of, index)) => (0.0, [of.into(), index as u64]),
+        Err(refusal) => (0.0, [refusal.number().into(), 0]),
     }
 }
 

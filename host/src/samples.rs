@@ -41,6 +41,40 @@ pub fn for_descriptions(
     }
 }
 
+/// Gives refused descriptions and the refusal of each to a test, `count` for each refusal.
+pub fn for_refused_descriptions(
+    seed: u64,
+    count: usize,
+    mut test: impl FnMut(&mut Random, &[u8], usize),
+) {
+    let mut random = Random::new(seed);
+    for refusal in 1..=8 {
+        for _ in 0..count {
+            let d = refused_description(&mut random, refusal);
+            test(&mut random, &d, refusal);
+        }
+    }
+}
+
+/// Now and then replaces a description by a refused one.
+pub fn spoil_description(random: &mut Random, d: &mut Vec<u8>) {
+    if random.below(4) == 0 {
+        let refusal = random.between(1, 8);
+        *d = refused_description(random, refusal);
+    }
+}
+
+/// Now and then gives a channel another length, or puts any byte into it.
+pub fn spoil_channel(random: &mut Random, channel: &mut Vec<u8>) {
+    if random.below(4) == 0 {
+        channel.resize(random.below(2 * channel.len()), 0);
+    }
+    if random.below(3) == 0 && !channel.is_empty() {
+        let place = random.below(channel.len());
+        channel[place] = random.byte();
+    }
+}
+
 /// A description, of any n, to which the refusal given applies first.
 pub fn refused_description(random: &mut Random, refusal: usize) -> Vec<u8> {
     let n = random.between(3, 10);

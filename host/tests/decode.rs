@@ -4,7 +4,7 @@ use host::channel::read_channel;
 use host::description::{describe, mask_of, record, Code};
 use host::encode::codeword;
 use host::flip::{self, order, restart_index, trials_made, Accepted};
-use host::guard::{lend_input, lend_output};
+use host::guard::{lend_input, lend_output, lend_reference};
 use host::library;
 use host::number::decode_number;
 use host::packing::{pack, packed_length};
@@ -13,7 +13,7 @@ use host::pass::{pass, plain_rules, skipped_steps};
 use host::placing::place;
 use host::random::Random;
 use host::refusal::{refusal_number, Refusal};
-use host::samples;
+use host::samples::{self, for_refused_descriptions};
 use host::transform::transform;
 
 type Reference = fn(&[u8], &[u8], u32, &mut [u8]) -> Result<Accepted, Refusal>;
@@ -39,11 +39,7 @@ fn check_one(
     limit: u32,
     before: &[u8],
 ) -> (Result<Accepted, Refusal>, Vec<u8>) {
-    let mut output = before.to_vec();
-    let expected = reference(d, channel, limit, &mut output);
-    if expected.is_err() {
-        assert_eq!(output, before, "a refusal writes nothing");
-    }
+    let (expected, output) = lend_reference(before, |output| reference(d, channel, limit, output));
     let (answer, after) = run(decoder, d, channel, limit, before);
     assert_eq!(
         (answer, &after),
@@ -349,19 +345,13 @@ fn wrong_lengths() {
 
 #[test]
 fn refused_descriptions() {
-    let mut random = Random::new(9);
-    for refusal in 1..=8 {
-        for _ in 0..500 {
-            let d = samples::refused_description(&mut random, refusal);
-            let channel = vec![0; random.below(1_100)];
-            let before = vec![0xEE; random.below(130)];
-            let limit = random.below(20) as u32;
-            assert_eq!(
-                refusal_number(&check(&d, &channel, limit, &before)),
-                refusal
-            );
-        }
-    }
+    for_refused_descriptions(9, 500, |random, d, refusal| {
+        let channel = vec![0; random.below(1_100)];
+        let before = vec![0xEE; random.below(130)];
+        let limit = random.below(20) as u32;
+        let answer = check(d, &channel, limit, &before);
+        assert_eq!(refusal_number(&answer), refusal);
+    });
 }
 
 /// Faults of every kind at once, so that their order decides.
@@ -376,17 +366,8 @@ fn several_faults() {
         let mut channel = samples::channel(&mut random, size, 31);
         let mut before = room(&mut random, &d);
         let mut limit = limit(&mut random, &d, 5);
-        if random.below(4) == 0 {
-            let refusal = random.between(1, 8);
-            d = samples::refused_description(&mut random, refusal);
-        }
-        if random.below(4) == 0 {
-            channel.resize(random.below(2 * size), 0);
-        }
-        if random.below(3) == 0 && !channel.is_empty() {
-            let place = random.below(channel.len());
-            channel[place] = random.byte();
-        }
+        samples::spoil_description(&mut random, &mut d);
+        samples::spoil_channel(&mut random, &mut channel);
         if random.below(3) == 0 {
             limit = random.below(size + 4) as u32;
         }

@@ -2,14 +2,14 @@
 
 use host::description::{describe, record};
 use host::encode::encode;
-use host::guard::{lend_input, lend_output};
+use host::guard::{lend_input, lend_output, lend_reference};
 use host::library;
 use host::number::encode_number;
 use host::packing::packed_length;
 use host::paper::D;
 use host::random::Random;
 use host::refusal::refusal_number;
-use host::samples::{self, for_descriptions};
+use host::samples::{self, for_descriptions, for_refused_descriptions};
 
 /// The library's answer, and its output after it.
 fn run(d: &[u8], payload: &[u8], before: &[u8]) -> (u64, Vec<u8>) {
@@ -23,11 +23,7 @@ fn run(d: &[u8], payload: &[u8], before: &[u8]) -> (u64, Vec<u8>) {
 /// Compares one call in its answer and in each byte of its output; gives the refusal's number, or
 /// 0.
 fn check(d: &[u8], payload: &[u8], before: &[u8]) -> usize {
-    let mut output = before.to_vec();
-    let expected = encode(d, payload, &mut output);
-    if expected.is_err() {
-        assert_eq!(output, before, "a refusal writes nothing");
-    }
+    let (expected, output) = lend_reference(before, |output| encode(d, payload, output));
     assert_eq!(
         run(d, payload, before),
         (encode_number(&expected), output),
@@ -127,15 +123,11 @@ fn outputs_of_a_wrong_length() {
 
 #[test]
 fn refused_descriptions() {
-    let mut random = Random::new(6);
-    for refusal in 1..=8 {
-        for _ in 0..1_000 {
-            let d = samples::refused_description(&mut random, refusal);
-            let payload = vec![0; random.below(130)];
-            let before = vec![0xEE; random.below(130)];
-            assert_eq!(check(&d, &payload, &before), refusal);
-        }
-    }
+    for_refused_descriptions(6, 1_000, |random, d, refusal| {
+        let payload = vec![0; random.below(130)];
+        let before = vec![0xEE; random.below(130)];
+        assert_eq!(check(d, &payload, &before), refusal);
+    });
 }
 
 /// A bit changed in the header or in one of the first bytes of the mask, with a payload and an
@@ -164,10 +156,7 @@ fn several_faults() {
         let code = describe(&d).expect("a code");
         let mut payload = samples::payload(&mut random, code.k);
         let mut before = random.bytes(code.size() / 8);
-        if random.below(3) == 0 {
-            let refusal = random.between(1, 8);
-            d = samples::refused_description(&mut random, refusal);
-        }
+        samples::spoil_description(&mut random, &mut d);
         if random.bit() {
             *payload.last_mut().expect("a byte") |= random.byte();
         }

@@ -27,9 +27,8 @@ fn run(folder: &str, name: &str) -> String {
     String::from_utf8(output.stdout).expect("text")
 }
 
-#[test]
-fn encode_and_resume() {
-    let expected = "\
+/// What encode and resume give for rows of the paper.
+const ENCODED_AND_RESUMED: &str = "\
 encode A0: refusal 0, value 0, steps 0, 5a
 encode 80: refusal 0, value 0, steps 0, 0f
 encode B0: refusal 10, value 0, steps 0, ee
@@ -44,12 +43,9 @@ q = 8: refusal 0, value 0, steps 0, 00 00 00 00 00 00 00 00
 32: refusal 13, value 7, steps 0, ee ee ee ee ee ee ee ee
 -32: refusal 13, value 7, steps 0, ee ee ee ee ee ee ee ee
 ";
-    assert_eq!(run("host/tests/c", "encode_resume"), expected);
-}
 
-#[test]
-fn decoders() {
-    let expected = "\
+/// What full decoding gives.
+const DECODED: &str = "\
 right signs: refusal 0, value 1, steps 24, a0
 V, T = 1: refusal 16, value 1, steps 24, ee
 V, T = 2: refusal 0, value 2, steps 48, 00
@@ -59,11 +55,12 @@ V, T = 6: refusal 14, value 0, steps 0, ee
 zeros: refusal 0, value 1, steps 24, 00
 32: refusal 13, value 7, steps 0, ee
 ";
-    let restarted = expected.replace("steps 48", "steps 32");
-    assert_eq!(
-        run("host/tests/c", "decode"),
-        format!("{expected}{restarted}")
-    );
+
+#[test]
+fn rows_of_the_paper() {
+    let restarted = DECODED.replace("steps 48", "steps 32");
+    let expected = [ENCODED_AND_RESUMED, DECODED, &restarted].concat();
+    assert_eq!(run("host/tests/c", "rows"), expected);
 }
 
 #[test]

@@ -1,14 +1,13 @@
 //! The plain codecs that the benchmark compares with, held to the reference.
 
-use host::bench::{others, Way};
+use host::bench::others;
 use host::description::{describe, is_information, mask_of};
 use host::encode::encode;
 use host::flip::{decode_full, decode_restarted};
-use host::number::{decode_number, encode_number, resume_number};
+use host::number::{decode_number, encode_number, quantise_numbers, resume_number};
 use host::packing::{packed_length, unpack};
 use host::quantise::quantise;
 use host::random::Random;
-use host::refusal::Refusal;
 use host::resume::resume;
 use host::samples;
 
@@ -21,16 +20,16 @@ fn check(d: &[u8], payload: &[u8], channel: &[u8], prefix: &[u8], limit: u32, ro
     let fully = decode_number(&decode_full(d, channel, limit, &mut full));
     let again = decode_number(&decode_restarted(d, channel, limit, &mut restarted));
     for codec in others() {
-        let name = codec.name();
+        let name = codec.name;
         let [mut first, mut second, mut third] = room.map(|length| vec![0xEE; length]);
-        let answer = codec.encode(d, payload, &mut first);
+        let answer = (codec.encode)(d, payload, &mut first);
         assert_eq!((answer, &first), (encoded, &codeword), "{name}: {d:02x?}");
-        let answer = codec.resume(d, channel, prefix, &mut second);
+        let answer = (codec.resume)(d, channel, prefix, &mut second);
         assert_eq!((answer, &second), (resumed, &bits), "{name}: {d:02x?}");
         let mut fourth = third.clone();
-        let answer = codec.decode(Way::Full, d, channel, limit, &mut third);
+        let answer = (codec.decode_full)(d, channel, limit, &mut third);
         assert_eq!((answer, &third), (fully, &full), "{name}: {d:02x?}");
-        let answer = codec.decode(Way::Restarted, d, channel, limit, &mut fourth);
+        let answer = (codec.decode_restarted)(d, channel, limit, &mut fourth);
         assert_eq!((answer, &fourth), (again, &restarted), "{name}: {d:02x?}");
     }
 }
@@ -78,11 +77,7 @@ fn plain_codecs_agree_with_the_reference() {
 /// reference.
 fn quantised(scale: f32, samples: &[f32], room: usize) -> (u32, [u64; 2], Vec<u8>) {
     let mut output = vec![0xEE; room];
-    let (peak, numbers) = match quantise(scale, samples, &mut output) {
-        Ok(answer) => (answer.peak, [0, answer.clipped as u64]),
-        Err(Refusal::At(refusal, index)) => (0.0, [refusal.into(), index as u64]),
-        Err(refusal) => (0.0, [refusal.number().into(), 0]),
-    };
+    let (peak, numbers) = quantise_numbers(&quantise(scale, samples, &mut output));
     (peak.to_bits(), numbers, output)
 }
 
@@ -113,9 +108,9 @@ fn plain_quantisers_agree_with_the_reference() {
         for codec in others() {
             let mut output = vec![0xEE; room];
             let mut numbers = [7; 2];
-            let peak = codec.quantise(scale, &samples, &mut output, &mut numbers);
+            let peak = (codec.quantise)(scale, &samples, &mut output, &mut numbers);
             let result = (peak.to_bits(), numbers, output);
-            assert_eq!(result, expected, "{}: {scale} {samples:?}", codec.name());
+            assert_eq!(result, expected, "{}: {scale} {samples:?}", codec.name);
         }
     }
 }

@@ -1,7 +1,7 @@
 //! The library's resume, held to the reference on more than 150,000 calls.
 
 use host::description::{is_information, mask_of, record};
-use host::guard::{lend_input, lend_output};
+use host::guard::{lend_input, lend_output, lend_reference};
 use host::library;
 use host::number::resume_number;
 use host::paper::{D, V};
@@ -9,7 +9,7 @@ use host::pass::skipped_steps;
 use host::random::Random;
 use host::refusal::refusal_number;
 use host::resume::resume;
-use host::samples::{self, for_descriptions};
+use host::samples::{self, for_descriptions, for_refused_descriptions};
 use host::transform::transform;
 
 /// The library's answer, and its output after it.
@@ -26,11 +26,7 @@ fn run(d: &[u8], channel: &[u8], prefix: &[u8], before: &[u8]) -> (u64, Vec<u8>)
 /// Compares one call in its answer and in each byte of its output; gives the refusal's number, or
 /// 0.
 fn check(d: &[u8], channel: &[u8], prefix: &[u8], before: &[u8]) -> usize {
-    let mut output = before.to_vec();
-    let expected = resume(d, channel, prefix, &mut output);
-    if expected.is_err() {
-        assert_eq!(output, before, "a refusal writes nothing");
-    }
+    let (expected, output) = lend_reference(before, |output| resume(d, channel, prefix, output));
     assert_eq!(
         run(d, channel, prefix, before),
         (resume_number(&expected), output),
@@ -284,17 +280,13 @@ fn wrong_lengths() {
 
 #[test]
 fn refused_descriptions() {
-    let mut random = Random::new(11);
-    for refusal in 1..=8 {
-        for _ in 0..500 {
-            let d = samples::refused_description(&mut random, refusal);
-            let [channel, prefix, before] = [0; 3].map(|_| {
-                let length = random.below(1_100);
-                random.bytes(length)
-            });
-            assert_eq!(check(&d, &channel, &prefix, &before), refusal);
-        }
-    }
+    for_refused_descriptions(11, 500, |random, d, refusal| {
+        let [channel, prefix, before] = [0; 3].map(|_| {
+            let length = random.below(1_100);
+            random.bytes(length)
+        });
+        assert_eq!(check(d, &channel, &prefix, &before), refusal);
+    });
 }
 
 /// Faults of every kind at once, so that their order decides.
@@ -310,17 +302,8 @@ fn several_faults() {
         let q = random.between(0, size);
         let mut prefix = prefix(&mut random, &d, q);
         let mut before = random.bytes(size);
-        if random.below(4) == 0 {
-            let refusal = random.between(1, 8);
-            d = samples::refused_description(&mut random, refusal);
-        }
-        if random.below(4) == 0 {
-            channel.resize(random.below(2 * size), 0);
-        }
-        if random.below(3) == 0 && !channel.is_empty() {
-            let place = random.below(channel.len());
-            channel[place] = random.byte();
-        }
+        samples::spoil_description(&mut random, &mut d);
+        samples::spoil_channel(&mut random, &mut channel);
         if random.below(3) == 0 {
             prefix.resize(random.below(2 * size), 0);
         }

@@ -4,7 +4,6 @@ use std::f64::consts::TAU;
 
 use crate::description::{describe, record, Code};
 use crate::packing::{pack, packed_length, unpack};
-use crate::plain;
 use crate::random::Random;
 use crate::samples;
 
@@ -23,23 +22,44 @@ pub struct Frame {
     pub channel: Vec<u8>,
 }
 
-/// Frames of length 2^n, each of another code, at the noise where one in ten fails its first trial.
-pub fn of_length(n: usize) -> Vec<Frame> {
-    let mut random = Random::new(n as u64);
-    let sent: Vec<Sent> = (0..COUNT).map(|_| Sent::new(&mut random, n)).collect();
-    for tenth in 0.. {
-        let decibels = 10.0 - f64::from(tenth) / 10.0;
-        let frames: Vec<Frame> = sent.iter().map(|sent| sent.received(decibels)).collect();
-        if 10 * frames.iter().filter(|frame| frame.fails_first()).count() >= COUNT {
-            return frames;
+/// Frames of one length, each of another code, at a ratio Eb/N0.
+pub struct Frames {
+    pub n: usize,
+    pub decibels: f64,
+    pub list: Vec<Frame>,
+}
+
+impl Frames {
+    /// Frames of length 2^n at the noise where one in ten fails its first trial.
+    pub fn of_length(n: usize) -> Frames {
+        let mut random = Random::new(n as u64);
+        let sent: Vec<Sent> = (0..COUNT).map(|_| Sent::new(&mut random, n)).collect();
+        let (mut quiet, mut loud) = (1000, -1000);
+        while quiet - loud > 1 {
+            let middle = (quiet + loud) / 2;
+            if 10 * Frames::received(n, &sent, middle).failing() < COUNT {
+                quiet = middle;
+            } else {
+                loud = middle;
+            }
         }
+        Frames::received(n, &sent, loud)
     }
-    unreachable!("noise without end")
+
+    fn received(n: usize, sent: &[Sent], hundredths: i32) -> Frames {
+        let decibels = f64::from(hundredths) / 100.0;
+        let list = sent.iter().map(|sent| sent.received(decibels)).collect();
+        Frames { n, decibels, list }
+    }
+
+    /// How many fail their first trial.
+    pub fn failing(&self) -> usize {
+        self.list.iter().filter(|frame| frame.fails_first()).count()
+    }
 }
 
 impl Frame {
-    /// Whether trial 1 fails.
-    pub fn fails_first(&self) -> bool {
+    fn fails_first(&self) -> bool {
         let mut payload = vec![0; packed_length(self.code.k)];
         plain::decode_full(&self.description, &self.channel, 1, &mut payload) & 0xFF == 16
     }
@@ -70,9 +90,9 @@ impl Sent {
         }
     }
 
-    /// The frame at a ratio Eb/N0, a bit being one of the K at information indices.
+    /// The frame at a ratio Eb/N0, a bit being one of the payload.
     fn received(&self, decibels: f64) -> Frame {
-        let rate = self.code.information() as f64 / self.code.size() as f64;
+        let rate = self.code.k as f64 / self.code.size() as f64;
         let deviation = (2.0 * rate * 10f64.powf(decibels / 10.0)).sqrt().recip();
         let pairs = self.codeword.iter().zip(&self.noise);
         let samples: Vec<f32> = pairs
@@ -102,14 +122,13 @@ fn description(random: &mut Random, n: usize) -> Vec<u8> {
 /// A mask whose information indices are the most reliable ones by polarization weight: the sum of
 /// 2^(j/4) over the one bits j of an index.
 fn reliable_mask(n: usize, ones: usize) -> Vec<bool> {
-    let weight = |index: usize| -> f64 {
-        (0..n)
-            .filter(|j| index >> j & 1 == 1)
-            .map(|j| 2f64.powf(j as f64 / 4.0))
-            .sum()
-    };
+    let power = |j: usize| 2f64.powf(j as f64 / 4.0);
+    let weights: Vec<f64> = (0..n).fold(vec![0.0], |weights, j| {
+        let upper: Vec<f64> = weights.iter().map(|weight| weight + power(j)).collect();
+        [weights, upper].concat()
+    });
     let mut indices: Vec<usize> = (0..1 << n).collect();
-    indices.sort_by(|&a, &b| weight(b).total_cmp(&weight(a)));
+    indices.sort_by(|&a, &b| weights[b].total_cmp(&weights[a]));
     let mut mask = vec![false; 1 << n];
     for &index in &indices[..ones] {
         mask[index] = true;
@@ -135,10 +154,10 @@ mod tests {
     #[test]
     fn one_frame_in_ten_fails_its_first_trial() {
         for n in [5, 7] {
-            let frames = of_length(n);
-            assert_eq!(frames.len(), COUNT);
-            let failing = frames.iter().filter(|frame| frame.fails_first()).count();
-            assert!((26..=38).contains(&failing), "{failing}");
+            let frames = Frames::of_length(n);
+            assert_eq!(frames.list.len(), COUNT);
+            let failing = frames.failing();
+            assert!((26..=28).contains(&failing), "{failing}");
         }
     }
 

@@ -28,19 +28,8 @@ pub enum Limit {
 pub const LIMITS: [Limit; 3] = [Limit::Trials(1), Limit::Trials(13), Limit::All];
 
 impl Task {
-    pub fn all() -> Vec<Task> {
-        let decodes = [Way::Full, Way::Restarted]
-            .into_iter()
-            .flat_map(|way| LIMITS.map(|limit| Task::Decode(way, limit)));
-        [Task::Encode, Task::Pass]
-            .into_iter()
-            .chain(decodes)
-            .chain([Task::Quantise])
-            .collect()
-    }
-
     /// Calls a codec; gives its answer as one number. The output goes to the start of `room`.
-    pub fn call(self, codec: &dyn Codec, frame: &Frame, room: &mut [u8]) -> u64 {
+    pub fn call(self, codec: &Codec, frame: &Frame, room: &mut [u8]) -> u64 {
         let Frame {
             description,
             code,
@@ -50,15 +39,15 @@ impl Task {
         } = frame;
         let output = &mut room[..self.output_length(frame)];
         match self {
-            Task::Encode => codec.encode(description, payload, output),
-            Task::Pass => codec.resume(description, channel, &[], output),
+            Task::Encode => (codec.encode)(description, payload, output),
+            Task::Pass => (codec.resume)(description, channel, &[], output),
             Task::Decode(way, limit) => {
                 let limit = limit.of(code.information());
-                codec.decode(way, description, channel, limit, output)
+                codec.decoder(way)(description, channel, limit, output)
             }
             Task::Quantise => {
                 let mut numbers = [0; 2];
-                let peak = codec.quantise(SCALE, samples, output, &mut numbers);
+                let peak = (codec.quantise)(SCALE, samples, output, &mut numbers);
                 let [refusal, clipped] = numbers;
                 refusal ^ clipped << 8 ^ u64::from(peak.to_bits()) << 32
             }
@@ -66,7 +55,7 @@ impl Task {
     }
 
     /// The answer, and the output after it.
-    pub fn result(self, codec: &dyn Codec, frame: &Frame) -> (u64, Vec<u8>) {
+    pub fn result(self, codec: &Codec, frame: &Frame) -> (u64, Vec<u8>) {
         let mut output = vec![0xEE; self.output_length(frame)];
         let answer = self.call(codec, frame, &mut output);
         (answer, output)

@@ -1,24 +1,42 @@
 //! Times of calls. They are processor time of this thread, so that other programs on the machine
 //! disturb them little.
 
+use std::fmt::{self, Display, Formatter};
 use std::hint::black_box;
+use std::num::ParseFloatError;
+use std::ops::RangeInclusive;
+use std::str::FromStr;
 
 use crate::bench::codec::Codec;
 use crate::bench::frames::{Frame, COUNT};
+use crate::bench::process::PROCESSES;
 use crate::bench::task::Task;
 
-/// A round takes at least so long, in nanoseconds, and is repeated so often.
-const ROUND: f64 = 1e6;
-pub const ROUNDS: usize = 101;
-pub const LEAST_ROUNDS: usize = 21;
+/// A codec's turn takes at least so long, in nanoseconds.
+const TURN: f64 = 1e6;
 
-/// About how long all rounds of one task and codec may take, in nanoseconds.
-const BUDGET: f64 = 5e8;
+/// The rounds of a row take about so long in one process, in nanoseconds, within these numbers of
+/// rounds.
+const BUDGET: f64 = 2e9 / PROCESSES as f64;
+const ROUNDS: RangeInclusive<usize> = 5..=41;
+
+/// In how many places of the stack the rounds are made.
+const PLACES: usize = 61;
 
 /// The times of one call in nanoseconds, over all frames, one for each round.
+#[derive(Clone, Debug, Default, PartialEq)]
 pub struct Times(Vec<f64>);
 
 impl Times {
+    /// Adds the times of more rounds.
+    pub fn add(&mut self, more: Times) {
+        self.0.extend(more.0);
+    }
+
+    pub fn rounds(&self) -> usize {
+        self.0.len()
+    }
+
     pub fn median(&self) -> f64 {
         median(self.0.clone())
     }
@@ -29,27 +47,98 @@ impl Times {
     }
 }
 
+/// Of the rounds of some codecs, the half that took all of them together the least time: in the other
+/// half the machine had more to do, which slows one codec more than another.
+pub fn quiet_half(times: &[Times]) -> Vec<Times> {
+    let rounds = times[0].rounds();
+    let sum = |round: usize| -> f64 { times.iter().map(|times| times.0[round]).sum() };
+    let mut order: Vec<usize> = (0..rounds).collect();
+    order.sort_by(|&a, &b| sum(a).total_cmp(&sum(b)));
+    let quiet = &order[..rounds.div_ceil(2)];
+    let of = |times: &Times| Times(quiet.iter().map(|&round| times.0[round]).collect());
+    times.iter().map(of).collect()
+}
+
+/// The numbers, with spaces between.
+impl Display for Times {
+    fn fmt(&self, to: &mut Formatter) -> fmt::Result {
+        let numbers: Vec<String> = self.0.iter().map(f64::to_string).collect();
+        to.write_str(&numbers.join(" "))
+    }
+}
+
+impl FromStr for Times {
+    type Err = ParseFloatError;
+
+    fn from_str(text: &str) -> Result<Times, ParseFloatError> {
+        let numbers = text.split(' ').map(str::parse);
+        numbers.collect::<Result<_, _>>().map(Times)
+    }
+}
+
 fn median(mut numbers: Vec<f64>) -> f64 {
     numbers.sort_by(f64::total_cmp);
     numbers[numbers.len() / 2]
 }
 
-/// The times of each codec. In each round the codecs take turns.
-pub fn take(task: Task, codecs: &[Box<dyn Codec>], frames: &[Frame]) -> Vec<Times> {
-    let sweep = time(task, codecs[0].as_ref(), frames, 1).max(1.0);
-    let sweeps = (ROUND / sweep).ceil().max(1.0) as usize;
-    let rounds = (BUDGET / (sweep * sweeps as f64)) as usize;
-    let mut times = vec![Vec::new(); codecs.len()];
-    for _ in 0..rounds.clamp(LEAST_ROUNDS, ROUNDS) {
-        for (codec, times) in codecs.iter().zip(&mut times) {
-            times.push(time(task, codec.as_ref(), frames, sweeps) / (sweeps * COUNT) as f64);
+/// The times of each codec: this process's share of so many rounds, or as the budget allows.
+pub fn take(task: Task, codecs: &[Codec], frames: &[Frame], rounds: Option<usize>) -> Vec<Times> {
+    let sweep = time(task, &codecs[0], frames, 1).max(1.0);
+    let sweeps = (TURN / sweep).ceil();
+    let part = (COUNT as f64 * TURN / sweep).ceil() as usize;
+    let within = (BUDGET / (sweep * sweeps * codecs.len() as f64)) as usize;
+    let rounds = match rounds {
+        Some(rounds) => rounds.div_ceil(PROCESSES),
+        None => within.clamp(*ROUNDS.start(), *ROUNDS.end()),
+    };
+    let mut times = vec![Vec::with_capacity(rounds); codecs.len()];
+    for index in 0..rounds {
+        let parts = frames.chunks(part);
+        let sums = deeper(7 * index % PLACES, || {
+            round(task, codecs, parts, sweeps as usize, index)
+        });
+        for (times, sum) in times.iter_mut().zip(sums) {
+            times.push(sum / (sweeps * COUNT as f64));
         }
     }
     times.into_iter().map(Times).collect()
 }
 
-/// The time of some sweeps over all frames.
-fn time(task: Task, codec: &dyn Codec, frames: &[Frame], sweeps: usize) -> f64 {
+/// Makes a call further down the stack, by about a hundred bytes for each unit of depth: where a
+/// codec's arrays lie changes its time by some percent, so each round puts them at another place.
+#[inline(never)]
+fn deeper<R>(depth: usize, call: impl FnOnce() -> R) -> R {
+    let mut room = [0u8; 64];
+    black_box(&mut room);
+    let result = match depth {
+        0 => call(),
+        _ => deeper(depth - 1, call),
+    };
+    black_box(&mut room);
+    result
+}
+
+/// The time of each codec for all frames. The codecs take turns at each part of the frames, and
+/// another one begins in each round.
+fn round<'a>(
+    task: Task,
+    codecs: &[Codec],
+    parts: impl Iterator<Item = &'a [Frame]>,
+    sweeps: usize,
+    index: usize,
+) -> Vec<f64> {
+    let mut sums = vec![0.0; codecs.len()];
+    for frames in parts {
+        for turn in 0..codecs.len() {
+            let which = (index + turn) % codecs.len();
+            sums[which] += time(task, &codecs[which], frames, sweeps);
+        }
+    }
+    sums
+}
+
+/// The time of some sweeps over frames.
+fn time(task: Task, codec: &Codec, frames: &[Frame], sweeps: usize) -> f64 {
     let mut room = [0; 1024];
     let start = thread_time();
     for _ in 0..sweeps {
@@ -93,6 +182,22 @@ mod tests {
     fn the_middle_of_an_odd_number() {
         assert_eq!(median(vec![3.0, 1.0, 2.0]), 2.0);
         assert_eq!(median(vec![9.0, 1.0, 2.0, 4.0, 3.0]), 3.0);
+    }
+
+    #[test]
+    fn times_are_read_as_they_were_written() {
+        let times = Times(vec![1.0, 0.1, 1e9 / 3.0]);
+        assert_eq!(times.to_string().parse(), Ok(times));
+    }
+
+    #[test]
+    fn quiet_rounds_are_kept() {
+        let times = [
+            Times(vec![5.0, 1.0, 2.0, 9.0]),
+            Times(vec![1.0, 1.0, 1.0, 0.0]),
+        ];
+        let quiet = [Times(vec![1.0, 2.0]), Times(vec![1.0, 1.0])];
+        assert_eq!(quiet_half(&times), quiet);
     }
 
     #[test]

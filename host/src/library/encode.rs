@@ -1,5 +1,7 @@
 //! The export `polar_encode`.
 
+use crate::library::call;
+
 extern "C" {
     fn polar_encode(
         description: *const u8,
@@ -13,14 +15,5 @@ extern "C" {
 
 /// Writes a packed codeword; the answer is as in `number::encode_number`.
 pub fn encode(description: &[u8], payload: &[u8], codeword: &mut [u8]) -> u64 {
-    unsafe {
-        polar_encode(
-            description.as_ptr(),
-            description.len(),
-            payload.as_ptr(),
-            payload.len(),
-            codeword.as_mut_ptr(),
-            codeword.len(),
-        )
-    }
+    unsafe { call::encode(polar_encode, description, payload, codeword) }
 }

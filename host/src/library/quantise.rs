@@ -1,5 +1,7 @@
 //! The export `probe_quantise`.
 
+use crate::library::call;
+
 extern "C" {
     fn probe_quantise(
         scale: f32,
@@ -14,14 +16,5 @@ extern "C" {
 /// Writes a byte for each sample. Answers the peak, or positive zero with a refusal; the numbers
 /// become the refusal or 0, then the clipped count, a refusal's first index, or 0.
 pub fn quantise(scale: f32, samples: &[f32], output: &mut [u8], numbers: &mut [u64; 2]) -> f32 {
-    unsafe {
-        probe_quantise(
-            scale,
-            samples.as_ptr(),
-            samples.len(),
-            output.as_mut_ptr(),
-            output.len(),
-            numbers.as_mut_ptr(),
-        )
-    }
+    unsafe { call::quantise(probe_quantise, scale, samples, output, numbers) }
 }

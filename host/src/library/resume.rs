@@ -1,5 +1,7 @@
 //! The export `polar_resume`.
 
+use crate::library::call;
+
 extern "C" {
     fn polar_resume(
         description: *const u8,
@@ -15,16 +17,5 @@ extern "C" {
 
 /// Writes all N bits, one per byte; the answer is as in `number::resume_number`.
 pub fn resume(description: &[u8], channel: &[u8], prefix: &[u8], bits: &mut [u8]) -> u64 {
-    unsafe {
-        polar_resume(
-            description.as_ptr(),
-            description.len(),
-            channel.as_ptr(),
-            channel.len(),
-            prefix.as_ptr(),
-            prefix.len(),
-            bits.as_mut_ptr(),
-            bits.len(),
-        )
-    }
+    unsafe { call::resume(polar_resume, description, channel, prefix, bits) }
 }

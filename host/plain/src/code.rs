@@ -1,0 +1,83 @@
+//! What the calls are lent: descriptions and channels.
+
+use crate::answer::refuse_if;
+
+/// Bytes of a description before its mask.
+const HEADER: usize = 8;
+
+/// What a description says.
+pub struct Code<'a> {
+    pub size: usize,
+    pub r: u32,
+    pub polynomial: u32,
+    pub k: usize,
+    pub mask: &'a [u8],
+}
+
+impl<'a> Code<'a> {
+    pub fn read(d: &'a [u8]) -> Result<Self, u64> {
+        refuse_if(d.len() < HEADER, 1)?;
+        refuse_if(usize::from(word(d, 0)) != d.len(), 2)?;
+        refuse_if(word(d, 2) != 1, 3)?;
+        let n = d[4];
+        refuse_if(!(3..=10).contains(&n), 4)?;
+        let size = 1 << n;
+        refuse_if(d.len() != HEADER + size / 8, 5)?;
+        let r = u32::from(d[5]);
+        refuse_if(!(1..=16).contains(&r), 6)?;
+        let polynomial = u32::from(word(d, 6));
+        refuse_if(polynomial & 1 == 0 || polynomial >> r != 0, 7)?;
+        let mask = &d[HEADER..];
+        let ones: u32 = mask.iter().map(|byte| byte.count_ones()).sum();
+        refuse_if(ones < r + 1, 8)?;
+        Ok(Code {
+            size,
+            r,
+            polynomial,
+            k: (ones - r) as usize,
+            mask,
+        })
+    }
+
+    /// K, the number of information indices.
+    pub fn information(&self) -> usize {
+        self.k + self.r as usize
+    }
+
+    /// The mask's bits, one per byte.
+    pub fn mask_bits(&self) -> impl Iterator<Item = u8> + '_ {
+        self.mask
+            .iter()
+            .flat_map(|byte| (0..8).map(move |b| byte >> b & 1))
+    }
+
+    /// The first information index above i, or N.
+    pub fn restart_index(&self, i: usize) -> usize {
+        (i + 1..self.size)
+            .find(|&index| mask_bit(self.mask, index) == 1)
+            .unwrap_or(self.size)
+    }
+}
+
+/// Two bytes from `place` on, little-endian.
+fn word(bytes: &[u8], place: usize) -> u16 {
+    u16::from_le_bytes([bytes[place], bytes[place + 1]])
+}
+
+fn mask_bit(mask: &[u8], index: usize) -> u8 {
+    mask[index / 8] >> (index % 8) & 1
+}
+
+/// A channel byte in two's complement.
+pub fn value(byte: u8) -> i32 {
+    i32::from(byte as i8)
+}
+
+/// Refusals 12 and 13.
+pub fn check_channel(code: &Code, channel: &[u8]) -> Result<(), u64> {
+    refuse_if(channel.len() != code.size, 12)?;
+    match channel.iter().position(|byte| value(*byte).abs() > 31) {
+        Some(index) => Err(13 + ((index as u64) << 8)),
+        None => Ok(()),
+    }
+}

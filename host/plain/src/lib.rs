@@ -1,0 +1,20 @@
+//! The codec in plain Rust, written for speed: the calls and answers of `library` by the same
+//! algorithm, a recursion on i32 values with one bit per byte, and the quantiser. The benchmark
+//! compares with it. It is a package of its own so that it is compiled as Rust's release is.
+
+mod answer;
+mod code;
+mod decode;
+mod encode;
+mod message;
+mod pass;
+mod quantise;
+mod resume;
+
+pub use decode::{decode_full, decode_restarted};
+pub use encode::encode;
+pub use quantise::quantise;
+pub use resume::resume;
+
+/// The largest N.
+const SIZE: usize = 1024;

@@ -1,0 +1,78 @@
+//! Calls over the C boundary, of the library's functions and of others with the same prototypes.
+//!
+//! # Safety
+//! A function must read and write only the bytes whose pointers and lengths it gets, and keep no
+//! pointer. Each pointer goes with the length of the slice that it comes from.
+
+pub type Encode = unsafe extern "C" fn(*const u8, usize, *const u8, usize, *mut u8, usize) -> u64;
+pub type Resume = unsafe extern "C" fn(
+    *const u8,
+    usize,
+    *const u8,
+    usize,
+    *const u8,
+    usize,
+    *mut u8,
+    usize,
+) -> u64;
+pub type Decode =
+    unsafe extern "C" fn(*const u8, usize, *const u8, usize, u32, *mut u8, usize) -> u64;
+pub type Quantise = unsafe extern "C" fn(f32, *const f32, usize, *mut u8, usize, *mut u64) -> f32;
+
+/// Writes a packed codeword; the answer is as in `number::encode_number`.
+pub unsafe fn encode(by: Encode, d: &[u8], payload: &[u8], codeword: &mut [u8]) -> u64 {
+    by(
+        d.as_ptr(),
+        d.len(),
+        payload.as_ptr(),
+        payload.len(),
+        codeword.as_mut_ptr(),
+        codeword.len(),
+    )
+}
+
+/// Writes all N bits, one per byte; the answer is as in `number::resume_number`.
+pub unsafe fn resume(by: Resume, d: &[u8], channel: &[u8], prefix: &[u8], bits: &mut [u8]) -> u64 {
+    by(
+        d.as_ptr(),
+        d.len(),
+        channel.as_ptr(),
+        channel.len(),
+        prefix.as_ptr(),
+        prefix.len(),
+        bits.as_mut_ptr(),
+        bits.len(),
+    )
+}
+
+/// Writes the packed payload; the answer is as in `number::decode_number`.
+pub unsafe fn decode(by: Decode, d: &[u8], channel: &[u8], limit: u32, payload: &mut [u8]) -> u64 {
+    by(
+        d.as_ptr(),
+        d.len(),
+        channel.as_ptr(),
+        channel.len(),
+        limit,
+        payload.as_mut_ptr(),
+        payload.len(),
+    )
+}
+
+/// Writes a byte for each sample. Answers the peak, or positive zero with a refusal; the numbers
+/// become the refusal or 0, then the clipped count, a refusal's first index, or 0.
+pub unsafe fn quantise(
+    by: Quantise,
+    scale: f32,
+    samples: &[f32],
+    output: &mut [u8],
+    numbers: &mut [u64; 2],
+) -> f32 {
+    by(
+        scale,
+        samples.as_ptr(),
+        samples.len(),
+        output.as_mut_ptr(),
+        output.len(),
+        numbers.as_mut_ptr(),
+    )
+}

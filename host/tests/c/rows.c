@@ -1,0 +1,90 @@
+/* Rows of document 01 by each function of the header: each answer in its parts, then the output. */
+#include "polar.h"
+
+#include <inttypes.h>
+#include <stdio.h>
+#include <string.h>
+
+typedef uint64_t decoder(const uint8_t *, size_t, const uint8_t *, size_t, uint32_t, uint8_t *, size_t);
+
+static const uint8_t D[9] = {0x09, 0, 1, 0, 3, 1, 1, 0, 0xE8};
+static const uint8_t V[8] = {0xFF, 3, 2, 2, 0xFE, 0xFE, 3, 2};
+static const uint8_t RIGHT[8] = {4, 0xFC, 4, 0xFC, 0xFC, 4, 0xFC, 4};
+static const uint8_t ZEROS[8] = {0};
+static const uint8_t LAST_31[8] = {0, 0, 0, 0, 0, 0, 0, 31};
+static const uint8_t LAST_32[8] = {0, 0, 0, 0, 0, 0, 0, 32};
+static const uint8_t LAST_MINUS_32[8] = {0, 0, 0, 0, 0, 0, 0, 0xE0};
+
+static void print(const char *name, uint64_t answer, const uint8_t *output, size_t len)
+{
+    printf("%s: refusal %u, value %" PRIu32 ", steps %" PRIu32 ",", name, POLAR_REFUSAL(answer), POLAR_VALUE(answer), POLAR_STEPS(answer));
+    for (size_t i = 0; i < len; i++)
+        printf(" %02x", output[i]);
+    putchar('\n');
+}
+
+static void encode(const char *name, uint8_t mask, uint8_t payload)
+{
+    uint8_t description[sizeof D], codeword[1] = {0xEE};
+    memcpy(description, D, sizeof D);
+    description[8] = mask;
+    uint64_t answer = polar_encode(description, sizeof description, &payload, 1, codeword, sizeof codeword);
+    print(name, answer, codeword, sizeof codeword);
+}
+
+static void resume(const char *name, const uint8_t *channel, const uint8_t *prefix, size_t q)
+{
+    uint8_t bits[8];
+    memset(bits, 0xEE, sizeof bits);
+    uint64_t answer = polar_resume(D, sizeof D, channel, 8, prefix, q, bits, sizeof bits);
+    print(name, answer, bits, sizeof bits);
+}
+
+static void decode(const char *name, decoder *by, const uint8_t *channel, uint32_t limit)
+{
+    uint8_t payload[1] = {0xEE};
+    uint64_t answer = by(D, sizeof D, channel, 8, limit, payload, sizeof payload);
+    print(name, answer, payload, sizeof payload);
+}
+
+static void encode_rows(void)
+{
+    encode("encode A0", 0xE8, 0xA0);
+    encode("encode 80", 0xE8, 0x80);
+    encode("encode B0", 0xE8, 0xB0);
+    encode("mask 80", 0x80, 0x80);
+}
+
+static void resume_rows(void)
+{
+    resume("right signs", RIGHT, NULL, 0);
+    resume("six zeros", V, ZEROS, 6);
+    resume("q = 0", V, ZEROS, 0);
+    resume("q = 1", V, ZEROS, 1);
+    resume("q = 7", V, ZEROS, 7);
+    resume("q = 8", V, ZEROS, 8);
+    resume("31", LAST_31, NULL, 0);
+    resume("32", LAST_32, NULL, 0);
+    resume("-32", LAST_MINUS_32, NULL, 0);
+}
+
+static void decode_rows(decoder *by)
+{
+    decode("right signs", by, RIGHT, 1);
+    decode("V, T = 1", by, V, 1);
+    decode("V, T = 2", by, V, 2);
+    decode("V, T = 0", by, V, 0);
+    decode("V, T = 5", by, V, 5);
+    decode("V, T = 6", by, V, 6);
+    decode("zeros", by, ZEROS, 1);
+    decode("32", by, LAST_32, 1);
+}
+
+int main(void)
+{
+    encode_rows();
+    resume_rows();
+    decode_rows(polar_decode_full);
+    decode_rows(polar_decode_restarted);
+    return 0;
+}
