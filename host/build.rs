@@ -1,6 +1,5 @@
-//! Links the static libraries where `rt staticlib` has written them. Without them the reference,
-//! its unit tests and the program `vectors` still build. Compiles the benchmark's plain C with each
-//! compiler that there is.
+//! Links the static libraries where `rt staticlib` has written them. Without them the reference and
+//! its unit tests still build. Compiles the benchmark's plain C with each compiler that there is.
 
 use std::env;
 use std::path::{Path, PathBuf};

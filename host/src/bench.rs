@@ -15,13 +15,17 @@ pub use codec::others;
 
 use codec::{Codec, LIBRARY};
 use frames::{Frame, Frames};
-use process::PROCESSES;
 use report::Row;
 use task::Task;
 use timing::Times;
 
+use crate::sizes::DEEPEST;
+
 /// The code lengths, as n.
-const LAYERS: [usize; 3] = [5, 7, 10];
+const LAYERS: [usize; 3] = [5, 7, DEEPEST];
+
+/// Over how many processes the rounds of a row are spread.
+const PROCESSES: usize = 5;
 
 /// Compares all results, takes all times, and prints them; or, where the words ask for that, takes
 /// and prints the times alone.

@@ -59,14 +59,15 @@ fn log_phi(mean: f64) -> f64 {
 #[cfg(test)]
 mod tests {
     use super::*;
+    use crate::sizes::{DEEPEST, LONGEST};
 
     #[test]
     fn a_set_has_its_size_and_the_best_indices() {
         for (ones, mean) in [(144, 0.67), (272, 1.33), (528, 3.56)] {
-            let mask = information_set(10, ones, mean);
-            assert_eq!(mask.len(), 1024);
+            let mask = information_set(DEEPEST, ones, mean);
+            assert_eq!(mask.len(), LONGEST);
             assert_eq!(mask.iter().filter(|&&one| one).count(), ones);
-            assert!(mask[1023] && !mask[0]);
+            assert!(mask[LONGEST - 1] && !mask[0]);
         }
     }
 
@@ -74,9 +75,9 @@ mod tests {
     #[test]
     fn a_set_is_closed_under_setting_bits() {
         for (ones, mean) in [(144, 0.67), (272, 1.33), (528, 3.56)] {
-            let mask = information_set(10, ones, mean);
-            for index in (0..1024).filter(|&index| mask[index]) {
-                assert!((0..10).all(|bit| mask[index | 1 << bit]), "{index}");
+            let mask = information_set(DEEPEST, ones, mean);
+            for index in (0..LONGEST).filter(|&index| mask[index]) {
+                assert!((0..DEEPEST).all(|bit| mask[index | 1 << bit]), "{index}");
             }
         }
     }
@@ -85,9 +86,9 @@ mod tests {
     fn sets_grow_with_the_size() {
         let small = information_set(7, 30, 1.0);
         let large = information_set(7, 31, 1.0);
-        let added = (0..128).filter(|&index| small[index] != large[index]);
+        let added = (0..small.len()).filter(|&index| small[index] != large[index]);
         assert_eq!(added.count(), 1);
-        assert!((0..128).all(|index| large[index] || !small[index]));
+        assert!((0..small.len()).all(|index| large[index] || !small[index]));
     }
 
     #[test]

@@ -1,5 +1,7 @@
 //! Code descriptions: document 01, "Code description".
 
+use crate::sizes::{LAYERS, LONGEST_BYTES};
+
 /// What an accepted description says: n, the check width r, the check polynomial, and the payload
 /// size k in bits.
 #[derive(Clone, Copy, Debug, PartialEq, Eq)]
@@ -28,6 +30,9 @@ pub type Description = Result<Code, u8>;
 /// Bytes before the mask.
 const HEADER: usize = 8;
 
+/// The bytes of the longest description.
+pub const LONGEST_DESCRIPTION: usize = HEADER + LONGEST_BYTES;
+
 /// Reads a description; the refusals stand in the paper's order.
 pub fn describe(bytes: &[u8]) -> Description {
     if bytes.len() < HEADER {
@@ -41,7 +46,7 @@ pub fn describe(bytes: &[u8]) -> Description {
         return Err(3);
     }
     let n = usize::from(bytes[4]);
-    if !(3..=10).contains(&n) {
+    if !LAYERS.contains(&n) {
         return Err(4);
     }
     let size = 1 << n;
@@ -127,6 +132,7 @@ pub fn has_term(polynomial: u16, i: usize) -> bool {
 mod tests {
     use super::*;
     use crate::hex::parse;
+    use crate::sizes::DEEPEST;
 
     const D: &str = "09 00 01 00 03 01 01 00 E8";
 
@@ -216,10 +222,10 @@ mod tests {
 
     #[test]
     fn refusal_4_n() {
-        for n in [0, 1, 2, 11, 12, 64, 255] {
-            refused(&with(4, &[n]), 4);
+        for n in [0, 1, 2, DEEPEST + 1, DEEPEST + 2, 64, 255] {
+            refused(&with(4, &[n as u8]), 4);
         }
-        for n in 3..=10 {
+        for n in LAYERS {
             accepted(&record(n, 1, 1, &last(n, 5)), n, 1, 1, 4);
         }
     }
@@ -228,8 +234,8 @@ mod tests {
     fn refusal_5_length_and_n() {
         refused(&parse("08 00 01 00 03 01 01 00"), 5);
         refused(&parse("0A 00 01 00 03 01 01 00 E8 00"), 5);
-        for n in 4..=10 {
-            refused(&with(4, &[n]), 5);
+        for n in LAYERS.skip(1) {
+            refused(&with(4, &[n as u8]), 5);
         }
     }
 

@@ -58,6 +58,7 @@ fn number(refusal: u8, middle: usize, steps: usize) -> u64 {
 #[cfg(test)]
 mod tests {
     use super::*;
+    use crate::sizes::{MOST_STEPS, MOST_TRIALS};
 
     #[test]
     fn each_answer_has_its_bits() {
@@ -81,10 +82,10 @@ mod tests {
     #[test]
     fn the_most_trials_have_room() {
         let accepted = Accepted {
-            trial: 1025,
-            steps: 1025 * 10 * 1024,
+            trial: MOST_TRIALS,
+            steps: MOST_TRIALS * MOST_STEPS,
         };
-        let expected = (1025 * 10 * 1024) << 32 | 1025 << 8;
-        assert_eq!(decode_number(&Ok(accepted)), expected);
+        let expected = (MOST_TRIALS * MOST_STEPS) << 32 | MOST_TRIALS << 8;
+        assert_eq!(decode_number(&Ok(accepted)), expected as u64);
     }
 }

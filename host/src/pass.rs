@@ -154,6 +154,7 @@ mod tests {
     use crate::channel::read_channel;
     use crate::random::Random;
     use crate::samples;
+    use crate::sizes::{DEEPEST, LONGEST};
     use crate::transform::transform;
 
     /// The rules of a mask of n layers with the information indices given.
@@ -318,13 +319,13 @@ mod tests {
 
     #[test]
     fn leaf_magnitudes_keep_the_bound() {
-        let rules = vec![Rule::Usual; 1024];
-        let largest = pass(&[31; 1024], &[], &rules).leaves;
-        assert_eq!(largest.iter().max(), Some(&(31 << 10)));
+        let rules = vec![Rule::Usual; LONGEST];
+        let largest = pass(&[31; LONGEST], &[], &rules).leaves;
+        assert_eq!(largest.iter().max(), Some(&(31 << DEEPEST)));
         let mut random = Random::new(7);
         for _ in 0..20 {
-            let leaves = pass(&random_values(&mut random, 1024), &[], &rules).leaves;
-            assert!(leaves.iter().all(|leaf| leaf.abs() <= 31 << 10));
+            let leaves = pass(&random_values(&mut random, LONGEST), &[], &rules).leaves;
+            assert!(leaves.iter().all(|leaf| leaf.abs() <= 31 << DEEPEST));
         }
     }
 

@@ -26,6 +26,7 @@ mod tests {
     use super::*;
     use crate::description::count_information;
     use crate::random::Random;
+    use crate::sizes::LONGEST_BYTES;
 
     #[test]
     fn information_indices_ascend() {
@@ -37,7 +38,7 @@ mod tests {
     #[test]
     fn take_undoes_place() {
         let mut random = Random::new(1);
-        for length in 1..=128 {
+        for length in 1..=LONGEST_BYTES {
             let mask = random.bytes(length);
             let bits = random.bits(count_information(&mask));
             assert_eq!(take(&mask, &place(&mask, &bits)), bits);

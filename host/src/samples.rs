@@ -6,6 +6,12 @@ use std::ops::RangeInclusive;
 use crate::description::{describe, record, Code};
 use crate::packing::pack;
 use crate::random::Random;
+use crate::sizes::{DEEPEST, LAYERS};
+
+/// Any n.
+pub fn layers(random: &mut Random) -> usize {
+    random.between(*LAYERS.start(), DEEPEST)
+}
 
 /// A description that is accepted, of any check width and any number of information indices.
 pub fn description(random: &mut Random, n: usize) -> Vec<u8> {
@@ -77,7 +83,7 @@ pub fn spoil_channel(random: &mut Random, channel: &mut Vec<u8>) {
 
 /// A description, of any n, to which the refusal given applies first.
 pub fn refused_description(random: &mut Random, refusal: usize) -> Vec<u8> {
-    let n = random.between(3, 10);
+    let n = layers(random);
     let size = 1 << n;
     let mut d = description(random, n);
     let r = usize::from(d[5]);
@@ -85,8 +91,8 @@ pub fn refused_description(random: &mut Random, refusal: usize) -> Vec<u8> {
         1 => d.truncate(random.below(8)),
         2 => add_to_word(&mut d, 0, random.between(1, 65_535)),
         3 => add_to_word(&mut d, 2, random.between(1, 65_535)),
-        4 => d[4] = random.between(11, 255 + 3) as u8,
-        5 => d[4] = (3 + (n - 3 + random.between(1, 7)) % 8) as u8,
+        4 => d[4] = random.between(DEEPEST + 1, 255 + LAYERS.start()) as u8,
+        5 => d[4] = other_layers(random, n) as u8,
         6 => d[5] = random.between(17, 255 + 1) as u8,
         7 if r < 16 && random.bit() => set_bit(&mut d, 6, random.between(r, 15)),
         7 => d[6] -= 1,
@@ -97,6 +103,12 @@ pub fn refused_description(random: &mut Random, refusal: usize) -> Vec<u8> {
         _ => panic!("a description has no refusal {refusal}"),
     }
     d
+}
+
+/// Any n but this one.
+fn other_layers(random: &mut Random, n: usize) -> usize {
+    let (least, count) = (*LAYERS.start(), LAYERS.count());
+    least + (n - least + random.between(1, count - 1)) % count
 }
 
 /// Adds to the two bytes from `place` on, little-endian, without a carry out of them.
@@ -198,7 +210,7 @@ mod tests {
     #[test]
     fn descriptions_are_accepted() {
         let mut random = Random::new(1);
-        for n in 3..=10 {
+        for n in LAYERS {
             for _ in 0..100 {
                 for d in [
                     description(&mut random, n),

@@ -16,7 +16,7 @@ pub use figure::figure;
 pub use link::{Link, Tally};
 pub use table::{csv, nearest, read_csv, summary};
 
-/// N = 1024; the check of document 000, z^16 + z^15 + z^2 + 1; its trial limit.
+/// The n of document 000; its check, z^16 + z^15 + z^2 + 1; its trial limit.
 pub const LAYERS: usize = 10;
 pub const CHECK: (usize, u16) = (16, 0x8005);
 pub const LIMIT: u32 = 13;

@@ -3,8 +3,10 @@
 use std::hint::black_box;
 use std::thread;
 
+pub const KIB: usize = 1024;
+
 /// The bytes below the caller's frame that are watched.
-const DEPTH: usize = 256 * 1024;
+const DEPTH: usize = 256 * KIB;
 
 const PAINT: u8 = 0xA5;
 
@@ -74,6 +76,6 @@ mod tests {
 
     #[test]
     fn an_answer_comes_back() {
-        assert_eq!(on_stack(64 * 1024, || fill(7)), 7);
+        assert_eq!(on_stack(64 * KIB, || fill(7)), 7);
     }
 }

@@ -7,6 +7,7 @@ use crate::hex::parse;
 use crate::paper::{D, V};
 use crate::random::Random;
 use crate::samples;
+use crate::sizes::DEEPEST;
 
 /// A channel record.
 pub fn channel(limit: u16, values: &[u8]) -> Vec<u8> {
@@ -113,7 +114,7 @@ fn cuts() -> Vec<(String, Vec<u8>)> {
 /// Streams without a refusal of theirs, or with many records.
 fn accepted() -> Vec<(String, Vec<u8>)> {
     let mut random = Random::new(1024);
-    let long = samples::useful_description(&mut random, 10);
+    let long = samples::useful_description(&mut random, DEEPEST);
     let code = describe(&long).expect("an accepted description");
     let clear = frame(&mut random, &long, &code, 20, 1);
     let longest = blank(65_535, 2);

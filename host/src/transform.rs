@@ -15,6 +15,7 @@ pub fn transform(u: &[u8]) -> Vec<u8> {
 mod tests {
     use super::*;
     use crate::random::Random;
+    use crate::sizes::DEEPEST;
 
     /// G^(⊗n) of document 000: the n-th Kronecker power of the rows 1 0 and 1 1.
     fn kronecker_power(n: usize) -> Vec<Vec<u8>> {
@@ -58,7 +59,7 @@ mod tests {
     #[test]
     fn undoes_itself() {
         let mut random = Random::new(2);
-        for n in 0..=10 {
+        for n in 0..=DEEPEST {
             let u = random.bits(1 << n);
             assert_eq!(transform(&transform(&u)), u);
         }

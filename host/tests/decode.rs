@@ -14,6 +14,7 @@ use host::placing::place;
 use host::random::Random;
 use host::refusal::{refusal_number, Refusal};
 use host::samples::{self, for_refused_descriptions};
+use host::sizes::{DEEPEST, LAYERS, LONGEST, LONGEST_BYTES, MOST_TRIALS};
 use host::transform::transform;
 
 type Reference = fn(&[u8], &[u8], u32, &mut [u8]) -> Result<Accepted, Refusal>;
@@ -187,7 +188,7 @@ fn every_limit_of_small_codes() {
 #[test]
 fn limits_at_their_edges() {
     let mut random = Random::new(2);
-    for n in 3..=10 {
+    for n in LAYERS {
         for _ in 0..(3_000 >> n).max(3) {
             let d = samples::description(&mut random, n);
             let channel = samples::channel(&mut random, 1 << n, 31);
@@ -206,13 +207,13 @@ fn limits_at_their_edges() {
     }
 }
 
-/// The longest runs: N = 1024, all indices information indices, every trial made.
+/// The longest runs: the longest code, all indices information indices, every trial made.
 #[test]
 fn the_most_trials() {
     let mut random = Random::new(3);
-    let d = record(10, 16, 0x8005, &[true; 1024]);
-    let channel = samples::channel(&mut random, 1024, 31);
-    let answer = check(&d, &channel, 1025, &room(&mut random, &d));
+    let d = record(DEEPEST, 16, 0x8005, &[true; LONGEST]);
+    let channel = samples::channel(&mut random, LONGEST, 31);
+    let answer = check(&d, &channel, MOST_TRIALS as u32, &room(&mut random, &d));
     assert_eq!(refusal_number(&answer), 16);
 }
 
@@ -220,7 +221,7 @@ fn the_most_trials() {
 #[test]
 fn noise() {
     let mut random = Random::new(4);
-    for n in 3..=10 {
+    for n in LAYERS {
         let mut outcomes = Outcomes::default();
         for round in 0..(60_000 >> n).max(600) {
             let d = samples::useful_description(&mut random, n);
@@ -238,7 +239,7 @@ fn noise() {
 #[test]
 fn right_signs() {
     let mut random = Random::new(5);
-    for n in 3..=10 {
+    for n in LAYERS {
         for _ in 0..(20_000 >> n).max(50) {
             let d = samples::description(&mut random, n);
             let (x, payload) = sent(&mut random, &d);
@@ -259,7 +260,7 @@ fn right_signs() {
 fn strong_values() {
     let mut random = Random::new(11);
     let mut outcomes = Outcomes::default();
-    for n in 3..=10 {
+    for n in LAYERS {
         let size = 1 << n;
         for _ in 0..100 {
             let r = random.between(1, 6);
@@ -280,7 +281,7 @@ fn strong_values() {
 fn garbage() {
     let mut random = Random::new(6);
     let mut outcomes = Outcomes::default();
-    for n in 3..=10 {
+    for n in LAYERS {
         for round in 0..(40_000 >> n).max(60) {
             let size = 1 << n;
             let d = samples::description(&mut random, n);
@@ -304,7 +305,7 @@ fn garbage() {
 #[test]
 fn values_out_of_range() {
     let mut random = Random::new(7);
-    for n in 3..=10 {
+    for n in LAYERS {
         for _ in 0..100 {
             let d = samples::description(&mut random, n);
             let size = 1 << n;
@@ -322,7 +323,7 @@ fn values_out_of_range() {
 #[test]
 fn wrong_lengths() {
     let mut random = Random::new(8);
-    for n in 3..=10 {
+    for n in LAYERS {
         for _ in 0..50 {
             let d = samples::description(&mut random, n);
             let size = 1 << n;
@@ -346,8 +347,8 @@ fn wrong_lengths() {
 #[test]
 fn refused_descriptions() {
     for_refused_descriptions(9, 500, |random, d, refusal| {
-        let channel = vec![0; random.below(1_100)];
-        let before = vec![0xEE; random.below(130)];
+        let channel = vec![0; random.below(LONGEST + 80)];
+        let before = vec![0xEE; random.below(LONGEST_BYTES + 2)];
         let limit = random.below(20) as u32;
         let answer = check(d, &channel, limit, &before);
         assert_eq!(refusal_number(&answer), refusal);

@@ -1,10 +1,13 @@
 //! The library's reading of descriptions, held to the reference on more than 300,000 inputs.
 
-use host::description::{describe, record};
+use host::description::{describe, record, LONGEST_DESCRIPTION};
 use host::guard::lend_input;
+use host::hex::parse;
 use host::library::{self, description_number};
+use host::paper::D;
 use host::random::Random;
 use host::samples;
+use host::sizes::{DEEPEST, LAYERS, LONGEST};
 
 /// Compares one answer in all its bits; gives the refusal's number, or 0.
 fn check(d: &[u8]) -> usize {
@@ -24,7 +27,7 @@ fn check_with(d: &[u8], place: usize, bytes: &[u8]) -> usize {
 /// Gives accepted descriptions to a test, `count` for each n.
 fn for_accepted(seed: u64, count: usize, mut test: impl FnMut(&mut Random, &[u8])) {
     let mut random = Random::new(seed);
-    for n in 3..=10 {
+    for n in LAYERS {
         for _ in 0..count {
             let d = samples::description(&mut random, n);
             test(&mut random, &d);
@@ -34,6 +37,53 @@ fn for_accepted(seed: u64, count: usize, mut test: impl FnMut(&mut Random, &[u8]
 
 fn length_field(bytes: usize) -> [u8; 2] {
     (bytes as u16).to_le_bytes()
+}
+
+/// Each row with its refusal, or 0: those of the paper, each rule at its edges, several faults.
+const ROWS: [(usize, &str); 28] = [
+    (0, "09 00 01 00 03 01 01 00 E8"),
+    (0, "09 00 01 00 03 01 01 00 C0"),
+    (8, "09 00 01 00 03 01 01 00 80"),
+    (1, "09 00 01 00 03 01 01"),
+    (2, "0A 00 01 00 03 01 01 00 E8"),
+    (2, "08 00 01 00 03 01 01 00 E8"),
+    (2, "09 01 01 00 03 01 01 00 E8"),
+    (3, "09 00 00 00 03 01 01 00 E8"),
+    (3, "09 00 02 00 03 01 01 00 E8"),
+    (3, "09 00 01 01 03 01 01 00 E8"),
+    (4, "09 00 01 00 02 01 01 00 E8"),
+    (5, "08 00 01 00 03 01 01 00"),
+    (5, "09 00 01 00 04 01 01 00 E8"),
+    (6, "09 00 01 00 03 00 01 00 E8"),
+    (6, "0C 00 01 00 05 11 01 00 FF FF FF FF"),
+    (0, "0C 00 01 00 05 10 05 80 FF FF FF 0F"),
+    (7, "09 00 01 00 03 03 06 00 E8"),
+    (7, "09 00 01 00 03 03 09 00 E8"),
+    (7, "09 00 01 00 03 03 01 80 E8"),
+    (0, "09 00 01 00 03 03 05 00 E8"),
+    (8, "0A 00 01 00 04 03 03 00 01 C0"),
+    (0, "0A 00 01 00 04 03 03 00 01 E0"),
+    (2, "FF FF FF FF FF FF FE FF 00"),
+    (3, "09 00 FF FF FF FF FE FF 00"),
+    (4, "09 00 01 00 FF FF FE FF 00"),
+    (5, "09 00 01 00 04 FF FE FF 00"),
+    (6, "09 00 01 00 03 FF FE FF 00"),
+    (7, "09 00 01 00 03 01 FE FF 00"),
+];
+
+#[test]
+fn rows_of_the_paper_and_at_the_edges() {
+    for (refusal, text) in ROWS {
+        assert_eq!(check(&parse(text)), refusal, "{text}");
+    }
+}
+
+#[test]
+fn the_largest_n() {
+    let longest = record(DEEPEST, 11, 0x0621, &[true; LONGEST]);
+    assert_eq!(longest.len(), LONGEST_DESCRIPTION);
+    assert_eq!(check(&longest), 0);
+    assert_eq!(check_with(&D, 4, &[DEEPEST as u8 + 1]), 4);
 }
 
 #[test]
@@ -105,7 +155,7 @@ fn each_field_at_its_edges() {
 #[test]
 fn ones_around_the_check_width() {
     let mut random = Random::new(6);
-    for n in 3..=10 {
+    for n in LAYERS {
         let size = 1 << n;
         for r in 1..=16 {
             for ones in r - 1..=(r + 2).min(size) {
@@ -125,10 +175,10 @@ fn ones_around_the_check_width() {
 fn random_bytes() {
     let mut random = Random::new(7);
     for _ in 0..20_000 {
-        let length = random.below(140);
+        let length = random.below(LONGEST_DESCRIPTION + 4);
         check(&random.bytes(length));
 
-        let n = random.between(3, 10);
+        let n = samples::layers(&mut random);
         let d = random.bytes(8 + (1 << n) / 8);
         let [low, high] = length_field(d.len());
         let header = [low, high, 1, 0, n as u8, random.byte() % 20];

@@ -10,6 +10,7 @@ use host::paper::D;
 use host::random::Random;
 use host::refusal::refusal_number;
 use host::samples::{self, for_descriptions, for_refused_descriptions};
+use host::sizes::{LAYERS, LONGEST_BYTES};
 
 /// The library's answer, and its output after it.
 fn run(d: &[u8], payload: &[u8], before: &[u8]) -> (u64, Vec<u8>) {
@@ -61,7 +62,7 @@ fn every_payload_of_every_code_of_length_8() {
 #[test]
 fn random_payloads() {
     let mut random = Random::new(1);
-    for n in 3..=10 {
+    for n in LAYERS {
         for _ in 0..200_000 >> n {
             let d = samples::description(&mut random, n);
             let code = describe(&d).expect("a code");
@@ -74,7 +75,7 @@ fn random_payloads() {
 
 #[test]
 fn payloads_of_a_lone_one() {
-    for_descriptions(2, 3..=10, 1, |random, d, code| {
+    for_descriptions(2, LAYERS, 1, |random, d, code| {
         for place in (0..code.k).step_by(1 + code.k / 64) {
             let mut payload = vec![0; packed_length(code.k)];
             payload[place / 8] = 0x80 >> (place % 8);
@@ -85,7 +86,7 @@ fn payloads_of_a_lone_one() {
 
 #[test]
 fn payloads_of_a_wrong_length() {
-    for_descriptions(3, 3..=10, 50, |random, d, code| {
+    for_descriptions(3, LAYERS, 50, |random, d, code| {
         let right = packed_length(code.k);
         for length in (0..2 * right + 3).filter(|&length| length != right) {
             let before = random.bytes(code.size() / 8);
@@ -98,7 +99,7 @@ fn payloads_of_a_wrong_length() {
 /// Each unused bit alone, then all of them.
 #[test]
 fn unused_bits() {
-    for_descriptions(4, 3..=10, 1_000, |random, d, code| {
+    for_descriptions(4, LAYERS, 1_000, |random, d, code| {
         let unused = 8 * packed_length(code.k) - code.k;
         let alone = (0..unused).map(|bit| 1 << bit);
         for bits in alone.chain([(1 << unused) - 1]).filter(|&bits| bits > 0) {
@@ -111,7 +112,7 @@ fn unused_bits() {
 
 #[test]
 fn outputs_of_a_wrong_length() {
-    for_descriptions(5, 3..=10, 50, |random, d, code| {
+    for_descriptions(5, LAYERS, 50, |random, d, code| {
         let right = code.size() / 8;
         let payload = samples::payload(random, code.k);
         let lengths = (0..right + 9).chain([2 * right, code.size(), 65_536]);
@@ -124,8 +125,8 @@ fn outputs_of_a_wrong_length() {
 #[test]
 fn refused_descriptions() {
     for_refused_descriptions(6, 1_000, |random, d, refusal| {
-        let payload = vec![0; random.below(130)];
-        let before = vec![0xEE; random.below(130)];
+        let payload = vec![0; random.below(LONGEST_BYTES + 2)];
+        let before = vec![0xEE; random.below(LONGEST_BYTES + 2)];
         assert_eq!(check(d, &payload, &before), refusal);
     });
 }
@@ -134,7 +135,7 @@ fn refused_descriptions() {
 /// output that suited the description before.
 #[test]
 fn damaged_descriptions() {
-    for_descriptions(7, 3..=10, 5, |random, d, code| {
+    for_descriptions(7, LAYERS, 5, |random, d, code| {
         let payload = samples::payload(random, code.k);
         let before = random.bytes(code.size() / 8);
         for place in 0..d.len().min(40) {

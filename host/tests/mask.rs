@@ -4,11 +4,12 @@ use host::description::{count_information, is_information};
 use host::guard::lend_input;
 use host::library;
 use host::random::Random;
+use host::sizes::{LONGEST, LONGEST_BYTES};
 
 #[test]
 fn every_mask_bit() {
     let mut random = Random::new(1);
-    for length in 0..=128 {
+    for length in 0..=LONGEST_BYTES {
         let mask = random.bytes(length);
         let bit = |index| lend_input(&mask, |lent| library::mask_bit(lent, index));
         for index in 0..8 * length {
@@ -35,7 +36,7 @@ fn ones_of_every_byte() {
 #[test]
 fn ones_of_random_masks() {
     let mut random = Random::new(2);
-    for length in 0..=1024 {
+    for length in 0..=LONGEST {
         let mask = random.bytes(length);
         assert_eq!(
             lend_input(&mask, library::ones),

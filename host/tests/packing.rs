@@ -1,11 +1,10 @@
-//! The library's packing and unpacking, held to the reference for every count of bits to 1,024.
+//! The library's packing and unpacking, held to the reference for every count of bits of a code.
 
 use host::guard::{lend_input, lend_output};
 use host::library;
 use host::packing::{pack, packed_length, unpack};
 use host::random::Random;
-
-const MOST: usize = 1024;
+use host::sizes::LONGEST as MOST;
 
 /// Runs a library function from `input` into an output that holds `before`; gives its answer and
 /// the output after it.

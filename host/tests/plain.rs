@@ -10,6 +10,7 @@ use host::quantise::quantise;
 use host::random::Random;
 use host::resume::resume;
 use host::samples;
+use host::sizes::LAYERS;
 
 /// Each call on these inputs, whether they suit each other or not.
 fn check(d: &[u8], payload: &[u8], channel: &[u8], prefix: &[u8], limit: u32, room: [usize; 3]) {
@@ -38,7 +39,7 @@ fn check(d: &[u8], payload: &[u8], channel: &[u8], prefix: &[u8], limit: u32, ro
 #[test]
 fn plain_codecs_agree_with_the_reference() {
     let mut random = Random::new(1);
-    for n in 3..=10 {
+    for n in LAYERS {
         for round in 0..(12_000 >> n).max(60) {
             let size = 1 << n;
             let mut d = samples::useful_description(&mut random, n);

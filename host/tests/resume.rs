@@ -10,6 +10,7 @@ use host::random::Random;
 use host::refusal::refusal_number;
 use host::resume::resume;
 use host::samples::{self, for_descriptions, for_refused_descriptions};
+use host::sizes::{DEEPEST, LAYERS, LONGEST};
 use host::transform::transform;
 
 /// The library's answer, and its output after it.
@@ -121,7 +122,7 @@ fn every_prefix_of_the_paper_s_code() {
 
 #[test]
 fn any_prefix_length_of_large_codes() {
-    for_descriptions(3, 8..=10, 150, |random, d, code| {
+    for_descriptions(3, 8..=DEEPEST, 150, |random, d, code| {
         let size = code.size();
         let half = size / 2;
         let edges = [0, 1, half - 1, half, half + 1, size - 1, size];
@@ -136,7 +137,7 @@ fn any_prefix_length_of_large_codes() {
 /// Forcing what a plain pass decided changes no bit and skips the steps of the closed sum.
 #[test]
 fn resuming_a_plain_pass() {
-    for_descriptions(4, 3..=10, 40, |random, d, code| {
+    for_descriptions(4, LAYERS, 40, |random, d, code| {
         let size = code.size();
         let channel = values(random, size);
         let (whole, bits) = run(d, &channel, &[], &random.bytes(size));
@@ -155,7 +156,7 @@ fn resuming_a_plain_pass() {
 #[test]
 fn strong_values_against_the_prefix() {
     let mut random = Random::new(13);
-    for n in 3..=10 {
+    for n in LAYERS {
         let size = 1 << n;
         let d = record(n, 1, 1, &vec![true; size]);
         for _ in 0..100 {
@@ -173,7 +174,7 @@ fn strong_values_against_the_prefix() {
 
 #[test]
 fn values_at_the_ends() {
-    for_descriptions(5, 3..=10, 20, |random, d, code| {
+    for_descriptions(5, LAYERS, 20, |random, d, code| {
         let size = code.size();
         for byte in [31, 225, 0] {
             let prefix = prefix(random, d, size / 2);
@@ -198,7 +199,7 @@ fn every_byte_as_a_value() {
 /// At both ends and at random places, also several at once: the first one is reported.
 #[test]
 fn values_out_of_range() {
-    for_descriptions(7, 3..=10, 100, |random, d, code| {
+    for_descriptions(7, LAYERS, 100, |random, d, code| {
         let size = code.size();
         for place in [0, size - 1, random.below(size), random.below(size)] {
             let mut channel = values(random, size);
@@ -216,7 +217,7 @@ fn values_out_of_range() {
 
 #[test]
 fn bad_prefix_bytes() {
-    for_descriptions(8, 3..=10, 200, |random, d, code| {
+    for_descriptions(8, LAYERS, 200, |random, d, code| {
         let size = code.size();
         let channel = values(random, size);
         let before = random.bytes(size);
@@ -235,7 +236,7 @@ fn bad_prefix_bytes() {
 
 #[test]
 fn ones_at_frozen_indices() {
-    for_descriptions(9, 3..=10, 100, |random, d, code| {
+    for_descriptions(9, LAYERS, 100, |random, d, code| {
         let channel = values(random, code.size());
         let before = random.bytes(code.size());
         let frozen: Vec<usize> = (0..code.size())
@@ -255,7 +256,7 @@ fn ones_at_frozen_indices() {
 
 #[test]
 fn wrong_lengths() {
-    for_descriptions(10, 3..=10, 40, |random, d, code| {
+    for_descriptions(10, LAYERS, 40, |random, d, code| {
         let size = code.size();
         let channel = values(random, size);
         let before = random.bytes(size);
@@ -282,7 +283,7 @@ fn wrong_lengths() {
 fn refused_descriptions() {
     for_refused_descriptions(11, 500, |random, d, refusal| {
         let [channel, prefix, before] = [0; 3].map(|_| {
-            let length = random.below(1_100);
+            let length = random.below(LONGEST + 80);
             random.bytes(length)
         });
         assert_eq!(check(d, &channel, &prefix, &before), refusal);

@@ -5,11 +5,11 @@ use std::fs;
 
 use host::files::repository;
 use host::simulation::{
-    at, csv, figure, nearest, read_csv, summary, Decoder, Row, Setting, Tally, DECODERS, POINTS,
-    SETTINGS,
+    at, csv, figure, nearest, read_csv, summary, Decoder, Row, Setting, Tally, DECODERS, LAYERS,
+    POINTS, SETTINGS,
 };
 
-const STEPS_OF_A_PASS: u64 = 10 * 1024;
+const STEPS_OF_A_PASS: u64 = (LAYERS as u64) << LAYERS;
 
 /// The rows of docs/flipping.csv.
 fn shipped() -> Vec<Row> {

@@ -1,14 +1,13 @@
-//! How much stack one call takes at N = 1024: at most 24 KiB for encode and resume, 32 KiB for the
-//! decoders.
+//! How much stack one call takes for the longest code: at most 24 KiB for encode and resume, 32 KiB
+//! for the decoders.
 
 use host::description::{describe, record};
 use host::library;
 use host::packing::packed_length;
 use host::random::Random;
 use host::samples;
-use host::stack::{on_stack, stack_of};
-
-const KIB: usize = 1024;
+use host::sizes::{DEEPEST, LONGEST, LONGEST_BYTES};
+use host::stack::{on_stack, stack_of, KIB};
 
 /// What a thread may take for its own start.
 const THREAD: usize = 16 * KIB;
@@ -21,9 +20,10 @@ fn keeps_to(limit: usize, name: &str, mut call: impl FnMut() + Send) {
     on_stack(limit + THREAD, call);
 }
 
-/// Codes of length 1024 with few, some and all information indices.
+/// The longest codes with few, some and all information indices.
 fn descriptions() -> [Vec<u8>; 3] {
-    [17, 512, 1024].map(|ones| record(10, 16, 0x8005, &samples::useful_mask(1024, ones)))
+    [17, LONGEST / 2, LONGEST]
+        .map(|ones| record(DEEPEST, 16, 0x8005, &samples::useful_mask(LONGEST, ones)))
 }
 
 #[test]
@@ -32,7 +32,7 @@ fn encode() {
     for d in descriptions() {
         let k = describe(&d).expect("a code").k;
         let payload = samples::payload(&mut random, k);
-        let mut codeword = vec![0; 128];
+        let mut codeword = vec![0; LONGEST_BYTES];
         keeps_to(24 * KIB, &format!("encode, k = {k}"), || {
             assert_eq!(library::encode(&d, &payload, &mut codeword), 0);
         });
@@ -43,10 +43,11 @@ fn encode() {
 fn resume() {
     let mut random = Random::new(2);
     for d in descriptions() {
-        let channel = samples::channel(&mut random, 1024, 31);
-        for q in [0, 1, 511, 512, 513, 1023, 1024] {
+        let channel = samples::channel(&mut random, LONGEST, 31);
+        let half = LONGEST / 2;
+        for q in [0, 1, half - 1, half, half + 1, LONGEST - 1, LONGEST] {
             let prefix = vec![0; q];
-            let mut bits = vec![0; 1024];
+            let mut bits = vec![0; LONGEST];
             keeps_to(24 * KIB, &format!("resume, q = {q}"), || {
                 let answer = library::resume(&d, &channel, &prefix, &mut bits);
                 assert_eq!(answer & 0xFF, 0);
@@ -65,7 +66,7 @@ fn decoders() {
     let mut random = Random::new(3);
     for d in descriptions() {
         let code = describe(&d).expect("a code");
-        let channel = samples::channel(&mut random, 1024, 31);
+        let channel = samples::channel(&mut random, LONGEST, 31);
         let mut payload = vec![0; packed_length(code.k)];
         for limit in [1, 2, code.information() as u32 + 1] {
             for (name, decode) in both {

@@ -1,10 +1,10 @@
--- The bits of a number as a list, the highest first. Assumes nothing.
+-- The bits of a number as a list, the highest first.
 use mathlib.Core.Path.{_≡_, refl, ap, ap₂, _∙_}
 use mathlib.Core.List.{List, _∷_}
 use Prim.Native.Nat.{ℕ, zero, suc, _+_, _-_, _%_, _^_, _≤_, _<_}
 use native.Mathlib.Omega.{arith}
 use lib.ListN.{length, replicate}
-use Rattle.laws.specs.Segment.{table}
+use Rattle.laws.specs.Table.{table}
 use Rattle.laws.proofs.Table.{table-ext}
 use Rattle.bits.specs.Bit.{bit, bitsOf}
 use Rattle.bits.proofs.Bitwise.{bit-mod, bit-zero}

@@ -1,4 +1,4 @@
--- The bits of a number: after shifts, and under exclusive-or, and, or. Assumes nothing.
+-- The bits of a number: after shifts, and under exclusive-or, and, or.
 use mathlib.Core.Path.{_≡_, refl, sym, ap, _∙_}
 use Prim.Native.Nat.{ℕ, zero, suc, _+_, _-_, _*_, _/_, _%_, _^_, _<_}
 use native.Mathlib.Nat.{mod-lt, zero-lt-suc, div-one, div-eq-of-lt}

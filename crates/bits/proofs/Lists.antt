@@ -1,11 +1,12 @@
--- Lists made of lists of bits are lists of bits. Assumes nothing.
+-- Lists made of lists of bits are lists of bits.
 use mathlib.Core.List.{List, [], _∷_, _++_}
 use Prim.Native.Nat.{ℕ, zero, suc, _<_}
 use native.Mathlib.Omega.{arith}
 use lib.ListN.{getD, take, drop}
-use Rattle.laws.specs.Segment.{table}
+use Rattle.laws.specs.Table.{table}
 use Rattle.laws.proofs.Each.{each-append, each-take, each-drop, each-table}
-use Rattle.bits.specs.Bit.{Bits, bitsOf}
+use Rattle.bits.specs.Bit.{bitsOf}
+use Rattle.bits.specs.Claims.{Bits}
 use Rattle.bits.specs.Packing.{unpacked}
 use Rattle.bits.proofs.Bitwise.{bit-lt}
 

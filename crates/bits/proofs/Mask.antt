@@ -1,5 +1,4 @@
 -- A byte's count of ones is the sum of its eight bits, so the counts of a mask's bytes add up to the number of its information indices.
--- Assumes nothing.
 use mathlib.Core.Path.{_≡_, refl, sym, ap, ap₂, _∙_}
 use mathlib.Core.List.{List}
 use Prim.Native.Nat.{ℕ, zero, suc, _+_, _*_, _/_, _%_, _^_, _≤_, _<_, zero-le}
@@ -9,8 +8,10 @@ use native.Mathlib.Omega.{arith}
 use lib.Dec.{lit≤}
 use lib.ListN.{getD}
 use lib.Count as count
+use mathlib.Core.Logic.{_⊎_, inl, inr}
 use Rattle.bits.specs.Bit.{bit}
-use Rattle.bits.specs.Mask.{maskBit, onesBelow, byteCounts}
+use Rattle.bits.specs.Mask.{maskBit, onesBelow}
+use Rattle.bits.specs.Claims.{byteCounts}
 use Rattle.bits.proofs.Bitwise.{shr-one, bit-lt}
 
 -- a number's count of ones is that of its w low digits and that of the rest
@@ -74,3 +75,16 @@ pub ones-le : (mask : List ℕ) (n : ℕ) → onesBelow mask n ≤ n
 unfolding onesBelow
 ones-le mask zero = zero-le
 ones-le mask (suc n) = omega (arith, ones-le mask n, bit-lt (getD mask (n / 8) 0) (n % 8))
+
+-- what an index adds is its bit of the mask
+pub mask-bit-lt : (mask : List ℕ) (i : ℕ) → maskBit mask i < 2
+mask-bit-lt mask i = bit-lt (getD mask (i / 8) 0) (i % 8)
+
+-- a bit of the mask is 0 or 1
+pub mask-cases : (mask : List ℕ) (i : ℕ) → (maskBit mask i ≡ 0) ⊎ (maskBit mask i ≡ 1)
+mask-cases mask i = go (maskBit mask i) (mask-bit-lt mask i)
+  where
+    go : (b : ℕ) → b < 2 → (b ≡ 0) ⊎ (b ≡ 1)
+    go zero h = inl refl
+    go (suc zero) h = inr refl
+    go (suc (suc b)) h = absurd (omega arith)

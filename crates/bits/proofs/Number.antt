@@ -1,4 +1,4 @@
--- Numbers and their bits, the highest first. Assumes nothing.
+-- Numbers and their bits, the highest first.
 use mathlib.Core.Path.{_≡_, refl, sym, ap, ap₂, _∙_, subst}
 use Prim.Native.Nat.{ℕ, zero, suc, _+_, _-_, _*_, _/_, _%_, _^_, _<_}
 use native.Mathlib.Nat.{pow-suc, div-one}

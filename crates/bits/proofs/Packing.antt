@@ -1,4 +1,4 @@
--- Unpacking undoes packing, and packing undoes unpacking where the unused bits are zero. Assumes nothing.
+-- Unpacking undoes packing, and packing undoes unpacking where the unused bits are zero.
 use mathlib.Core.Path.{_≡_, refl, sym, ap, ap₂, _∙_}
 use mathlib.Core.Bool.{Bool, true, false}
 use mathlib.Core.List.{List}
@@ -7,9 +7,10 @@ use native.Mathlib.Omega.{arith}
 use borrow.Author.Tests.{ltb-true, ltb-false}
 use lib.Dec.{ltb}
 use lib.ListN.{length, getD, List·getD-eq-default}
-use Rattle.laws.specs.Segment.{table}
+use Rattle.laws.specs.Table.{table}
 use Rattle.laws.proofs.Table.{length-table, getD-table, table-ext, table-getD}
-use Rattle.bits.specs.Bit.{bit, Bits}
+use Rattle.bits.specs.Bit.{bit}
+use Rattle.bits.specs.Claims.{Bits}
 use Rattle.bits.specs.Packing.{bytesFor, packedByte, packed, unpacked, unusedBits}
 use Rattle.bits.proofs.Bitwise.{bit-mod, bit-zero}
 use Rattle.bits.proofs.Number.{bit-number, number-bit, number-ext}

@@ -1,15 +1,10 @@
 -- Bits, for the masks, polynomials, payloads and codewords of document 01: the numbers 0 and 1.
 use mathlib.Core.List.{List, [], _∷_}
-use Prim.Native.Nat.{ℕ, zero, suc, _+_, _*_, _/_, _%_, _^_, _<_}
-use lib.ListN.{getD}
+use Prim.Native.Nat.{ℕ, zero, suc, _+_, _*_, _/_, _%_, _^_}
 
 -- bit i of the number x, 0 being the least
 abbrev pub bit : ℕ → ℕ → ℕ
 bit x i = x / 2 ^ i % 2
-
--- each element is 0 or 1 (past the end `getD` gives 0)
-pub record Bits (xs : List ℕ) : Type 0 where
-  pub at : (i : ℕ) → getD xs i 0 < 2
 
 -- the w low bits of x, the highest first
 abbrev pub bitsOf : ℕ → ℕ → List ℕ

@@ -1,3 +1,4 @@
 pub mod Bit
 pub mod Mask
 pub mod Packing
+pub mod Claims

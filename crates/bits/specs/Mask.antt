@@ -1,7 +1,6 @@
 -- The mask of document 01, "Code description": bit b of byte m, b = 0 being the least bit, stands for index 8m + b.
 use mathlib.Core.List.{List}
 use Prim.Native.Nat.{ℕ, zero, suc, _+_, _*_, _/_, _%_}
-use lib.Count.{ones}
 use lib.ListN.{length, getD}
 use Rattle.bits.specs.Bit.{bit}
 
@@ -17,8 +16,3 @@ onesBelow mask (suc n) = onesBelow mask n + maskBit mask n
 -- K: how many information indices the mask has
 abbrev pub onesIn : List ℕ → ℕ
 onesIn mask = onesBelow mask (8 * length mask)
-
--- the counts of ones in the first m bytes, added up: the same number at m = length mask (`byteCounts-is` of proofs/Mask.antt)
-unfoldable pub byteCounts : List ℕ → ℕ → ℕ
-byteCounts mask zero = 0
-byteCounts mask (suc m) = byteCounts mask m + ones (getD mask m 0)

@@ -1,8 +1,9 @@
 // Bits in bytes: a mask's bits, least bit first, and packed bits, highest bit first.
 ghost use mathlib.Core.Path.{_≡_};
 ghost use Prim.Native.Nat.{_*_, _<_, _≤_};
-ghost use lib.ListN.{length, getD, take};
-ghost use Rattle.bits.specs.Bit.{bit, Bits};
+ghost use lib.ListN.{length, getD};
+ghost use Rattle.bits.specs.Bit.{bit};
+ghost use Rattle.bits.specs.Claims.{Bits};
 ghost use Rattle.bits.specs.Mask.{maskBit, onesIn};
 ghost use Rattle.bits.specs.Packing.{bytesFor, packedByte, packed, unpacked};
 
@@ -84,18 +85,6 @@ pub fn unpack(bytes: &[u8], bits: &mut [u8])
     let mut i = 0;
     while i < bits.len() {
         bits[i] = bit_of(bytes[i / 8], 7 - i % 8);
-        i += 1;
-    }
-}
-
-// Copies as many bytes as the output holds.
-pub fn copy(bytes: &[u8], output: &mut [u8])
-    requires { ⌜ length (now output) ≤ length (now bytes) ⌝ }
-    ensures { λ _. ⌜ now (output .exit) ≡ take (length (now (output .entry))) (now (bytes .entry)) ⌝ }
-{
-    let mut i = 0;
-    while i < output.len() {
-        output[i] = bytes[i];
         i += 1;
     }
 }

@@ -1,2 +1,3 @@
+pub mod Code
 pub mod Description
-pub mod Described
+pub mod Claims

@@ -1,19 +1,32 @@
 // Code descriptions: records of kind 1.
+use arrays::BYTES;
+use arrays::DEEPEST;
+use refusal::Refusal;
 ghost use mathlib.Core.Path.{_≡_};
 ghost use Prim.Native.Nat.{_+_, _<_, _≤_};
 ghost use lib.ListN.{length};
-ghost use Rattle.code.specs.Description.{word, maskOf, outside, badPolynomial, describe};
+ghost use Rattle.refusal.specs.Judge.{outside};
+ghost use Rattle.code.specs.Description.{word, maskOf, badPolynomial, describe};
 
-// What a record describes: a code of length 2^n with r check bits and k payload bits, or the number of the refusal.
-pub enum Description {
-    Code {
-        n: u32,
-        r: u32,
-        polynomial: u32,
-        k: usize,
-    },
-    Refused(u8),
+// A code of length 2^n with r check bits and k payload bits.
+pub struct Code {
+    pub n: u32,
+    pub r: u32,
+    pub polynomial: u32,
+    pub k: usize,
 }
+
+// What a record describes: a code, or the refusal.
+pub enum Description {
+    Accepted(Code),
+    Refused(Refusal),
+}
+
+// Where the mask stands in a description.
+const MASK_AT: usize = 8;
+
+// The longest description: its fixed fields and its mask.
+pub const LONGEST: usize = MASK_AT + BYTES;
 
 // The little-endian number at bytes i and i + 1.
 pub fn read_word(d: &[u8], i: usize) -> u32
@@ -25,10 +38,10 @@ pub fn read_word(d: &[u8], i: usize) -> u32
 
 // The mask of a description: its bytes after the fixed fields.
 pub fn mask_of(d: &[u8]) -> &[u8]
-    requires { ⌜ 8 ≤ length (now d) ⌝ }
+    requires { do ⌜ (← ⟦MASK_AT⟧) ≤ length (now d) ⌝ }
     ensures { λ m. ⌜ now m ≡ maskOf (now (d .entry)) ⌝ }
 {
-    &d[8..]
+    &d[MASK_AT..]
 }
 
 fn is_outside(x: u32, least: u32, most: u32) -> bool
@@ -49,38 +62,38 @@ fn is_bad_polynomial(p: u32, r: u32) -> bool
 pub fn read_description(d: &[u8]) -> Description
     ensures { λ a. ⌜ a ≡ describe (now (d .entry)) ⌝ }
 {
-    if d.len() < 8 {
-        return Description::Refused(1);
+    if d.len() < MASK_AT {
+        return Description::Refused(Refusal::Alone(1));
     }
     if read_word(d, 0) as usize != d.len() {
-        return Description::Refused(2);
+        return Description::Refused(Refusal::Alone(2));
     }
     if read_word(d, 2) != 1 {
-        return Description::Refused(3);
+        return Description::Refused(Refusal::Alone(3));
     }
     let n = d[4] as u32;
-    if is_outside(n, 3, 10) {
-        return Description::Refused(4);
+    if is_outside(n, 3, DEEPEST) {
+        return Description::Refused(Refusal::Alone(4));
     }
-    if d.len() != 8 + (1usize << n) / 8 {
-        return Description::Refused(5);
+    if d.len() != MASK_AT + (1usize << n) / 8 {
+        return Description::Refused(Refusal::Alone(5));
     }
     let r = d[5] as u32;
     if is_outside(r, 1, 16) {
-        return Description::Refused(6);
+        return Description::Refused(Refusal::Alone(6));
     }
     let polynomial = read_word(d, 6);
     if is_bad_polynomial(polynomial, r) {
-        return Description::Refused(7);
+        return Description::Refused(Refusal::Alone(7));
     }
     let count = bits::ones(mask_of(d));
     if count < r as usize + 1 {
-        return Description::Refused(8);
+        return Description::Refused(Refusal::Alone(8));
     }
-    Description::Code {
+    Description::Accepted(Code {
         n,
         r,
         polynomial,
         k: count - r as usize,
-    }
+    })
 }

@@ -1,4 +1,4 @@
--- What the check is good for: a payload and its check make a multiple of the divisor, no other r bits do, and only they pass. Assumes nothing.
+-- What the check is good for: a payload and its check make a multiple of the divisor, no other r bits do, and only they pass.
 use mathlib.Core.Path.{_≡_, refl, sym, ap, ap₂, _∙_, subst, subst⁻¹}
 use mathlib.Core.Bool.{Bool, true, false, _&&_, false≢true, and-eq-true-iff}
 use mathlib.Core.Logic.{_↔_}
@@ -9,9 +9,11 @@ use borrow.Author.Tests.{eqb-true, eq-eqb}
 use lib.Dec.{eqb}
 use lib.ListN.{length, replicate, length-append, replicate-append-replicate}
 use lib.Seq.{take-at, drop-at}
-use Rattle.bits.specs.Bit.{Bits, bitsOf}
+use Rattle.bits.specs.Bit.{bitsOf}
+use Rattle.bits.specs.Claims.{Bits}
 use Rattle.bits.proofs.Lists.{bits-append}
-use Rattle.crc.specs.Polynomial.{raised, add, rem, quo, mul, Multiple}
+use Rattle.crc.specs.Polynomial.{raised, addHighest, rem}
+use Rattle.crc.specs.Claims.{Multiple, mul, quo}
 use Rattle.crc.specs.Check.{dividend, checkOf, same, passes}
 use Rattle.crc.proofs.Polynomial.{cons, length-add, length-raised, bits-raised, bits-add, zeros-add, add-equal, add-swap, add-beside}
 use Rattle.bits.proofs.BitsOf.{length-bitsOf, bitsOf-zero}
@@ -38,18 +40,18 @@ module _ (t start payload : List ℕ) (width : length start ≡ length t) (bits 
 
   -- r bits after the payload are added to the dividend
   message-sum : (s : List ℕ) → length s ≡ length t → Bits s
-      → add (raised start (length payload)) (payload ++ s) ≡ add (replicate (length payload) 0 ++ s) (dividend t start payload)
+      → addHighest (raised start (length payload)) (payload ++ s) ≡ addHighest (replicate (length payload) 0 ++ s) (dividend t start payload)
   message-sum s h d =
       let a = raised start (length payload) in
       let z : List ℕ = replicate (length payload) 0 ++ s in
       let la = length-raised start (length payload) in
       let lz = length-after-zeros (length payload) s in
       let lp = length-raised payload (length t) in
-      ap (add a) (sym (add-beside payload s bits d) ∙ ap (λ (n : ℕ). add z (raised payload n)) h)
+      ap (addHighest a) (sym (add-beside payload s bits d) ∙ ap (λ (n : ℕ). addHighest z (raised payload n)) h)
       ∙ add-swap a z (raised payload (length t)) (omega arith) (omega arith)
 
   -- start · z^k + payload · z^r + check is a multiple of z^r + t
-  pub check-multiple : Multiple t (add (raised start (length payload)) (payload ++ checkOf t start payload))
+  pub check-multiple : Multiple t (addHighest (raised start (length payload)) (payload ++ checkOf t start payload))
   unfolding checkOf
   check-multiple = record {
     quotient = quo t (length payload) (dividend t start payload);
@@ -60,7 +62,7 @@ module _ (t start payload : List ℕ) (width : length start ≡ length t) (bits 
   }
 
   -- and no other r bits in the place of the check make it one
-  pub check-only : (s : List ℕ) → length s ≡ length t → Bits s → Multiple t (add (raised start (length payload)) (payload ++ s)) → s ≡ checkOf t start payload
+  pub check-only : (s : List ℕ) → length s ≡ length t → Bits s → Multiple t (addHighest (raised start (length payload)) (payload ++ s)) → s ≡ checkOf t start payload
   unfolding checkOf
   check-only s h d m =
       let q = m .quotient in
@@ -83,10 +85,10 @@ module _ (r poly : ℕ) (payload : List ℕ) (bits : Bits payload) where
   same-width : length (bitsOf r 0) ≡ length (bitsOf r poly)
   same-width = length-bitsOf r 0 ∙ sym (length-bitsOf r poly)
 
-  add-no-start : (s : List ℕ) → length s ≡ r → Bits s → add (raised (bitsOf r 0) (length payload)) (payload ++ s) ≡ payload ++ s
+  add-no-start : (s : List ℕ) → length s ≡ r → Bits s → addHighest (raised (bitsOf r 0) (length payload)) (payload ++ s) ≡ payload ++ s
   add-no-start s h d =
-      ap (λ (z : List ℕ). add (raised z (length payload)) (payload ++ s)) (bitsOf-zero r)
-      ∙ ap (λ (z : List ℕ). add z (payload ++ s)) (replicate-append-replicate r (length payload) 0)
+      ap (λ (z : List ℕ). addHighest (raised z (length payload)) (payload ++ s)) (bitsOf-zero r)
+      ∙ ap (λ (z : List ℕ). addHighest z (payload ++ s)) (replicate-append-replicate r (length payload) 0)
       ∙ zeros-add (r + length payload) (payload ++ s) (omega (arith, length-append payload s)) (bits-append payload s bits d)
 
   pub check-multiple-zero : Multiple (bitsOf r poly) (payload ++ checkOf (bitsOf r poly) (bitsOf r 0) payload)

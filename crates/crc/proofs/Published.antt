@@ -1,8 +1,8 @@
--- Published check values, by computation. Assumes nothing.
+-- Published check values, by computation.
 use mathlib.Core.Path.{_≡_, refl}
 use mathlib.Core.List.{List, [], _∷_}
 use Prim.Native.Nat.{ℕ}
-use Rattle.laws.specs.Segment.{table}
+use Rattle.laws.specs.Table.{table}
 use Rattle.bits.specs.Bit.{bitsOf}
 use Rattle.bits.specs.Packing.{unpacked}
 use Rattle.crc.specs.Check.{checkOf}

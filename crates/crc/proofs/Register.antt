@@ -1,4 +1,4 @@
--- The register: its step is linear, and what it holds at the end is the check. Assumes nothing.
+-- The register: its step is linear, and what it holds at the end is the check.
 use mathlib.Core.Path.{_≡_, refl, sym, ap, ap₂, _∙_}
 use mathlib.Core.List.{List, [], _∷_, _++_, append-assoc, append-nil}
 use Prim.Native.Nat.{ℕ, _+_, _%_, _<_}
@@ -7,10 +7,11 @@ use native.Mathlib.Numerals.{add-one}
 use native.Mathlib.Omega.{arith}
 use lib.ListN.{length, replicate, getD, drop}
 use lib.Seq.{drop-cons}
-use Rattle.bits.specs.Bit.{Bits}
+use Rattle.bits.specs.Claims.{Bits}
 use Rattle.bits.proofs.Lists.{bits-tail}
-use Rattle.crc.specs.Polynomial.{raised, add, scale, rem}
-use Rattle.crc.specs.Check.{checkOf, step}
+use Rattle.crc.specs.Polynomial.{raised, addHighest, scale, rem}
+use Rattle.crc.specs.Check.{checkOf}
+use Rattle.crc.specs.Contracts.{step}
 use Rattle.crc.proofs.Polynomial.{length-scale, length-add, length-raised, bits-raised, bits-add, add-zeros, add-assoc, add-append, add-raised, add-scaled}
 
 -- the register after all bits of a payload
@@ -30,8 +31,8 @@ bits-step t (a ∷ g) b d = bits-add (scale ((a + b) % 2) t) (raised g 1) (bits-
 
 -- The register takes the steps of the long division of start · z^k + payload · z^r.
 run-rem : (t g bs : List ℕ) → 0 < length t → length g ≡ length t → Bits g
-    → rem t (length bs) (add (raised g (length bs)) (raised bs (length t))) ≡ run t g bs
-run-rem t g [] l h b = ap₂ add (append-nil g) (ap (λ (n : ℕ). replicate n 0) (sym h)) ∙ add-zeros g b
+    → rem t (length bs) (addHighest (raised g (length bs)) (raised bs (length t))) ≡ run t g bs
+run-rem t g [] l h b = ap₂ addHighest (append-nil g) (ap (λ (n : ℕ). replicate n 0) (sym h)) ∙ add-zeros g b
 run-rem t [] (c ∷ bs) l h b = absurd (omega arith)
 run-rem t (a ∷ g) (c ∷ bs) l h b =
     let x = scale ((a + c) % 2) t in
@@ -43,9 +44,9 @@ run-rem t (a ∷ g) (c ∷ bs) l h b =
     let lz = length-raised u (length bs) in
     let lw = length-raised bs (length t) in
     ap (rem t (length bs))
-    (ap (λ (v : List ℕ). add x (add v w)) (sym (append-assoc g (0 ∷ []) z))
+    (ap (λ (v : List ℕ). addHighest x (addHighest v w)) (sym (append-assoc g (0 ∷ []) z))
     ∙ add-assoc x (u ++ z) w (omega arith) (omega arith)
-    ∙ ap (λ (v : List ℕ). add v w) (add-append x u z (omega arith)))
+    ∙ ap (λ (v : List ℕ). addHighest v w) (add-append x u z (omega arith)))
     ∙ run-rem t (step t (a ∷ g) c) bs l (length-step t (a ∷ g) c h) (bits-step t (a ∷ g) c b)
 
 -- From the start value, it ends at the check.
@@ -58,7 +59,7 @@ pub run-next : (t g payload : List ℕ) (i : ℕ) → i < length payload → run
 run-next t g payload i h = rw (add-one, drop-cons payload i 0)
 
 -- The step of a sum is the sum of the steps.
-pub step-linear : (t x y : List ℕ) (b c : ℕ) → length x ≡ length t → length y ≡ length t → step t (add x y) ((b + c) % 2) ≡ add (step t x b) (step t y c)
+pub step-linear : (t x y : List ℕ) (b c : ℕ) → length x ≡ length t → length y ≡ length t → step t (addHighest x y) ((b + c) % 2) ≡ addHighest (step t x b) (step t y c)
 step-linear t [] [] b c h k = refl
 step-linear t [] (d ∷ y) b c h k = absurd (omega arith)
 step-linear t (a ∷ x) [] b c h k = absurd (omega arith)
@@ -68,6 +69,6 @@ step-linear t (a ∷ x) (d ∷ y) b c h k =
     sym (add-mod (a + d) (b + c) 2) ∙ ap (λ (n : ℕ). n % 2) e ∙ add-mod (a + b) (d + c) 2 in
     let lx = length-raised x 1 in
     let ly = length-raised y 1 in
-    ap₂ (λ (n : ℕ) (w : List ℕ). add (scale n t) w) struck (sym (add-raised x y 1 (omega arith)))
+    ap₂ (λ (n : ℕ) (w : List ℕ). addHighest (scale n t) w) struck (sym (add-raised x y 1 (omega arith)))
     ∙ add-scaled ((a + b) % 2) ((d + c) % 2) t (raised x 1) (raised y 1) (mod-lt (a + b) (zero-lt-suc 1)) (mod-lt (d + c) (zero-lt-suc 1))
     (omega arith) (omega arith)

@@ -1,4 +1,4 @@
--- The coefficients of numbers, as the words of the register. Assumes nothing.
+-- The coefficients of numbers, as the words of the register.
 use mathlib.Core.Path.{_≡_, refl, sym, ap, ap₂, _∙_}
 use Prim.Native.Nat.{ℕ, zero, suc, _+_, _-_, _*_, _/_, _%_, _^_, _≤_, _<_}
 use native.Mathlib.Nat.{add-zero, zero-mul, one-mul, div-add-mod', mod-lt, zero-lt-suc}
@@ -9,12 +9,12 @@ use Rattle.laws.proofs.Powers.{one-shl}
 use Rattle.bits.specs.Bit.{bit, bitsOf}
 use Rattle.bits.proofs.Bitwise.{bit-low, bit-up, bit-zero, bit-xor}
 use Rattle.bits.proofs.BitsOf.{bitsOf-mod}
-use Rattle.crc.specs.Polynomial.{raised, add, scale}
-use Rattle.crc.specs.Check.{step}
+use Rattle.crc.specs.Polynomial.{raised, addHighest, scale}
+use Rattle.crc.specs.Contracts.{step}
 use Rattle.crc.proofs.Polynomial.{cons}
 
 -- an exclusive-or is a sum
-pub bitsOf-xor : (w x y : ℕ) → bitsOf w (bitXor x y) ≡ add (bitsOf w x) (bitsOf w y)
+pub bitsOf-xor : (w x y : ℕ) → bitsOf w (bitXor x y) ≡ addHighest (bitsOf w x) (bitsOf w y)
 bitsOf-xor zero x y = refl
 bitsOf-xor (suc w) x y = cons (bit-xor x y w) (bitsOf-xor w x y)
 
@@ -66,7 +66,7 @@ bitsOf-stepped (suc w) word register next s h =
     let out = (bit register w + next) % 2 in
     ap (λ (i : ℕ). bitsOf (suc w) (stepped (suc w) word register ((bit register i + next) % 2))) e
     ∙ bitsOf-xor (suc w) (out * word) _
-    ∙ ap₂ add (bitsOf-scale (suc w) out word (mod-lt (bit register w + next) (zero-lt-suc 1)))
+    ∙ ap₂ addHighest (bitsOf-scale (suc w) out word (mod-lt (bit register w + next) (zero-lt-suc 1)))
     (ap (bitsOf (suc w)) (masked (suc w) (register * 2 % 2 ^ 32) h)
     ∙ bitsOf-mod (suc w) (suc w) (register * 2 % 2 ^ 32) (omega arith)
     ∙ bitsOf-mod (suc w) 32 (register * 2) (omega arith)

@@ -1,2 +1,4 @@
 pub mod Polynomial
 pub mod Check
+pub mod Claims
+pub mod Contracts

@@ -3,12 +3,13 @@ ghost use mathlib.Core.Path.{_≡_};
 ghost use mathlib.Core.List.{_++_};
 ghost use Prim.Native.Nat.{_+_, _*_, _%_, _^_, _<_, _≤_};
 ghost use lib.ListN.{length, take, drop};
-ghost use Rattle.laws.specs.Segment.{splice};
+ghost use Rattle.laws.specs.Contracts.{splice};
 ghost use Rattle.bits.specs.Bit.{bit, bitsOf};
-ghost use Rattle.crc.specs.Check.{checkOf, step, same, passes, CheckPre};
+ghost use Rattle.crc.specs.Check.{checkOf, same, passes};
+ghost use Rattle.crc.specs.Contracts.{CheckPre, step};
 
 // The coefficient of z^i.
-pub fn coefficient(poly: u32, i: u32) -> u32
+fn coefficient(poly: u32, i: u32) -> u32
     requires { ⌜ i < 32 ⌝ }
     ensures { λ a. ⌜ a ≡ bit poly i ⌝ }
 {
@@ -47,7 +48,7 @@ fn register_step(register: u32, next: u8, r: u32, word: u32) -> u32
 }
 
 // The check of a payload, as a number of r bits.
-pub fn check(payload: &[u8], r: u32, poly: u32, start: u32) -> u32
+fn check(payload: &[u8], r: u32, poly: u32, start: u32) -> u32
     requires { ⌜ CheckPre r start ⌝ }
     ensures { λ a. ⌜ (bitsOf r a ≡ checkOf (bitsOf r poly) (bitsOf r start) (now (payload .entry))) × (a < 2 ^ r) ⌝ }
 {

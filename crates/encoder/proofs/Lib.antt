@@ -1,3 +1,3 @@
-pub mod Placing
 pub mod Message
-pub mod Starred
+pub mod WellFormed
+pub mod Codeword

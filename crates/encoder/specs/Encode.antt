@@ -1,69 +1,43 @@
 -- Document 01, "Check and encoder": encode, with refusals 1 to 8, 9, 10 and 11 in order.
-use mathlib.Core.Path.{_≡_}
 use mathlib.Core.Bool.{Bool}
 use mathlib.Core.List.{List, [], _∷_, _++_}
-use Prim.Native.Nat.{ℕ, _+_, _*_, _/_, _^_, _≤_}
+use Prim.Native.Nat.{ℕ, _/_}
 use lib.ListN.{length}
-use Rattle.laws.specs.Choice.{firstOr}
-use Rattle.bits.specs.Bit.{Bits, bitsOf}
+use Rattle.refusal.specs.declared.Refusal.{Refusal}
+use Rattle.refusal.specs.declared.Refusal.the-variants.{Alone}
+use Rattle.refusal.specs.Judge.{differs, judge, refusedOr}
 use Rattle.bits.specs.Packing.{bytesFor, packed, unpacked, unusedBits}
-use Rattle.code.specs.Description.{differs, maskOf, describe, onDescription}
-use Rattle.code.specs.Described.{Coded}
+use Rattle.code.specs.declared.Code.{Code}
+use Rattle.code.specs.Code.{codeLength, divisor, startBits}
+use Rattle.code.specs.Description.{maskOf, describe, onDescription}
 use Rattle.crc.specs.Check.{checkOf}
 use Rattle.transform.specs.Transform.{transformed}
+use Rattle.placing.specs.Place.{placed}
 use Rattle.encoder.specs.declared.Encoded.{Encoded}
 use Rattle.encoder.specs.declared.Encoded.the-variants.{Done, Refused}
-use Rattle.encoder.specs.Place.{placed}
 
 -- payload, then check, highest coefficient first
-abbrev pub messageOf : ℕ → ℕ → List ℕ → List ℕ
-messageOf r polynomial payload = payload ++ checkOf (bitsOf r polynomial) (bitsOf r 0) payload
+abbrev pub messageOf : Code → List ℕ → List ℕ
+messageOf c payload = payload ++ checkOf (divisor c) (startBits c) payload
 
 -- the codeword x, packed: the message placed by the mask, then transformed
-unfoldable pub codeword : List ℕ → ℕ → ℕ → ℕ → ℕ → List ℕ → List ℕ
-codeword mask n r polynomial k payload =
-    packed (transformed n (placed mask (messageOf r polynomial (unpacked payload k)) (2 ^ n)))
+unfoldable pub codeword : List ℕ → Code → List ℕ → List ℕ
+codeword mask c payload = packed (transformed (c .n) (placed mask (messageOf c (unpacked payload (c .k))) (codeLength c)))
 
--- refusals 9 to 11, each test beside its answer and the output as it was: `Refused i` is refusal i
-abbrev pub encodingRefusals : ℕ → ℕ → List ℕ → List ℕ → List (Bool × (Encoded × List ℕ))
-encodingRefusals n k payload output =
-    (differs (length payload) (bytesFor k), (Refused 9, output))
-    ∷ (differs (unusedBits payload k) 0, (Refused 10, output))
-    ∷ (differs (length output) (2 ^ n / 8), (Refused 11, output))
+-- refusals 9 to 11, each test beside its refusal
+abbrev pub encodingRefusals : Code → List ℕ → List ℕ → List (Bool × Refusal)
+encodingRefusals c payload output =
+    (differs (length payload) (bytesFor (c .k)), Alone 9)
+    ∷ (differs (unusedBits payload (c .k)) 0, Alone 10)
+    ∷ (differs (length output) (codeLength c / 8), Alone 11)
     ∷ []
 
--- the answer and the bytes that the output holds afterwards, for a code
-unfoldable pub encodedBy : List ℕ → ℕ → ℕ → ℕ → ℕ → List ℕ → List ℕ → Encoded × List ℕ
-encodedBy mask n r polynomial k payload output =
-    firstOr (encodingRefusals n k payload output) (Done, codeword mask n r polynomial k payload)
+-- the answer and the bytes that the output holds afterwards, for a code: a refusal writes nothing
+unfoldable pub encodedBy : List ℕ → Code → List ℕ → List ℕ → Encoded × List ℕ
+encodedBy mask c payload output =
+    refusedOr (judge (encodingRefusals c payload output)) (λ x. (Refused x, output)) (Done, codeword mask c payload)
 
 -- the same for a description: refusals 1 to 8 first
 unfoldable pub encoded : List ℕ → List ℕ → List ℕ → Encoded × List ℕ
 encoded d payload output =
-    onDescription (describe d) (λ i. (Refused i, output)) (λ n r polynomial k. encodedBy (maskOf d) n r polynomial k payload output)
-
--- a payload of k bits, and room for them and r check bits
-pub record MessagePre (k r : ℕ) (payload message : List ℕ) : Type 0 where
-  pub r-least : 1 ≤ r
-  pub r-most : r ≤ 16
-  pub payload-size : k ≤ 8 * length payload
-  pub message-size : length message ≡ k + r
-
--- a message to be placed by a mask
-pub record PlacePre (mask message : List ℕ) : Type 0 where
-  pub short : length mask ≤ 128
-  pub bits : Bits message
-
--- a message for a code of length 2^n, and room for its codeword
-pub record CodewordPre (mask : List ℕ) (n : ℕ) (message output : List ℕ) : Type 0 where
-  pub n-least : 3 ≤ n
-  pub n-most : n ≤ 10
-  pub mask-size : 8 * length mask ≡ 2 ^ n
-  pub bits : Bits message
-  pub output-size : length output ≡ length mask
-
--- a payload for a code, and room for its codeword
-pub record PayloadPre (mask : List ℕ) (n r k : ℕ) (payload output : List ℕ) : Type 0 where
-  pub coded : Coded mask n r k
-  pub payload-size : length payload ≡ bytesFor k
-  pub output-size : length output ≡ length mask
+    onDescription (describe d) (λ x. (Refused x, output)) (λ c. encodedBy (maskOf d) c payload output)

@@ -1,2 +1,3 @@
-pub mod Place
 pub mod Encode
+pub mod Claims
+pub mod Contracts

@@ -1,135 +1,56 @@
-// Placing bits by a mask, taking them out again, and the encoder.
+// The encoder.
+use arrays::SIZE;
+use code::Code;
 use code::Description;
-use transform::ByteArray;
-use transform::SIZE;
+use refusal::Judgement;
+use refusal::Refusal;
 ghost use mathlib.Core.Path.{_≡_};
-ghost use mathlib.Core.Bool.{cond};
-ghost use Prim.Native.Nat.{_+_, _*_, _^_, _≤_, _<_};
-ghost use lib.Dec.{eqb};
-ghost use lib.ListN.{length, getD, set};
-ghost use Rattle.laws.specs.Segment.{splice};
-ghost use Rattle.code.specs.Description.{differs};
-ghost use Rattle.code.specs.Described.{Coded};
-ghost use Rattle.encoder.specs.Place.{placed, taken};
-ghost use Rattle.encoder.specs.Encode.{PlacePre, MessagePre, CodewordPre, PayloadPre, messageOf, codeword, encodedBy, encoded};
-ghost use Rattle.bits.specs.Bit.{Bits};
-ghost use Rattle.bits.specs.Mask.{onesBelow};
-ghost use Rattle.bits.specs.Packing.{bytesFor, packedByte, packed, unpacked, unusedBits};
+ghost use lib.ListN.{length};
+ghost use Rattle.refusal.specs.Judge.{differs, judge};
+ghost use Rattle.bits.specs.Packing.{bytesFor, packed, unpacked, unusedBits};
+ghost use Rattle.code.specs.Code.{codeLength};
+ghost use Rattle.code.specs.Claims.{Coded};
 ghost use Rattle.transform.specs.Transform.{transformed};
+ghost use Rattle.placing.specs.Place.{placed};
+ghost use Rattle.encoder.specs.Encode.{messageOf, codeword, encodingRefusals, encodedBy, encoded};
+ghost use Rattle.encoder.specs.Contracts.{MessagePre, CodewordPre, PayloadPre};
 
-// What encode answers: the codeword is written, or the number of the refusal.
+// What encode answers: the codeword is written, or the refusal.
 pub enum Encoded {
     Done,
-    Refused(u8),
-}
-
-// The bit for an index: message bit c at an information index, and 0 at a frozen one. A mask cannot be foretold, so that a branch would
-// cost more.
-fn placed_bit(message: &[u8], c: usize, information: u8) -> u8
-    requires { ⌜ (information < 2) × Bits (now message) ⌝ }
-    ensures { λ r. ⌜ r ≡ cond (eqb information 1) (getD (now (message .entry)) c 0) 0 ⌝ }
-{
-    information & bits::bit_or_zero(message, c)
-}
-
-// The bits for the indices of mask byte m, packed; `count` information indices stand before them. Where all eight are frozen there is
-// nothing to do.
-fn placed_byte(mask: &[u8], message: &[u8], m: usize, count: usize) -> u8
-    requires { ⌜ PlacePre (now mask) (now message) × (m < length (now mask)) × (count ≡ onesBelow (now mask) (8 * m)) ⌝ }
-    ensures { λ r. ⌜ r ≡ packedByte (placed (now (mask .entry)) (now (message .entry)) (8 * length (now (mask .entry)))) m ⌝ }
-{
-    if mask[m] == 0 {
-        return 0;
-    }
-    let mut byte: u8 = 0;
-    let mut c = count;
-    let mut b: usize = 0;
-    while b < 8 {
-        let information = bits::mask_bit(mask, 8 * m + b);
-        byte = byte * 2 + placed_bit(message, c, information);
-        c += information as usize;
-        b += 1;
-    }
-    byte
-}
-
-// Places the message's bits at the information indices, in ascending order, and zeros at the frozen ones, packed.
-fn place(mask: &[u8], message: &[u8], u: &mut ByteArray)
-    requires { do ⌜ PlacePre (now mask) (now message) × (length (now u) ≡ (← ⟦SIZE⟧)) ⌝ }
-    ensures { λ _. ⌜ now (u .exit) ≡ splice (now (u .entry)) 0 (packed (placed (now (mask .entry)) (now (message .entry)) (8 * length (now (mask .entry))))) ⌝ }
-{
-    let mut c: usize = 0;
-    let mut m: usize = 0;
-    while m < mask.len() {
-        u[m] = placed_byte(mask, message, m, c);
-        c += u8::count_ones(mask[m]) as usize;
-        m += 1;
-    }
-}
-
-// Stores a bit as message bit c where it stands at an information index.
-fn take_bit(message: &mut [u8], c: usize, information: u8, bit: u8)
-    requires { ⌜ c < length (now message) ⌝ }
-    ensures { λ _. ⌜ now (message .exit) ≡ cond (eqb information 1) (set (now (message .entry)) c bit) (now (message .entry)) ⌝ }
-{
-    if information == 1 {
-        message[c] = bit;
-    }
-}
-
-// Takes the bits at the information indices out, in ascending order, to the start of the message.
-pub fn take_out(mask: &[u8], u: &[u8], message: &mut [u8])
-    requires { ⌜ (8 * length (now mask) ≤ length (now u)) × (8 * length (now mask) ≤ length (now message)) ⌝ }
-    ensures { λ _. ⌜ now (message .exit) ≡ splice (now (message .entry)) 0 (taken (now (mask .entry)) (now (u .entry)) (8 * length (now (mask .entry)))) ⌝ }
-{
-    let mut c: usize = 0;
-    let mut i: usize = 0;
-    while i < 8 * mask.len() {
-        let information = bits::mask_bit(mask, i);
-        take_bit(message, c, information, u[i]);
-        c += information as usize;
-        i += 1;
-    }
+    Refused(Refusal),
 }
 
 // The message of a payload: its k bits, then its r check bits.
-pub fn message_of(payload: &[u8], k: usize, r: u32, polynomial: u32, message: &mut [u8])
-    requires { ⌜ MessagePre k r (now payload) (now message) ⌝ }
-    ensures { λ _. ⌜ now (message .exit) ≡ messageOf r polynomial (unpacked (now (payload .entry)) k) ⌝ }
+fn message_of(code: Code, payload: &[u8], message: &mut [u8])
+    requires { ⌜ MessagePre code (now payload) (now message) ⌝ }
+    ensures { λ _. ⌜ now (message .exit) ≡ messageOf code (unpacked (now (payload .entry)) (code .k)) ⌝ }
 {
+    let k = code.k;
     bits::unpack(payload, &mut message[..k]);
-    crc::append_check(message, k, r, polynomial, 0);
+    crc::append_check(message, k, code.r, code.polynomial, 0);
 }
 
 // The codeword of a message: placed by the mask, then transformed.
-fn write_codeword(mask: &[u8], n: u32, message: &[u8], output: &mut [u8])
-    requires { ⌜ CodewordPre (now mask) n (now message) (now output) ⌝ }
-    ensures { λ _. ⌜ now (output .exit) ≡ packed (transformed n (placed (now (mask .entry)) (now (message .entry)) (2 ^ n))) ⌝ }
+fn write_codeword(mask: &[u8], code: Code, message: &[u8], output: &mut [u8])
+    requires { ⌜ CodewordPre (now mask) code (now message) (now output) ⌝ }
+    ensures { λ _. ⌜ now (output .exit) ≡ packed (transformed (code .n) (placed (now (mask .entry)) (now (message .entry)) (codeLength code))) ⌝ }
 {
     let size = mask.len();
     let mut u = [0u8; SIZE];
-    place(mask, message, &mut u);
-    transform::transform_packed(n - 3, size, &mut u);
-    bits::copy(&u, output);
+    placing::place(mask, message, &mut u);
+    transform::transform_packed(code.n - 3, size, &mut u);
+    arrays::copy(&u, 0, output, 0, size);
 }
 
 // The codeword of a payload; the message is made in `room`.
-fn encode_in(
-    mask: &[u8],
-    n: u32,
-    r: u32,
-    polynomial: u32,
-    k: usize,
-    payload: &[u8],
-    room: &mut [u8],
-    output: &mut [u8],
-)
-    requires { ⌜ PayloadPre (now mask) n r k (now payload) (now output) × (2 ^ n ≤ length (now room)) ⌝ }
-    ensures { λ _. ⌜ now (output .exit) ≡ codeword (now (mask .entry)) n r polynomial k (now (payload .entry)) ⌝ }
+fn encode_in(mask: &[u8], code: Code, payload: &[u8], room: &mut [u8], output: &mut [u8])
+    requires { ⌜ PayloadPre (now mask) code (now payload) (now room) (now output) ⌝ }
+    ensures { λ _. ⌜ now (output .exit) ≡ codeword (now (mask .entry)) code (now (payload .entry)) ⌝ }
 {
-    let size = k + r as usize;
-    message_of(payload, k, r, polynomial, &mut room[..size]);
-    write_codeword(mask, n, &room[..size], output);
+    let size = code.k + code.r as usize;
+    message_of(code, payload, &mut room[..size]);
+    write_codeword(mask, code, &room[..size], output);
 }
 
 // Whether an unused low bit of the last payload byte is set.
@@ -143,31 +64,36 @@ fn has_unused_bit(payload: &[u8], k: usize) -> bool
     payload[k / 8] % (1u8 << (8 - k % 8)) != 0
 }
 
-// Refusals 9 to 11, then the codeword.
-fn encode_by(
-    mask: &[u8],
-    n: u32,
-    r: u32,
-    polynomial: u32,
-    k: usize,
-    payload: &[u8],
-    output: &mut [u8],
-) -> Encoded
-    requires { ⌜ Coded (now mask) n r k ⌝ }
-    ensures { λ a. ⌜ (a, now (output .exit)) ≡ encodedBy (now (mask .entry)) n r polynomial k (now (payload .entry)) (now (output .entry)) ⌝ }
+// Refusals 9 to 11.
+fn judge_encoding(mask: &[u8], code: Code, payload: &[u8], output: &[u8]) -> Judgement
+    requires { ⌜ Coded (now mask) code ⌝ }
+    ensures { λ j. ⌜ j ≡ judge (encodingRefusals code (now (payload .entry)) (now (output .entry))) ⌝ }
 {
-    if payload.len() != bits::bytes_for(k) {
-        return Encoded::Refused(9);
+    if payload.len() != bits::bytes_for(code.k) {
+        return Judgement::Refused(Refusal::Alone(9));
     }
-    if has_unused_bit(payload, k) {
-        return Encoded::Refused(10);
+    if has_unused_bit(payload, code.k) {
+        return Judgement::Refused(Refusal::Alone(10));
     }
     if output.len() != mask.len() {
-        return Encoded::Refused(11);
+        return Judgement::Refused(Refusal::Alone(11));
     }
-    let mut room = [0u8; SIZE];
-    encode_in(mask, n, r, polynomial, k, payload, &mut room, output);
-    Encoded::Done
+    Judgement::Fine
+}
+
+// Encodes a payload under a code.
+pub fn encode_by(mask: &[u8], code: Code, payload: &[u8], output: &mut [u8]) -> Encoded
+    requires { ⌜ Coded (now mask) code ⌝ }
+    ensures { λ a. ⌜ (a, now (output .exit)) ≡ encodedBy (now (mask .entry)) code (now (payload .entry)) (now (output .entry)) ⌝ }
+{
+    match judge_encoding(mask, code, payload, output) {
+        Judgement::Fine => {
+            let mut room = [0u8; SIZE];
+            encode_in(mask, code, payload, &mut room, output);
+            Encoded::Done
+        }
+        Judgement::Refused(x) => Encoded::Refused(x),
+    }
 }
 
 // Encodes a payload into the packed codeword.
@@ -175,22 +101,9 @@ pub fn encode(description: &[u8], payload: &[u8], output: &mut [u8]) -> Encoded
     ensures { λ a. ⌜ (a, now (output .exit)) ≡ encoded (now (description .entry)) (now (payload .entry)) (now (output .entry)) ⌝ }
 {
     match code::read_description(description) {
-        Description::Code {
-            n,
-            r,
-            polynomial,
-            k,
-        } => {
-            encode_by(
-                code::mask_of(description),
-                n,
-                r,
-                polynomial,
-                k,
-                payload,
-                output,
-            )
+        Description::Accepted(code) => {
+            encode_by(code::mask_of(description), code, payload, output)
         }
-        Description::Refused(i) => Encoded::Refused(i),
+        Description::Refused(x) => Encoded::Refused(x),
     }
 }

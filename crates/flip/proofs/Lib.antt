@@ -1,12 +1,4 @@
 pub mod FlipOrder
-pub mod Run
 pub mod WellFormed
-pub mod Trials
-pub mod Answers
-pub mod Few
-pub mod Demand3
-pub mod NoiselessDecoding
-pub mod Starred
-pub mod Leaves
-pub mod Loop
-pub mod Turns
+pub mod LoopInvariant
+pub mod LoopStep

@@ -1,78 +1,97 @@
--- Well-formed input: the answer of a decoder is that of its run of trials exactly where nothing before 16 applies. Assumes nothing.
-use mathlib.Core.Path.{_≡_, refl, sym, ap, ap₂, _∙_}
-use mathlib.Core.Bool.{Bool, true, false, not, _||_, true≢false}
+-- Well-formed input: no refusal before 16 applies exactly there, and there the answer of a decoder is that of its run of trials.
+use mathlib.Core.Path.{_≡_, refl, sym, ap, _∙_}
+use mathlib.Core.Bool.{Bool, true, false, true≢false}
 use mathlib.Core.List.{List}
-use Prim.Native.Nat.{ℕ, _+_, _^_, _≤_}
-use native.Mathlib.Omega.{arith}
-use borrow.Author.Tests.{ltb-false, le-ltb, eq-eqb}
-use lib.IntN.{ℤ}
+use Prim.Native.Nat.{ℕ, _+_}
 use lib.ListN.{length}
-use Rattle.laws.proofs.Choice.{first-none, first-no, first-past}
+use Rattle.refusal.specs.declared.Refusal.{Refusal}
+use Rattle.refusal.specs.declared.Judgement.{Judgement}
+use Rattle.refusal.specs.declared.Judgement.the-variants.{Fine, Refused as Refusing}
+use Rattle.refusal.specs.Judge.{judge}
+use Rattle.refusal.proofs.Judge.{judge-none, judge-no, judge-past, refused-fine, refused-by, append-fine, append-past}
+use Rattle.refusal.proofs.Tests.{differs-past, outside-past, differs-no, outside-no}
 use Rattle.bits.specs.Packing.{bytesFor}
+use Rattle.code.specs.declared.Code.{Code}
 use Rattle.code.specs.declared.Description.{Description}
-use Rattle.code.specs.declared.Description.the-variants.{Code}
-use Rattle.code.specs.Description.{differs, outside, maskOf, describe, onDescription}
-use Rattle.code.proofs.Tests.{same, inside}
-use Rattle.sc.specs.Outside.{firstOutside}
-use Rattle.sc.proofs.Outside.{first-outside-le}
-use Rattle.sc.specs.Pass.{Out}
-use Rattle.sc.specs.Layers.{channelValues}
+use Rattle.code.specs.declared.Description.the-variants.{Accepted as Coding, Refused as NoCode}
+use Rattle.code.specs.Code.{informationCount}
+use Rattle.code.specs.Description.{maskOf, describe, onDescription}
+use Rattle.channel.specs.Channel.{channelValues, channelRefusals}
+use Rattle.channel.proofs.Judge.{channel-fine, fine-channel}
 use Rattle.trial.specs.Trial.{trialPasses}
+use Rattle.flip.specs.declared.Plan.{Plan}
 use Rattle.flip.specs.declared.Decoded.{Decoded}
-use Rattle.flip.specs.declared.Decoded.the-variants.{Accepted, Failed, Refused, RefusedAt}
+use Rattle.flip.specs.declared.Decoded.the-variants.{Accepted, Failed, Refused}
 use Rattle.flip.specs.Trials.{trials, Verdict, run}
-use Rattle.flip.specs.Decode.{answerOf, decodedBy, decodedWith}
+use Rattle.flip.specs.Decode.{runRefusals, decodingRefusals, answerOf, decodedBy, decodedWith}
 use Rattle.flip.specs.WellFormed.{WellFormed}
 
-differs-no : (a b : ℕ) → a ≡ b → differs a b ≡ false
-differs-no a b e = ap not (eq-eqb a b e)
+module _ (plan : Plan) (c : Code) (channel output : List ℕ) where
+  pub well-formed-fine : WellFormed c channel (plan .limit) output → judge (decodingRefusals plan c channel output) ≡ Fine
+  well-formed-fine w =
+      append-fine (channelRefusals c channel) (runRefusals plan c output) (channel-fine c channel (w .channel-size) (w .in-range))
+      ∙ judge-no _ _ _ (outside-no (plan .limit) 1 (informationCount c + 1) (w .limit-least) (w .limit-most))
+      ∙ judge-no _ _ _ (differs-no (length output) (bytesFor (c .k)) (w .output-size))
+      ∙ judge-none
 
-outside-no : (x least most : ℕ) → least ≤ x → x ≤ most → outside x least most ≡ false
-outside-no x least most l m = ap₂ _||_ (le-ltb x least l) (le-ltb most x m)
+  pub fine-well-formed : judge (decodingRefusals plan c channel output) ≡ Fine → WellFormed c channel (plan .limit) output
+  fine-well-formed e =
+      let s = append-past (channelRefusals c channel) (runRefusals plan c output) e in
+      let values = fine-channel c channel (s .0) in
+      let s14 = judge-past _ _ _ (s .1) in
+      let s15 = judge-past _ _ _ (s14 .1) in
+      let limits = outside-past (plan .limit) 1 (informationCount c + 1) (s14 .0) in
+      record {
+        channel-size = values .0;
+        in-range = values .1;
+        limit-least = limits .0;
+        limit-most = limits .1;
+        output-size = differs-past (length output) (bytesFor (c .k)) (s15 .0);
+      }
 
 -- an answer that a run gives: no refusal before 16
 abbrev ofRun : Decoded → Bool
 ofRun (Accepted trial steps) = true
 ofRun (Failed made steps) = true
-ofRun (Refused i) = false
-ofRun (RefusedAt i j) = false
+ofRun (Refused x) = false
 
-module _ (later : List ℕ → ℕ → List ℤ → ℕ → Out) (mask : List ℕ) (n r polynomial k : ℕ) (channel : List ℕ) (limit : ℕ) (output : List ℕ) where
+module _ (plan : Plan) (mask : List ℕ) (c : Code) (channel output : List ℕ) where
   abbrev verdict : Verdict
-  verdict = run (trialPasses mask n r polynomial k) 0 0 (trials later mask n (channelValues channel) limit)
+  verdict = run (trialPasses mask c) 0 0 (trials plan mask c (channelValues channel))
 
   -- nothing before 16 applies: the answer is that of the run
-  pub well-formed-answer : WellFormed n r k channel limit output → decodedBy later mask n r polynomial k channel limit output ≡ answerOf mask n k output verdict
+  pub well-formed-answer : WellFormed c channel (plan .limit) output → decodedBy plan mask c channel output ≡ answerOf mask c output verdict
   unfolding decodedBy
-  well-formed-answer w =
-      first-no _ _ _ _ (differs-no (length channel) (2 ^ n) (w .channel-size))
-      ∙ first-no _ _ _ _ (le-ltb (firstOutside channel) (length channel) (omega (arith, w .in-range)))
-      ∙ first-no _ _ _ _ (outside-no limit 1 (k + r + 1) (w .limit-least) (w .limit-most))
-      ∙ first-no _ _ _ _ (differs-no (length output) (bytesFor k) (w .output-size))
-      ∙ first-none _
+  well-formed-answer w = refused-fine _ _ _ (well-formed-fine plan c channel output w)
+
+  -- a refusal before 16
+  pub refused-answer : (x : Refusal) → judge (decodingRefusals plan c channel output) ≡ Refusing x → decodedBy plan mask c channel output ≡ (Refused x, output)
+  unfolding decodedBy
+  refused-answer x h = refused-by (λ x. (Refused x, output)) (answerOf mask c output verdict) _ x h
 
   -- and where the answer is that of a run, nothing before 16 applies
-  pub answer-well-formed : (z : Decoded × List ℕ) → ofRun (z .0) ≡ true → decodedBy later mask n r polynomial k channel limit output ≡ z → WellFormed n r k channel limit output × (answerOf mask n k output verdict ≡ z)
-  unfolding decodedBy
-  answer-well-formed z f e =
-      let never : (x : Decoded) → ofRun x ≡ false → (x, output) ≡ z → ⊥ = λ x g q. true≢false (sym f ∙ sym (ap (λ (y : Decoded × List ℕ). ofRun (y .0)) q) ∙ g) in
-      let s12 = first-past _ _ _ _ z (never (Refused 12) refl) e in
-      let s13 = first-past _ _ _ _ z (never (RefusedAt 13 (firstOutside channel)) refl) (s12 .1) in
-      let s14 = first-past _ _ _ _ z (never (Refused 14) refl) (s13 .1) in
-      let s15 = first-past _ _ _ _ z (never (Refused 15) refl) (s14 .1) in
-      let limits = inside limit 1 (k + r + 1) (s14 .0) in (
-        record {
-          channel-size = same (length channel) (2 ^ n) (s12 .0);
-          in-range = omega (arith, ltb-false (firstOutside channel) (length channel) (s13 .0), first-outside-le channel);
-          limit-least = limits .0;
-          limit-most = limits .1;
-          output-size = same (length output) (bytesFor k) (s15 .0);
-        },
-        sym (first-none _) ∙ s15 .1,
-      )
+  pub answer-well-formed : (z : Decoded × List ℕ) → ofRun (z .0) ≡ true → decodedBy plan mask c channel output ≡ z → WellFormed c channel (plan .limit) output × (answerOf mask c output verdict ≡ z)
+  answer-well-formed z f e = go (judge (decodingRefusals plan c channel output)) refl
+    where
+      go : (j : Judgement) → judge (decodingRefusals plan c channel output) ≡ j → WellFormed c channel (plan .limit) output × (answerOf mask c output verdict ≡ z)
+      go Fine h = let w = fine-well-formed plan c channel output h in (w, sym (well-formed-answer w) ∙ e)
+      go (Refusing x) h = absurd (true≢false (sym f ∙ ap (λ (y : Decoded × List ℕ). ofRun (y .0)) (sym e ∙ refused-answer x h)))
 
--- under an accepted description, refusals 1 to 8 do not apply
-pub decoded-by : (later : List ℕ → ℕ → List ℤ → ℕ → Out) (d : List ℕ) (n r polynomial k : ℕ) (channel : List ℕ) (limit : ℕ) (output : List ℕ) → describe d ≡ Code n r polynomial k → decodedWith later d channel limit output ≡ decodedBy later (maskOf d) n r polynomial k channel limit output
-unfolding decodedWith
-decoded-by later d n r polynomial k channel limit output code =
-    ap (λ (x : Description). onDescription x (λ i. (Refused i, output)) (λ n r polynomial k. decodedBy later (maskOf d) n r polynomial k channel limit output)) code
+-- a decoder's answer, by what the description says
+module _ (plan : Plan) (d channel output : List ℕ) where
+  abbrev by : Description → Decoded × List ℕ
+  by x = onDescription x (λ y. (Refused y, output)) (λ c. decodedBy plan (maskOf d) c channel output)
+
+  -- refusals 1 to 8
+  pub description-refused : (x : Refusal) → describe d ≡ NoCode x → decodedWith plan d channel output ≡ (Refused x, output)
+  unfolding decodedWith
+  description-refused x e = ap by e
+
+  -- under an accepted description they do not apply
+  pub decoded-by : (c : Code) → describe d ≡ Coding c → decodedWith plan d channel output ≡ decodedBy plan (maskOf d) c channel output
+  unfolding decodedWith
+  decoded-by c e = ap by e
+
+  -- refusals 12 to 15
+  pub code-refused : (c : Code) (x : Refusal) → describe d ≡ Coding c → judge (decodingRefusals plan c channel output) ≡ Refusing x → decodedWith plan d channel output ≡ (Refused x, output)
+  code-refused c x e h = decoded-by c e ∙ refused-answer plan (maskOf d) c channel output x h

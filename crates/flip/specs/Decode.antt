@@ -1,51 +1,58 @@
 -- Document 01, "Flip decoding, full and restarted": both decoders, with refusals 1 to 8, 12, 13, 14, 15 and 16 in order.
 use mathlib.Core.Bool.{Bool}
-use mathlib.Core.List.{List, [], _∷_}
-use Prim.Native.Nat.{ℕ, _+_, _^_}
-use lib.Dec.{ltb}
-use lib.IntN.{ℤ}
+use mathlib.Core.List.{List, [], _∷_, _++_}
+use Prim.Native.Nat.{ℕ, _+_}
 use lib.ListN.{length, take}
-use Rattle.laws.specs.Choice.{firstOr}
+use Rattle.refusal.specs.declared.Refusal.{Refusal}
+use Rattle.refusal.specs.declared.Refusal.the-variants.{Alone}
+use Rattle.refusal.specs.Judge.{differs, outside, judge, refusedOr}
 use Rattle.bits.specs.Packing.{bytesFor, packed}
-use Rattle.code.specs.Description.{differs, outside, maskOf, describe, onDescription}
-use Rattle.sc.specs.Outside.{firstOutside}
-use Rattle.sc.specs.Pass.{Out}
-use Rattle.sc.specs.Layers.{channelValues}
-use Rattle.trial.specs.Trial.{fullTrial, restartedTrial, messageIn, trialPasses}
+use Rattle.code.specs.declared.Code.{Code}
+use Rattle.code.specs.Code.{informationCount}
+use Rattle.code.specs.Description.{maskOf, describe, onDescription}
+use Rattle.channel.specs.Channel.{channelValues, channelRefusals}
+use Rattle.trial.specs.declared.Restart.{Restart}
+use Rattle.trial.specs.declared.Restart.the-variants.{Root, After}
+use Rattle.trial.specs.Trial.{messageIn, trialPasses}
+use Rattle.flip.specs.declared.Plan.{Plan}
 use Rattle.flip.specs.declared.Decoded.{Decoded}
-use Rattle.flip.specs.declared.Decoded.the-variants.{Accepted, Failed, Refused, RefusedAt}
+use Rattle.flip.specs.declared.Decoded.the-variants.{Accepted, Failed, Refused}
 use Rattle.flip.specs.Trials.{trials, Verdict, passed, failed, run}
 
--- acceptance writes the packed payload; refusal 16 carries the trials made and writes nothing
-abbrev pub answerOf : List ℕ → ℕ → ℕ → List ℕ → Verdict → Decoded × List ℕ
-answerOf mask n k output (passed trial steps bits) = (Accepted trial steps, packed (take k (messageIn mask n bits)))
-answerOf mask n k output (failed made steps) = (Failed made steps, output)
-
--- refusals 12 to 15, each test beside its answer and the output as it was; K is k + r
-abbrev pub decodingRefusals : ℕ → ℕ → ℕ → List ℕ → ℕ → List ℕ → List (Bool × (Decoded × List ℕ))
-decodingRefusals n r k channel limit output =
-    (differs (length channel) (2 ^ n), (Refused 12, output))
-    ∷ (ltb (firstOutside channel) (length channel), (RefusedAt 13 (firstOutside channel), output))
-    ∷ (outside limit 1 (k + r + 1), (Refused 14, output))
-    ∷ (differs (length output) (bytesFor k), (Refused 15, output))
+-- 14 the trial limit is outside 1..K + 1; 15 the output is not of the packed payload's size
+abbrev pub runRefusals : Plan → Code → List ℕ → List (Bool × Refusal)
+runRefusals plan c output =
+    (outside (plan .limit) 1 (informationCount c + 1), Alone 14)
+    ∷ (differs (length output) (bytesFor (c .k)), Alone 15)
     ∷ []
 
--- the answer and the bytes that the output holds afterwards, for a code, with later trials as `later` makes them
-unfoldable pub decodedBy : (List ℕ → ℕ → List ℤ → ℕ → Out) → List ℕ → ℕ → ℕ → ℕ → ℕ → List ℕ → ℕ → List ℕ → Decoded × List ℕ
-decodedBy later mask n r polynomial k channel limit output =
-    firstOr (decodingRefusals n r k channel limit output)
-    (answerOf mask n k output
-    (run (trialPasses mask n r polynomial k) 0 0 (trials later mask n (channelValues channel) limit)))
+-- refusals 12 to 15, each test beside its refusal
+abbrev pub decodingRefusals : Plan → Code → List ℕ → List ℕ → List (Bool × Refusal)
+decodingRefusals plan c channel output = channelRefusals c channel ++ runRefusals plan c output
+
+-- acceptance writes the packed payload; refusal 16 carries the trials made and writes nothing
+abbrev pub answerOf : List ℕ → Code → List ℕ → Verdict → Decoded × List ℕ
+answerOf mask c output (passed trial steps bits) = (Accepted trial steps, packed (take (c .k) (messageIn mask c bits)))
+answerOf mask c output (failed made steps) = (Failed made steps, output)
+
+-- the answer and the bytes that the output holds afterwards, for a code: a refusal writes nothing
+unfoldable pub decodedBy : Plan → List ℕ → Code → List ℕ → List ℕ → Decoded × List ℕ
+decodedBy plan mask c channel output =
+    refusedOr (judge (decodingRefusals plan c channel output)) (λ x. (Refused x, output))
+    (answerOf mask c output (run (trialPasses mask c) 0 0 (trials plan mask c (channelValues channel))))
 
 -- the same for a description: refusals 1 to 8 first
-unfoldable pub decodedWith : (List ℕ → ℕ → List ℤ → ℕ → Out) → List ℕ → List ℕ → ℕ → List ℕ → Decoded × List ℕ
-decodedWith later d channel limit output =
-    onDescription (describe d) (λ i. (Refused i, output))
-    (λ n r polynomial k. decodedBy later (maskOf d) n r polynomial k channel limit output)
+unfoldable pub decodedWith : Plan → List ℕ → List ℕ → List ℕ → Decoded × List ℕ
+decodedWith plan d channel output =
+    onDescription (describe d) (λ x. (Refused x, output)) (λ c. decodedBy plan (maskOf d) c channel output)
 
--- full decoding repeats each trial from the root; restarted decoding resumes
+-- a plan by its parts
+abbrev pub planOf : Restart → ℕ → Plan
+planOf restart limit = record { restart = restart; limit = limit }
+
+-- full decoding repeats each trial from the root; restarted decoding resumes past the flipped index
 abbrev pub decodedFull : List ℕ → List ℕ → ℕ → List ℕ → Decoded × List ℕ
-decodedFull = decodedWith fullTrial
+decodedFull d channel limit output = decodedWith (planOf Root limit) d channel output
 
 abbrev pub decodedRestarted : List ℕ → List ℕ → ℕ → List ℕ → Decoded × List ℕ
-decodedRestarted = decodedWith restartedTrial
+decodedRestarted d channel limit output = decodedWith (planOf After limit) d channel output

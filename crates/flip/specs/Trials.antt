@@ -2,20 +2,24 @@
 -- trial limit counts trial 1.
 use mathlib.Core.Bool.{Bool, cond}
 use mathlib.Core.List.{List, [], _∷_, map}
-use Prim.Native.Nat.{ℕ, _+_, _-_, _^_}
+use Prim.Native.Nat.{ℕ, _+_, _-_}
 use lib.IntN.{ℤ}
 use lib.ListN.{take}
+use Rattle.code.specs.declared.Code.{Code}
+use Rattle.code.specs.Code.{codeLength}
 use Rattle.sc.specs.Pass.{Out}
 use Rattle.order.specs.Order.{information, ordered}
-use Rattle.trial.specs.Trial.{firstTrial}
+use Rattle.trial.specs.Trial.{firstTrial, laterTrial}
+use Rattle.flip.specs.declared.Plan.{Plan}
 
 -- the order of flipped indices: trial t, from 2, flips the one at place t - 1
-abbrev pub flipOrder : List ℕ → ℕ → List ℤ → List ℕ
-flipOrder mask n v = ordered (firstTrial mask n v .leaves) (information mask (2 ^ n))
+abbrev pub flipOrder : List ℕ → Code → List ℤ → List ℕ
+flipOrder mask c v = ordered (firstTrial mask c v .leaves) (information mask (codeLength c))
 
--- the trials up to the limit, the later ones as `later` makes them
-abbrev pub trials : (List ℕ → ℕ → List ℤ → ℕ → Out) → List ℕ → ℕ → List ℤ → ℕ → List Out
-trials later mask n v limit = firstTrial mask n v ∷ map (later mask n v) (take (limit - 1) (flipOrder mask n v))
+-- the trials up to the limit; each after the first flips one index
+abbrev pub trials : Plan → List ℕ → Code → List ℤ → List Out
+trials plan mask c v =
+    firstTrial mask c v ∷ map (λ i. laterTrial (plan .restart) mask c v (i ∷ [])) (take (plan .limit - 1) (flipOrder mask c v))
 
 -- what a run ends with: the first trial that passes, or all trials made, with the steps of all trials made
 pub data Verdict : Type 0 where
@@ -26,4 +30,6 @@ pub data Verdict : Type 0 where
 unfoldable pub run : (List ℕ → Bool) → ℕ → ℕ → List Out → Verdict
 run ok made steps [] = failed made steps
 run ok made steps (o ∷ os) =
-    cond (ok (o .bits)) (passed (made + 1) (steps + o .steps) (o .bits)) (run ok (made + 1) (steps + o .steps) os)
+    let made′ = made + 1 in
+    let steps′ = steps + o .work .steps in
+    cond (ok (o .bits)) (passed made′ steps′ (o .bits)) (run ok made′ steps′ os)

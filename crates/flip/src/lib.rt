@@ -1,28 +1,40 @@
 // Flip decoding, full and restarted.
+use arrays::BitArray;
+use arrays::RuleArray;
+use arrays::SIZE;
+use arrays::ValueArray;
+use code::Code;
 use code::Description;
-use sc::RuleArray;
-use sc::ValueArray;
-use transform::BitArray;
-use transform::SIZE;
-use trial::Code;
+use refusal::Judgement;
+use refusal::Refusal;
+use trial::Restart;
 ghost use mathlib.Core.Path.{_≡_};
 ghost use Prim.Native.Nat.{_+_, _≤_};
 ghost use lib.ListN.{length, take};
-ghost use Rattle.bits.specs.Bit.{Bits};
+ghost use Rattle.refusal.specs.Judge.{outside, judge};
+ghost use Rattle.arrays.specs.Sizes.{deepest};
+ghost use Rattle.arrays.specs.Claims.{longest};
+ghost use Rattle.bits.specs.Claims.{Bits};
 ghost use Rattle.bits.specs.Packing.{bytesFor, packed};
-ghost use Rattle.code.specs.Description.{outside};
-ghost use Rattle.code.specs.Described.{Coded};
-ghost use Rattle.trial.specs.Work.{laterBy};
-ghost use Rattle.flip.specs.Work.{RunOn, LaterOn, Rooms, answerBy, answerFrom};
-ghost use Rattle.flip.specs.Decode.{decodedBy, decodedWith, decodedFull, decodedRestarted};
+ghost use Rattle.code.specs.Code.{informationCount};
+ghost use Rattle.code.specs.Claims.{Coded};
+ghost use Rattle.sc.specs.Contracts.{arrays, Whole};
+ghost use Rattle.trial.specs.Contracts.{FirstLeaves};
+ghost use Rattle.flip.specs.Decode.{runRefusals, decodingRefusals, decodedBy, decodedWith, decodedFull, decodedRestarted};
+ghost use Rattle.flip.specs.Contracts.{RunPre, RoomsPre, LaterTrialsPre, FirstKeys, answerBy, answerFrom};
+
+// How a frame is decoded: where later trials resume, and how many trials may be made, trial 1 included.
+pub struct Plan {
+    pub restart: Restart,
+    pub limit: u32,
+}
 
 // What a decoder answers: the trial that passed and the steps of all trials made; all trials failed (refusal 16), with their
-// number and steps; or a refusal, alone or with its first index.
+// number and steps; or another refusal.
 pub enum Decoded {
     Accepted { trial: u32, steps: u32 },
     Failed { trials: u32, steps: u32 },
-    Refused(u8),
-    RefusedAt { refusal: u8, index: u32 },
+    Refused(Refusal),
 }
 
 // Acceptance writes the packed payload, the first k bits of a message.
@@ -34,16 +46,15 @@ fn accept(k: usize, trial: u32, steps: u32, message: &[u8], output: &mut [u8]) -
     Decoded::Accepted { trial, steps }
 }
 
-// The trials after the first, which took `start` steps and failed, until one passes or the limit is reached.
+// The trials after the first, which took `start` steps and failed, until one passes or the limit is reached. `keys` order the indices.
 fn flip_trials(
-    restart: bool,
+    plan: Plan,
     mask: &[u8],
     code: Code,
     channel: &[u8],
-    limit: u32,
     start: u32,
     first: &BitArray,
-    values: &ValueArray,
+    keys: &ValueArray,
     rules: &mut RuleArray,
     work: &mut ValueArray,
     bits: &mut BitArray,
@@ -52,19 +63,22 @@ fn flip_trials(
     message: &mut [u8],
     output: &mut [u8],
 ) -> Decoded
-    requires { do ⌜ RunOn (now mask) code (now channel) limit (now output) × LaterOn (← ⟦SIZE⟧) (now mask) (code .n) (now channel) start (now first) (now values) (now rules) (now work) (now sums) (now message) × (length (now bits) ≡ (← ⟦SIZE⟧)) × (length (now leaves) ≡ (← ⟦SIZE⟧)) ⌝ }
-    ensures { λ a. ⌜ (a, now (output .exit)) ≡ answerFrom restart (now (mask .entry)) code (now (channel .entry)) limit start (now (output .entry)) ⌝ }
+    requires { do ⌜ RunPre plan (now mask) code (now channel) (now output) × LaterTrialsPre (← ⟦SIZE⟧) (now mask) code (now channel) start (now first) (now rules) (now message) × FirstKeys (now mask) code (now channel) (now keys) × Whole (← ⟦SIZE⟧) (arrays (now work) (now bits) (now sums) (now leaves)) ⌝ }
+    ensures { λ a. ⌜ (a, now (output .exit)) ≡ answerFrom plan (now (mask .entry)) code (now (channel .entry)) start (now (output .entry)) ⌝ }
 {
-    let n = code.n;
+    let restart = plan.restart;
+    let limit = plan.limit;
+    let size = channel.len();
     let mut made: u32 = 1;
     let mut steps = start;
-    let mut i: usize = 0;
+    let mut key: i32 = -1;
     while made < limit {
-        i = order::next_flip(mask, values, made as usize - 1, i);
+        key = order::next_key(size, keys, key);
+        let i = order::index_of(key);
         let done = trial::flip_trial(
             restart,
             mask,
-            n,
+            code,
             i,
             channel,
             first,
@@ -86,33 +100,33 @@ fn flip_trials(
     }
 }
 
-// The same, on arrays for the bits and leaf values of later trials, which are thus never those of trial 1.
+// The same: the leaf values of trial 1 become keys, in their place. Bits and leaf values of later trials have arrays of their own, filled
+// only where trial 1 failed: each restart begins with trial 1's bits.
 fn later_trials(
-    restart: bool,
+    plan: Plan,
     mask: &[u8],
     code: Code,
     channel: &[u8],
-    limit: u32,
     start: u32,
     first: &BitArray,
-    values: &ValueArray,
+    values: &mut ValueArray,
     rules: &mut RuleArray,
     work: &mut ValueArray,
     sums: &mut BitArray,
     message: &mut [u8],
     output: &mut [u8],
 ) -> Decoded
-    requires { do ⌜ RunOn (now mask) code (now channel) limit (now output) × LaterOn (← ⟦SIZE⟧) (now mask) (code .n) (now channel) start (now first) (now values) (now rules) (now work) (now sums) (now message) ⌝ }
-    ensures { λ a. ⌜ (a, now (output .exit)) ≡ answerFrom restart (now (mask .entry)) code (now (channel .entry)) limit start (now (output .entry)) ⌝ }
+    requires { do ⌜ RunPre plan (now mask) code (now channel) (now output) × LaterTrialsPre (← ⟦SIZE⟧) (now mask) code (now channel) start (now first) (now rules) (now message) × FirstLeaves (← ⟦SIZE⟧) (now mask) code (now channel) (now values) × (length (now work) ≡ (← ⟦SIZE⟧)) × (length (now sums) ≡ (← ⟦SIZE⟧)) ⌝ }
+    ensures { λ a. ⌜ (a, now (output .exit)) ≡ answerFrom plan (now (mask .entry)) code (now (channel .entry)) start (now (output .entry)) ⌝ }
 {
     let mut bits = [0u8; SIZE];
     let mut leaves = [0i32; SIZE];
+    order::make_keys(mask, values);
     flip_trials(
-        restart,
+        plan,
         mask,
         code,
         channel,
-        limit,
         start,
         first,
         values,
@@ -126,13 +140,12 @@ fn later_trials(
     )
 }
 
-// All trials, until one passes or the limit is reached. Trial 1's bits and leaf values are kept in `first` and `values`.
+// All trials, until one passes or the limit is reached. Trial 1's bits and leaf values are put in `first` and `values`.
 fn run_trials(
-    restart: bool,
+    plan: Plan,
     mask: &[u8],
     code: Code,
     channel: &[u8],
-    limit: u32,
     first: &mut BitArray,
     values: &mut ValueArray,
     rules: &mut RuleArray,
@@ -141,19 +154,18 @@ fn run_trials(
     message: &mut [u8],
     output: &mut [u8],
 ) -> Decoded
-    requires { do ⌜ RunOn (now mask) code (now channel) limit (now output) × Rooms (← ⟦SIZE⟧) (code .n) (now first) (now values) (now rules) (now work) (now sums) (now message) ⌝ }
-    ensures { λ a. ⌜ (a, now (output .exit)) ≡ answerBy restart (now (mask .entry)) code (now (channel .entry)) limit (now (output .entry)) ⌝ }
+    requires { do ⌜ RunPre plan (now mask) code (now channel) (now output) × RoomsPre (← ⟦SIZE⟧) code (now first) (now values) (now rules) (now work) (now sums) (now message) ⌝ }
+    ensures { λ a. ⌜ (a, now (output .exit)) ≡ answerBy plan (now (mask .entry)) code (now (channel .entry)) (now (output .entry)) ⌝ }
 {
-    let done = trial::first_trial(mask, code.n, channel, first, values, rules, work, sums);
+    let done = trial::first_trial(mask, code, channel, first, values, rules, work, sums);
     if trial::trial_passes(mask, code, first, message) {
         return accept(code.k, 1, done.steps, message, output);
     }
     later_trials(
-        restart,
+        plan,
         mask,
         code,
         channel,
-        limit,
         done.steps,
         first,
         values,
@@ -166,16 +178,9 @@ fn run_trials(
 }
 
 // Fills the working arrays and runs the trials.
-fn decode_in(
-    restart: bool,
-    mask: &[u8],
-    code: Code,
-    channel: &[u8],
-    limit: u32,
-    output: &mut [u8],
-) -> Decoded
-    requires { ⌜ RunOn (now mask) code (now channel) limit (now output) ⌝ }
-    ensures { λ a. ⌜ (a, now (output .exit)) ≡ answerBy restart (now (mask .entry)) code (now (channel .entry)) limit (now (output .entry)) ⌝ }
+fn decode_in(plan: Plan, mask: &[u8], code: Code, channel: &[u8], output: &mut [u8]) -> Decoded
+    requires { ⌜ RunPre plan (now mask) code (now channel) (now output) ⌝ }
+    ensures { λ a. ⌜ (a, now (output .exit)) ≡ answerBy plan (now (mask .entry)) code (now (channel .entry)) (now (output .entry)) ⌝ }
 {
     let mut first = [0u8; SIZE];
     let mut values = [0i32; SIZE];
@@ -184,11 +189,10 @@ fn decode_in(
     let mut sums = [0u8; SIZE];
     let mut message = [0u8; SIZE];
     run_trials(
-        restart,
+        plan,
         mask,
         code,
         channel,
-        limit,
         &mut first,
         &mut values,
         &mut rules,
@@ -201,76 +205,57 @@ fn decode_in(
 
 // Whether the trial limit is outside 1..K + 1.
 fn is_bad_limit(limit: u32, code: Code) -> bool
-    requires { ⌜ (code .k ≤ 1024) × (code .r ≤ 16) ⌝ }
-    ensures { λ b. ⌜ b ≡ outside limit 1 (code .k + code .r + 1) ⌝ }
+    requires { ⌜ informationCount code ≤ longest ⌝ }
+    ensures { λ b. ⌜ b ≡ outside limit 1 (informationCount code + 1) ⌝ }
 {
     limit < 1 || code.k + code.r as usize + 1 < limit as usize
 }
 
-// Refusals 12 to 15, then the trials.
-fn decode_by(
-    restart: bool,
-    mask: &[u8],
-    code: Code,
-    channel: &[u8],
-    limit: u32,
-    output: &mut [u8],
-) -> Decoded
-    requires { ⌜ Coded (now mask) (code .n) (code .r) (code .k) ⌝ }
-    ensures { λ a. ⌜ (a, now (output .exit)) ≡ decodedBy (laterBy restart) (now (mask .entry)) (code .n) (code .r) (code .polynomial) (code .k) (now (channel .entry)) limit (now (output .entry)) ⌝ }
+// Refusals 14 and 15.
+fn judge_run(plan: Plan, code: Code, output: &[u8]) -> Judgement
+    requires { ⌜ informationCount code ≤ longest ⌝ }
+    ensures { λ j. ⌜ j ≡ judge (runRefusals plan code (now (output .entry))) ⌝ }
 {
-    if channel.len() != 8 * mask.len() {
-        return Decoded::Refused(12);
-    }
-    let index = sc::first_outside(channel);
-    if index < channel.len() {
-        return Decoded::RefusedAt {
-            refusal: 13,
-            index: index as u32,
-        };
-    }
-    if is_bad_limit(limit, code) {
-        return Decoded::Refused(14);
+    if is_bad_limit(plan.limit, code) {
+        return Judgement::Refused(Refusal::Alone(14));
     }
     if output.len() != bits::bytes_for(code.k) {
-        return Decoded::Refused(15);
+        return Judgement::Refused(Refusal::Alone(15));
     }
-    decode_in(restart, mask, code, channel, limit, output)
+    Judgement::Fine
 }
 
-// Decodes a channel's values into the packed payload, later trials restarted or full.
-fn decode(
-    restart: bool,
-    description: &[u8],
-    channel: &[u8],
-    limit: u32,
-    output: &mut [u8],
-) -> Decoded
-    ensures { λ a. ⌜ (a, now (output .exit)) ≡ decodedWith (laterBy restart) (now (description .entry)) (now (channel .entry)) limit (now (output .entry)) ⌝ }
+// Refusals 12 to 15.
+fn judge_decoding(plan: Plan, code: Code, channel: &[u8], output: &[u8]) -> Judgement
+    requires { ⌜ (code .n ≤ deepest) × (informationCount code ≤ longest) ⌝ }
+    ensures { λ j. ⌜ j ≡ judge (decodingRefusals plan code (now (channel .entry)) (now (output .entry))) ⌝ }
+{
+    match channel::judge_channel(code, channel) {
+        Judgement::Fine => judge_run(plan, code, output),
+        Judgement::Refused(x) => Judgement::Refused(x),
+    }
+}
+
+// Decodes under a code.
+pub fn decode_by(plan: Plan, mask: &[u8], code: Code, channel: &[u8], output: &mut [u8]) -> Decoded
+    requires { ⌜ Coded (now mask) code ⌝ }
+    ensures { λ a. ⌜ (a, now (output .exit)) ≡ decodedBy plan (now (mask .entry)) code (now (channel .entry)) (now (output .entry)) ⌝ }
+{
+    match judge_decoding(plan, code, channel, output) {
+        Judgement::Fine => decode_in(plan, mask, code, channel, output),
+        Judgement::Refused(x) => Decoded::Refused(x),
+    }
+}
+
+// Decodes a channel's values into the packed payload.
+fn decode(plan: Plan, description: &[u8], channel: &[u8], output: &mut [u8]) -> Decoded
+    ensures { λ a. ⌜ (a, now (output .exit)) ≡ decodedWith plan (now (description .entry)) (now (channel .entry)) (now (output .entry)) ⌝ }
 {
     match code::read_description(description) {
-        Description::Code {
-            n,
-            r,
-            polynomial,
-            k,
-        } => {
-            let code = Code {
-                n,
-                r,
-                polynomial,
-                k,
-            };
-            decode_by(
-                restart,
-                code::mask_of(description),
-                code,
-                channel,
-                limit,
-                output,
-            )
+        Description::Accepted(code) => {
+            decode_by(plan, code::mask_of(description), code, channel, output)
         }
-        Description::Refused(i) => Decoded::Refused(i),
+        Description::Refused(x) => Decoded::Refused(x),
     }
 }
 
@@ -278,7 +263,11 @@ fn decode(
 pub fn decode_full(description: &[u8], channel: &[u8], limit: u32, output: &mut [u8]) -> Decoded
     ensures { λ a. ⌜ (a, now (output .exit)) ≡ decodedFull (now (description .entry)) (now (channel .entry)) limit (now (output .entry)) ⌝ }
 {
-    decode(false, description, channel, limit, output)
+    let full = Plan {
+        restart: Restart::Root,
+        limit,
+    };
+    decode(full, description, channel, output)
 }
 
 // Decodes with each later trial resumed past its flipped index.
@@ -290,5 +279,9 @@ pub fn decode_restarted(
 ) -> Decoded
     ensures { λ a. ⌜ (a, now (output .exit)) ≡ decodedRestarted (now (description .entry)) (now (channel .entry)) limit (now (output .entry)) ⌝ }
 {
-    decode(true, description, channel, limit, output)
+    let restarted = Plan {
+        restart: Restart::After,
+        limit,
+    };
+    decode(restarted, description, channel, output)
 }

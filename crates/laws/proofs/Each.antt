@@ -1,10 +1,10 @@
--- What holds of each element, and of what `getD` gives past the end, holds of each element of lists made of such lists. Assumes nothing.
+-- What holds of each element, and of what `getD` gives past the end, holds of each element of lists made of such lists.
 use mathlib.Core.Path.{subst, sym}
 use mathlib.Core.List.{List, [], _∷_, _++_}
 use Prim.Native.Nat.{ℕ, zero, suc, _+_}
 use lib.ListN.{getD, take, drop}
 use lib.Seq.{getD-drop}
-use Rattle.laws.specs.Segment.{table}
+use Rattle.laws.specs.Table.{table}
 
 module _ {A : Type 0} (P : A → Type 0) (d : A) where
   abbrev pub Each : List A → Type 0

@@ -1,5 +1,4 @@
 -- A loop that stores f 0, f 1, … from index `at` of the list w on, one element a turn: after n turns the list is `filled f at w n`.
--- Assumes nothing.
 use mathlib.Core.Path.{_≡_, refl, sym, ap, _∙_}
 use mathlib.Core.List.{List, [], _∷_, _++_, append-assoc}
 use Prim.Native.Nat.{ℕ, zero, suc, _+_, _<_, _≤_}
@@ -7,7 +6,8 @@ use native.Mathlib.Numerals.{add-one}
 use native.Mathlib.Omega.{arith}
 use lib.ListN.{length, take, drop, getD, set, length-set, length-append}
 use lib.Seq.{getD-set-other, length-take-le, set-at, drop-cons, append-snoc}
-use Rattle.laws.specs.Segment.{table, splice}
+use Rattle.laws.specs.Table.{table}
+use Rattle.laws.specs.Contracts.{splice}
 use Rattle.laws.proofs.Table.{length-table, table-snoc}
 use Rattle.laws.proofs.Segment.{splice-nil, splice-whole}
 

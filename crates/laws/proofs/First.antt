@@ -1,4 +1,4 @@
--- The first index at which a test holds. Assumes nothing.
+-- The first index at which a test holds.
 use mathlib.Core.Path.{_≡_, refl, ap, _∙_}
 use mathlib.Core.Bool.{Bool, true, false, cond}
 use Prim.Native.Nat.{ℕ, zero, suc, _≤_, _<_, suc-le-suc}

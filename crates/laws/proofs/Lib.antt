@@ -6,3 +6,4 @@ pub mod Segment
 pub mod Filling
 pub mod Powers
 pub mod Signed
+pub mod Indices

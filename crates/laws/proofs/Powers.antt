@@ -1,4 +1,4 @@
--- Powers of two, as sizes that are halved. Assumes nothing.
+-- Powers of two, as sizes that are halved.
 use mathlib.Core.Path.{_≡_, refl, ap, _∙_}
 use Prim.Native.Nat.{ℕ, zero, suc, _+_, _-_, _*_, _/_, _%_, _^_, _<_}
 use native.Mathlib.Nat.{two-pow-succ, one-mul}

@@ -1,4 +1,4 @@
--- Beginnings and segments of a list, and a list with a segment replaced. Assumes nothing.
+-- Beginnings and segments of a list, and a list with a segment replaced.
 use mathlib.Core.Path.{_≡_, refl, sym, ap, ap₂, _∙_}
 use mathlib.Core.List.{List, [], _∷_, _++_, append-assoc, append-nil}
 use Prim.Native.Nat.{ℕ, zero, suc, _+_, _-_, _<_, _≤_}
@@ -7,7 +7,7 @@ use native.Mathlib.Numerals.{add-one}
 use native.Mathlib.Omega.{arith}
 use lib.ListN.{length, take, drop, getD, set, replicate, length-append, length-drop, take-append-drop, drop-of-length-le}
 use lib.Seq.{getD-take, getD-drop, take-take, take-at, drop-at, drop-drop, length-take-le, take-nil, take-all, set-split}
-use Rattle.laws.specs.Segment.{segment, splice}
+use Rattle.laws.specs.Contracts.{splice, segment}
 
 module _ {A : Type 0} where
   -- ---- beginnings

@@ -1,4 +1,4 @@
--- Signed operations at any width, said of the numbers in ℤ and not of their bits. Assumes nothing.
+-- Signed operations at any width, said of the numbers in ℤ and not of their bits.
 use mathlib.Core.Path.{_≡_, refl, sym, subst}
 use Prim.Native.Nat.{ℕ, zero, suc, _+_, _-_, _^_, _≤_, _<_}
 use native.Mathlib.Omega.{arith}

@@ -1,12 +1,11 @@
--- Tables: a list given by its elements. Assumes nothing.
+-- Tables: a list given by its elements.
 use mathlib.Core.Path.{_≡_, refl, sym, ap, _∙_}
 use mathlib.Core.List.{List, [], _∷_, _++_}
-use Prim.Native.Nat.{ℕ, zero, suc, _+_, _≤_, _<_, suc-le-suc}
+use Prim.Native.Nat.{ℕ, zero, suc, _+_, _<_, suc-le-suc}
 use native.Mathlib.Nat.{le-of-suc-le-suc, not-suc-le-zero, zero-add, suc-add}
 use native.Mathlib.Omega.{arith}
-use lib.ListN.{length, getD, take, replicate}
-use lib.Seq.{length-take-le, getD-take}
-use Rattle.laws.specs.Segment.{table}
+use lib.ListN.{length, getD, replicate}
+use Rattle.laws.specs.Table.{table}
 
 module _ {A : Type 0} where
   pub length-table : (f : ℕ → A) (n : ℕ) → length (table f n) ≡ n
@@ -38,12 +37,6 @@ module _ {A : Type 0} where
   unfolding table
   table-getD [] d = refl
   table-getD (y ∷ ys) d = ap (λ (r : List A). y ∷ r) (table-getD ys d)
-
-  -- the first n elements of a list
-  pub table-take : (w : List A) (d : A) (n : ℕ) → n ≤ length w → table (λ k. getD w k d) n ≡ take n w
-  table-take w d n l =
-      table-ext _ (λ k. getD (take n w) k d) n (λ k m. sym (getD-take n w k d m))
-      ∙ ap (table (λ k. getD (take n w) k d)) (sym (length-take-le n w l)) ∙ table-getD (take n w) d
 
   -- equal elements
   pub table-replicate : (a : A) (n : ℕ) → table (λ k. a) n ≡ replicate n a

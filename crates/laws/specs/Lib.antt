@@ -1,3 +1,3 @@
-pub mod Choice
 pub mod First
-pub mod Segment
+pub mod Contracts
+pub mod Table

@@ -1,4 +1,4 @@
--- Which of two indices stands first: a strict order, total on different indices. Assumes nothing.
+-- Which of two indices stands first: a strict order, total on different indices.
 use mathlib.Core.Path.{_≡_, refl, sym, ap, ap₂, _∙_}
 use mathlib.Core.Bool.{Bool, true, false, _&&_, _||_, true≢false, and-eq-true-iff, or-true}
 use mathlib.Core.Logic.{_⊎_, inl, inr, ⊎-elim}
@@ -8,15 +8,15 @@ use native.Mathlib.Omega.{arith}
 use borrow.Author.Tests.{ltb-true, eqb-true, lt-ltb, eq-eqb}
 use lib.Dec.{ltb, eqb}
 use lib.IntN.{ℤ}
-use Rattle.sc.proofs.Indices.{lt-cases}
+use Rattle.laws.proofs.Indices.{lt-cases}
 use Rattle.order.specs.Order.{magnitude, before}
 
 module _ (leaves : List ℤ) where
   -- a smaller magnitude, or the same with a lower index
-  abbrev First : ℕ → ℕ → Type 0
+  abbrev pub First : ℕ → ℕ → Type 0
   First i j = (magnitude leaves i < magnitude leaves j) ⊎ ((magnitude leaves i ≡ magnitude leaves j) × (i < j))
 
-  before-first : (i j : ℕ) → before leaves i j ≡ true → First i j
+  pub before-first : (i j : ℕ) → before leaves i j ≡ true → First i j
   before-first i j = go (ltb (magnitude leaves i) (magnitude leaves j)) (ltb-true (magnitude leaves i) (magnitude leaves j))
     where
       go : (t : Bool) → (t ≡ true → magnitude leaves i < magnitude leaves j) → (t || (eqb (magnitude leaves i) (magnitude leaves j) && ltb i j)) ≡ true → First i j

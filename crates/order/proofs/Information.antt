@@ -1,4 +1,4 @@
--- The list of information indices: exactly these, ascending, each once. Assumes nothing.
+-- The list of information indices: exactly these, ascending, each once.
 use mathlib.Core.Path.{_≡_, refl, sym, ap, _∙_, subst}
 use mathlib.Core.Bool.{cond}
 use mathlib.Core.Logic.{⊎-elim}
@@ -8,10 +8,10 @@ use native.Mathlib.Omega.{arith}
 use lib.Dec.{eqb}
 use lib.ListN.{length, getD, length-append}
 use Rattle.bits.specs.Mask.{maskBit, onesBelow}
-use Rattle.encoder.proofs.Placing.{mask-cases}
-use Rattle.sc.proofs.Indices.{lt-cases}
+use Rattle.bits.proofs.Mask.{mask-cases}
+use Rattle.laws.proofs.Indices.{lt-cases}
 use Rattle.order.specs.Order.{information}
-use Rattle.order.specs.Sorted.{Ascending, Distinct, Information, ListsInformation}
+use Rattle.order.specs.Claims.{ListsInformation, Information, Distinct, Ascending}
 use Rattle.order.proofs.Pairwise.{place-of, member-at, pairwise-nil, pairwise-snoc}
 use Rattle.order.proofs.Permutation.{permutation-member, permutation-length}
 

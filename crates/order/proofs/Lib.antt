@@ -3,4 +3,5 @@ pub mod Permutation
 pub mod Before
 pub mod Information
 pub mod Order
-pub mod Next
+pub mod Least
+pub mod Keys

@@ -1,4 +1,4 @@
--- The order of flipped indices: it is sorted, and holds exactly the information indices, each once. Assumes nothing.
+-- The order of flipped indices: it is sorted, and holds exactly the information indices, each once.
 use mathlib.Core.Path.{_≡_, refl, sym, subst}
 use mathlib.Core.Bool.{Bool, true, false, cond}
 use mathlib.Core.Logic.{⊎-elim}
@@ -7,7 +7,7 @@ use Prim.Native.Nat.{ℕ}
 use lib.IntN.{ℤ}
 use lib.ListN.{getD}
 use Rattle.order.specs.Order.{information, before, insert, ordered}
-use Rattle.order.specs.Sorted.{Sorted, Distinct, ListsInformation}
+use Rattle.order.specs.Claims.{ListsInformation, Distinct, Sorted}
 use Rattle.order.proofs.Pairwise.{pairwise-nil, pairwise-cons, pairwise-tail, pairwise-head}
 use Rattle.order.proofs.Permutation.{permutation-member}
 use Rattle.order.proofs.Before.{before-irrefl, before-trans, before-total}

@@ -1,12 +1,12 @@
--- Lists by their members and by their places. Assumes nothing.
+-- Lists by their members and by their places.
 use mathlib.Core.Path.{_≡_, refl, sym, ap, _∙_, subst, subst₂}
 use mathlib.Core.List.{List, [], _∷_, _++_, List·Memᴰ, List·Memᴰ·head, List·Memᴰ·tail}
 use Prim.Native.Nat.{ℕ, zero, suc, _+_, _<_, _≤_}
 use native.Mathlib.Omega.{arith}
 use lib.ListN.{length, getD, length-append, List·getD-append}
 use lib.Seq.{getD-append-add}
-use Rattle.sc.proofs.Indices.{lt-cases}
-use Rattle.order.specs.Sorted.{Pairwise}
+use Rattle.laws.proofs.Indices.{lt-cases}
+use Rattle.order.specs.Claims.{Pairwise}
 
 -- a member stands at a place, and what stands at a place is a member
 pub place-of : {i : ℕ} {is : List ℕ} → List·Memᴰ i is → (a : ℕ) × (a < length is) × (getD is a 0 ≡ i)

@@ -1,3 +1,3 @@
 pub mod Order
-pub mod Sorted
-pub mod Next
+pub mod Claims
+pub mod Contracts

@@ -1,72 +1,71 @@
-// The order of flipped indices: the next one is found by a scan.
-use sc::ValueArray;
-use transform::SIZE;
+// The order of flipped indices: each information index has a key, and the next one in order has the least key above the last.
+use arrays::SIZE;
+use arrays::ValueArray;
 ghost use mathlib.Core.Path.{_≡_};
-ghost use mathlib.Core.Bool.{_&&_, _||_, cond};
-ghost use Prim.Native.Nat.{_*_, _<_, _≤_};
-ghost use lib.Dec.{eqb};
-ghost use lib.ListN.{length, getD};
-ghost use Rattle.order.specs.Order.{magnitude, before};
-ghost use Rattle.order.specs.Next.{candidate, flipOrder, SmallLeaf, SmallLeaves, NextPre};
+ghost use Prim.Native.Nat.{_%_, _≤_};
+ghost use lib.IntN.{pos, natAbs};
+ghost use Rattle.arrays.specs.Claims.{longest};
+ghost use Rattle.order.specs.Contracts.{KeyPre, KeysPre, keyUnder, keysOf, above, lesser, leastAbove};
 
-// The magnitude of a leaf value.
-fn leaf_magnitude(leaves: &ValueArray, i: usize) -> u32
-    requires { do ⌜ SmallLeaf (← ⟦SIZE⟧) (now leaves) i ⌝ }
-    ensures { λ r. ⌜ r ≡ magnitude (now (leaves .entry)) i ⌝ }
-{
-    sc::magnitude(leaves[i]) as u32
-}
+// Stands for no key, as at a frozen index: it is above every key.
+const NO_KEY: i32 = 0x7fff_ffff;
 
-// Whether index i stands before index j: by magnitude, equal magnitudes by lower index.
-fn precedes(leaves: &ValueArray, i: usize, j: usize) -> bool
-    requires { do ⌜ SmallLeaf (← ⟦SIZE⟧) (now leaves) i × SmallLeaf (← ⟦SIZE⟧) (now leaves) j ⌝ }
-    ensures { λ r. ⌜ r ≡ before (now (leaves .entry)) i j ⌝ }
-{
-    let a = leaf_magnitude(leaves, i);
-    let b = leaf_magnitude(leaves, j);
-    if a == b { i < j } else { a < b }
-}
-
-// Whether i is an information index that stands after `last`; at place 0 each one is.
-fn candidate(mask: &[u8], leaves: &ValueArray, place: usize, last: usize, i: usize) -> bool
-    requires { do ⌜ SmallLeaves (← ⟦SIZE⟧) (8 * length (now mask)) (now leaves) × (0 < place → last < 8 * length (now mask)) × (i < 8 * length (now mask)) ⌝ }
-    ensures { λ r. ⌜ r ≡ candidate (now (mask .entry)) (now (leaves .entry)) place last i ⌝ }
+// The key of an index with a leaf value, if it has one: by magnitude, equal magnitudes by lower index.
+fn key_under(mask: &[u8], value: i32, i: usize) -> i32
+    requires { ⌜ KeyPre (now mask) value i ⌝ }
+    ensures { λ r. ⌜ r ≡ pos (keyUnder (now (mask .entry)) value i) ⌝ }
 {
     if bits::mask_bit(mask, i) == 0 {
-        return false;
+        return NO_KEY;
     }
-    if place == 0 {
-        return true;
-    }
-    precedes(leaves, last, i)
+    values::magnitude(value) * SIZE as i32 + i as i32
 }
 
-// The best index after one more: i where it is a candidate and stands before the best so far. `size` stands for none.
-fn better(leaves: &ValueArray, size: usize, best: usize, wanted: bool, i: usize) -> usize
-    requires { do ⌜ SmallLeaves (← ⟦SIZE⟧) size (now leaves) × (best ≤ size) × (i < size) ⌝ }
-    ensures { λ r. ⌜ r ≡ cond (wanted && (eqb best size || before (now (leaves .entry)) i best)) i best ⌝ }
-{
-    if !wanted {
-        return best;
-    }
-    if best == size {
-        return i;
-    }
-    if precedes(leaves, i, best) { i } else { best }
-}
-
-// The index at a place of the order: the first of those after `last`, which is the one at the place before.
-pub fn next_flip(mask: &[u8], leaves: &ValueArray, place: usize, last: usize) -> usize
-    requires { do ⌜ NextPre (← ⟦SIZE⟧) (now mask) (now leaves) place last ⌝ }
-    ensures { λ r. ⌜ r ≡ getD (flipOrder (now (mask .entry)) (now (leaves .entry))) place 0 ⌝ }
+// Puts the key of each index in the place of its leaf value.
+pub fn make_keys(mask: &[u8], values: &mut ValueArray)
+    requires { ⌜ KeysPre (now mask) (now values) ⌝ }
+    ensures { λ _. ⌜ now (values .exit) ≡ keysOf (now (mask .entry)) (now (values .entry)) ⌝ }
 {
     let size = 8 * mask.len();
-    let mut best = size;
     let mut i = 0;
     while i < size {
-        let wanted = candidate(mask, leaves, place, last, i);
-        best = better(leaves, size, best, wanted, i);
+        values[i] = key_under(mask, values[i], i);
+        i += 1;
+    }
+}
+
+// A key that is above the last one, or none.
+fn above(last: i32, key: i32) -> i32
+    ensures { λ r. ⌜ r ≡ above last key ⌝ }
+{
+    if last < key { key } else { NO_KEY }
+}
+
+// The lesser of two keys.
+fn lesser(a: i32, b: i32) -> i32
+    ensures { λ r. ⌜ r ≡ lesser a b ⌝ }
+{
+    if a < b { a } else { b }
+}
+
+// The least of the first `size` keys that are above the last one, which is -1 before the first.
+pub fn next_key(size: usize, keys: &ValueArray, last: i32) -> i32
+    requires { ⌜ size ≤ longest ⌝ }
+    ensures { λ r. ⌜ r ≡ leastAbove last (now (keys .entry)) size ⌝ }
+{
+    let mut best = NO_KEY;
+    let mut i: usize = 0;
+    while i < size {
+        best = lesser(above(last, keys[i]), best);
         i += 1;
     }
     best
+}
+
+// The index that a key belongs to.
+pub fn index_of(key: i32) -> usize
+    requires { ⌜ key ≡ pos (natAbs key) ⌝ }
+    ensures { λ r. ⌜ r ≡ natAbs key % longest ⌝ }
+{
+    key as usize % SIZE
 }

@@ -1,4 +1,4 @@
--- The number of an answer. Assumes nothing.
+-- The number of an answer.
 use mathlib.Core.Path.{_≡_, sym, ap, _∙_}
 use mathlib.Core.List.{List}
 use Prim.Native.Nat.{ℕ}

@@ -1,170 +1,141 @@
--- Each part of an answer fits its place in the number. Assumes nothing.
-use mathlib.Core.Path.{_≡_, refl, sym, _∙_, subst}
-use mathlib.Core.Logic.{_⊎_, inl, inr, ⊎-elim}
+-- Each part of an answer fits its place in the number.
+use mathlib.Core.Path.{_≡_, refl, sym, subst}
+use mathlib.Core.Bool.{Bool, true, false}
 use mathlib.Core.List.{List}
-use Prim.Native.Nat.{ℕ, _*_, _^_, _≤_}
-use native.Mathlib.Nat.{mul-le-mul}
+use Prim.Native.Nat.{ℕ, _^_, _≤_, _<_}
+use native.Mathlib.Nat.{le-of-eq}
 use native.Mathlib.Omega.{arith}
-use borrow.Author.Tests.{ltb-false}
-use lib.Ieee.Bits.{is-false}
-use lib.IntN.{ℤ}
+use borrow.Author.Needs.{needs}
+use borrow.Author.Tests.{ltb-true, ltb-false}
+use lib.Dec.{ltb}
 use lib.ListN.{length}
-use lib.Pow.{pow-mono}
-use Rattle.laws.proofs.Choice.{first-none, first-ind}
-use Rattle.laws.proofs.First.{first-le}
-use Rattle.bits.specs.Packing.{bytesFor}
+use Rattle.refusal.specs.declared.Refusal.{Refusal}
+use Rattle.refusal.specs.declared.Refusal.the-variants.{Alone, At}
+use Rattle.refusal.specs.declared.Judgement.{Judgement}
+use Rattle.refusal.specs.declared.Judgement.the-variants.{Fine, Refused}
+use Rattle.refusal.specs.Judge.{differs, judge, refusedOr}
+use Rattle.refusal.proofs.Judge.{Judged, judged-reached}
+use Rattle.refusal.proofs.Tests.{differs-past}
+use Rattle.arrays.specs.Sizes.{deepest}
+use Rattle.arrays.proofs.Sizes.{fits, steps-fit}
+use Rattle.code.specs.declared.Code.{Code}
 use Rattle.code.specs.declared.Description.{Description}
-use Rattle.code.specs.declared.Description.the-variants.{Code, Refused as NoCode}
-use Rattle.code.specs.Description.{maskOf, describe, onDescription}
+use Rattle.code.specs.declared.Description.the-variants.{Accepted, Refused as NoCode}
+use Rattle.code.specs.Code.{codeLength}
+use Rattle.code.specs.Description.{maskOf, descriptionRefusals, codeOf, describe, onDescription}
 use Rattle.code.proofs.Facts.{described}
-use Rattle.code.proofs.Tests.{same, inside}
-use Rattle.encoder.specs.declared.Encoded.the-variants as encode
-use Rattle.encoder.specs.Encode.{encodedBy, encoded}
-use Rattle.sc.specs.Pass.{Out}
-use Rattle.sc.specs.Rules.{maskRule}
-use Rattle.sc.specs.Layers.{channelValues}
-use Rattle.sc.specs.Outside.{firstOutside}
-use Rattle.sc.proofs.Outside.{first-outside-le}
+use Rattle.values.specs.Values.{maskRule}
+use Rattle.channel.specs.Channel.{channelValues, firstOutside}
+use Rattle.encoder.specs.Encode.{encodingRefusals, encodedBy, encoded}
 use Rattle.sc.proofs.StepsMost.{steps-most}
-use Rattle.resume.specs.declared.Resumed.the-variants as resume
-use Rattle.resume.specs.Resume.{firstBad, resumePass, resumedCode, resumed}
-use Rattle.trial.specs.Trial.{fullTrial, restartedTrial}
-use Rattle.trial.proofs.Bounds.{steps-few}
-use Rattle.flip.specs.declared.Decoded.the-variants as decode
-use Rattle.flip.specs.WellFormed.{WellFormed}
-use Rattle.flip.specs.Decode.{decodedBy, decodedWith, decodedFull, decodedRestarted}
-use Rattle.flip.proofs.WellFormed.{well-formed-answer, decoded-by}
-use Rattle.flip.proofs.Few.{few-accepted, few-failed}
-use Rattle.flip.proofs.Demand3.{demand-3}
-use Rattle.polar.specs.Number.{Parts, parts, Fitting, encodedParts, resumedParts, decodedParts}
+use Rattle.resume.specs.Resume.{firstBad, resumingRefusals, resumedBy, resumed}
+use Rattle.flip.specs.declared.Decoded.{Decoded}
+use Rattle.flip.specs.declared.Plan.{Plan}
+use Rattle.trial.specs.declared.Restart.{Restart}
+use Rattle.trial.specs.Trial.{trialPasses}
+use Rattle.flip.specs.Trials.{trials, Verdict, passed, failed, run}
+use Rattle.flip.specs.Decode.{decodingRefusals, answerOf, planOf, decodedBy, decodedWith}
+use Rattle.demands.proofs.StepBounds.{Bounded, decoded-bounded}
+use Rattle.polar.specs.Number.{Parts, parts, refusalParts, encodedParts, resumedParts, decodedParts}
+use Rattle.polar.specs.Contracts.{Fitting}
 
--- the answer beside the output's bytes
+-- an answer beside the output's bytes
 abbrev pub Fits : {A : Type 0} → (A → Parts) → A × List ℕ → Type 0
 Fits partsOf answer = Fitting (partsOf (answer .0))
 
--- no refusal is above 24, no trial above 1,025, and as many trials take at most 10,496,000 steps
-fitting : (refusal value steps : ℕ) → refusal ≤ 24 → value ≤ 1025 → steps ≤ 10496000 → Fitting (parts refusal value steps)
-fitting refusal value steps r v s = record { refusal-fits = omega arith; value-fits = omega arith; steps-fits = omega arith }
+-- the parts of its case, once a match has told it
+pub case-fits : {A : Type 0} (partsOf : A → Parts) {a b : A} {bytes : List ℕ} {defined : A × List ℕ} → Fits partsOf defined → (a, bytes) ≡ defined → a ≡ b → Fitting (partsOf b)
+case-fits {A} partsOf f promise told = subst (λ (x : A). Fitting (partsOf x)) told (subst (Fits partsOf) (sym promise) f)
 
--- a refusal without an index
-alone : (refusal : ℕ) → refusal ≤ 24 → Fitting (parts refusal 0 0)
-alone refusal r = fitting refusal 0 0 r (omega arith) (omega arith)
+fitting : {refusal value steps : ℕ} → refusal < 2 ^ 8 → value < 2 ^ 24 → steps < 2 ^ 32 → Fitting (parts refusal value steps)
+fitting r v s = record { refusal-fits = r; value-fits = v; steps-fits = s }
 
--- ---- refusals 1 to 8
+-- ---- the refusals of a list of tests
 
-abbrev refusalOf : Description → ℕ
-refusalOf (Code n r polynomial k) = 0
-refusalOf (NoCode i) = i
+abbrev pub RefusalFits : Refusal → Type 0
+RefusalFits x = Fitting (refusalParts x)
 
-description-refusal : (d : List ℕ) → refusalOf (describe d) ≤ 8
-unfolding describe
-description-refusal d =
-    let P : Description → Type 0 = λ x. refusalOf x ≤ 8 in
-    first-ind P _ _ _ _ (λ _. omega arith)
-    (λ _. first-ind P _ _ _ _ (λ _. omega arith)
-    (λ _. first-ind P _ _ _ _ (λ _. omega arith)
-    (λ _. first-ind P _ _ _ _ (λ _. omega arith)
-    (λ _. first-ind P _ _ _ _ (λ _. omega arith)
-    (λ _. first-ind P _ _ _ _ (λ _. omega arith)
-    (λ _. first-ind P _ _ _ _ (λ _. omega arith)
-    (λ _. first-ind P _ _ _ _ (λ _. omega arith)
-    (λ _. subst P (sym (first-none _)) (omega arith)))))))))
+alone : {i : ℕ} → i < 2 ^ 8 → RefusalFits (Alone i)
+alone l = fitting l (omega arith) (omega arith)
 
-refused : (d : List ℕ) (i : ℕ) → describe d ≡ NoCode i → i ≤ 24
-refused d i e = omega (arith, subst (λ (x : Description). refusalOf x ≤ 8) e (description-refusal d))
+-- an index below a length that is at most N
+module _ (c : Code) (n-most : c .n ≤ deepest) where
+  at : {i index size : ℕ} → i < 2 ^ 8 → size ≤ codeLength c → ltb index size ≡ true → RefusalFits (At i index)
+  at {i} {index} {size} l m t = fitting l (omega (arith, ltb-true index size t, fits n-most)) (omega arith)
 
--- ---- encode
+  -- refusal 13, past 12
+  outside-fits : (channel : List ℕ) → differs (length channel) (codeLength c) ≡ false → ltb (firstOutside channel) (length channel) ≡ true → RefusalFits (At 13 (firstOutside channel))
+  outside-fits channel t12 = at (omega arith) (le-of-eq (differs-past (length channel) (codeLength c) t12))
+
+  -- refusal 18, past 17
+  bad-fits : (mask prefix : List ℕ) → ltb (codeLength c) (length prefix) ≡ false → ltb (firstBad mask prefix) (length prefix) ≡ true → RefusalFits (At 18 (firstBad mask prefix))
+  bad-fits mask prefix t17 = at (omega arith) (ltb-false (codeLength c) (length prefix) t17)
+
+-- ---- a call: its description, then its tests
+
+abbrev DescriptionFits : Description → Type 0
+DescriptionFits (Accepted c) = Unit
+DescriptionFits (NoCode x) = RefusalFits x
+
+description-fits : (d : List ℕ) → DescriptionFits (describe d)
+unfolding describe refusedOr
+description-fits d = go (judge (descriptionRefusals d)) (judged-reached RefusalFits (descriptionRefusals d) (search (needs, alone)))
+  where
+    go : (j : Judgement) → Judged RefusalFits j → DescriptionFits (refusedOr j NoCode (Accepted (codeOf d)))
+    go Fine f = tt
+    go (Refused x) f = f
+
+-- what holds of its refusals, which fit, and of its answer, holds of what it gives
+module _ {X : Type 0} (Holds : X → Type 0) (refuse : Refusal → X) (carry : (x : Refusal) → RefusalFits x → Holds (refuse x)) where
+  on-call : (d : List ℕ) (tests : Code → List (Bool × Refusal)) {answer : Code → X}
+      → ((c : Code) → describe d ≡ Accepted c → Judged RefusalFits (judge (tests c)) × Holds (answer c))
+      → Holds (onDescription (describe d) refuse (λ c. refusedOr (judge (tests c)) refuse (answer c)))
+  unfolding refusedOr
+  on-call d tests {answer} h = go (describe d) refl (description-fits d)
+    where
+      judged : (c : Code) (j : Judgement) → Judged RefusalFits j → Holds (answer c) → Holds (refusedOr j refuse (answer c))
+      judged c Fine f a = a
+      judged c (Refused x) f a = carry x f
+
+      go : (x : Description) → describe d ≡ x → DescriptionFits x → Holds (onDescription x refuse (λ c. refusedOr (judge (tests c)) refuse (answer c)))
+      go (Accepted c) e f = judged c (judge (tests c)) (h c e .0) (h c e .1)
+      go (NoCode x) e f = carry x f
+
+-- ---- the exports
 
 pub encoded-fits : (d payload output : List ℕ) → Fits encodedParts (encoded d payload output)
 unfolding encoded encodedBy
-encoded-fits d payload output = go (describe d) refl
-  where
-    go : (x : Description) → describe d ≡ x → Fits encodedParts (onDescription x (λ i. (encode.Refused i, output)) (λ n r polynomial k. encodedBy (maskOf d) n r polynomial k payload output))
-    go (NoCode i) e = alone i (refused d i e)
-    go (Code n r polynomial k) e =
-        first-ind (Fits encodedParts) _ _ _ _ (λ _. alone 9 (omega arith))
-        (λ _. first-ind (Fits encodedParts) _ _ _ _ (λ _. alone 10 (omega arith))
-        (λ _. first-ind (Fits encodedParts) _ _ _ _ (λ _. alone 11 (omega arith))
-        (λ _. subst (Fits encodedParts) (sym (first-none _)) (alone 0 (omega arith)))))
-
--- ---- resume
+encoded-fits d payload output =
+    on-call (Fits encodedParts) _ (λ x f. f) d (λ c. encodingRefusals c payload output)
+    (λ c e. (judged-reached RefusalFits (encodingRefusals c payload output) (search (needs, alone)), alone (omega arith)))
 
 pub resumed-fits : (d channel prefix output : List ℕ) → Fits resumedParts (resumed d channel prefix output)
-unfolding resumed resumedCode
-resumed-fits d channel prefix output = go (describe d) refl
+unfolding resumed resumedBy
+resumed-fits d channel prefix output =
+    let mask : List ℕ = maskOf d in
+    on-call (Fits resumedParts) _ (λ x f. f) d (λ c. resumingRefusals mask c channel prefix output)
+    (λ c e.
+    let l = described d c e .coded .n-most in (
+      judged-reached RefusalFits (resumingRefusals mask c channel prefix output) (search (needs, alone, outside-fits c l channel, bad-fits c l mask prefix) depth 9),
+      fitting (omega arith) (omega arith) (omega (arith, steps-fit l (steps-most (c .n) prefix (maskRule mask) (channelValues channel)))),
+    ))
+
+pub decoded-fits : (restart : Restart) (d channel : List ℕ) (limit : ℕ) (output : List ℕ) → Fits decodedParts (decodedWith (planOf restart limit) d channel output)
+unfolding decodedWith decodedBy
+decoded-fits restart d channel limit output =
+    on-call Holds _ (λ x f b. f) d (λ c. decodingRefusals plan c channel output)
+    (λ c e. (
+      judged-reached RefusalFits (decodingRefusals plan c channel output) (search (needs, alone, outside-fits c (described d c e .coded .n-most) channel)),
+      ran c (run (trialPasses (maskOf d) c) 0 0 (trials plan (maskOf d) c (channelValues channel))),
+    ))
+    (decoded-bounded restart d channel limit output)
   where
-    go : (x : Description) → describe d ≡ x → Fits resumedParts (onDescription x (λ i. (resume.Refused i, output)) (λ n r polynomial k. resumedCode n (maskOf d) channel prefix output))
-    go (NoCode i) e = alone i (refused d i e)
-    go (Code n r polynomial k) e =
-        let c = described d n r polynomial k e .coded in
-        let size : 2 ^ n ≤ 1024 = pow-mono (c .n-most) in
-        let bad : firstBad (maskOf d) prefix ≤ length prefix = first-le _ (length prefix) in
-        let o : Out = resumePass n (maskOf d) channel prefix in
-        let few : o .steps ≤ 10240 = steps-few (c .n-most) (steps-most n prefix (maskRule (maskOf d)) (channelValues channel)) in
-        first-ind (Fits resumedParts) _ _ _ _ (λ _. alone 12 (omega arith))
-        (λ h. let long = same (length channel) (2 ^ n) (is-false _ h) in
-        first-ind (Fits resumedParts) _ _ _ _ (λ _. fitting 13 (firstOutside channel) 0 (omega arith) (omega (arith, first-outside-le channel)) (omega arith))
-        (λ _. first-ind (Fits resumedParts) _ _ _ _ (λ _. alone 17 (omega arith))
-        (λ g. let short = ltb-false (2 ^ n) (length prefix) (is-false _ g) in
-        first-ind (Fits resumedParts) _ _ _ _ (λ _. fitting 18 (firstBad (maskOf d) prefix) 0 (omega arith) (omega arith) (omega arith))
-        (λ _. first-ind (Fits resumedParts) _ _ _ _ (λ _. alone 19 (omega arith))
-        (λ _. subst (Fits resumedParts) (sym (first-none _)) (fitting 0 0 (o .steps) (omega arith) (omega arith) (omega arith)))))))
+    plan : Plan
+    plan = planOf restart limit
 
--- ---- both decoders
+    Holds : Decoded × List ℕ → Type 0
+    Holds a = Bounded a → Fits decodedParts a
 
-module _ (d channel : List ℕ) (limit : ℕ) (output : List ℕ) where
-  -- a decoder fits where its well-formed calls do
-  decoded-fits : (later : List ℕ → ℕ → List ℤ → ℕ → Out)
-      → ((n r polynomial k : ℕ) → describe d ≡ Code n r polynomial k → WellFormed n r k channel limit output → Fits decodedParts (decodedWith later d channel limit output))
-      → Fits decodedParts (decodedWith later d channel limit output)
-  unfolding decodedWith decodedBy
-  decoded-fits later well = go (describe d) refl
-    where
-      go : (x : Description) → describe d ≡ x → Fits decodedParts (onDescription x (λ i. (decode.Refused i, output)) (λ n r polynomial k. decodedBy later (maskOf d) n r polynomial k channel limit output))
-      go (NoCode i) e = alone i (refused d i e)
-      go (Code n r polynomial k) e =
-          let size : 2 ^ n ≤ 1024 = pow-mono (described d n r polynomial k e .coded .n-most) in
-          first-ind (Fits decodedParts) _ _ _ _ (λ _. alone 12 (omega arith))
-          (λ h12. let long = same (length channel) (2 ^ n) (is-false _ h12) in
-          first-ind (Fits decodedParts) _ _ _ _ (λ _. fitting 13 (firstOutside channel) 0 (omega arith) (omega (arith, first-outside-le channel)) (omega arith))
-          (λ h13. first-ind (Fits decodedParts) _ _ _ _ (λ _. alone 14 (omega arith))
-          (λ h14. first-ind (Fits decodedParts) _ _ _ _ (λ _. alone 15 (omega arith))
-          (λ h15.
-          let limits = inside limit 1 _ (is-false _ h14) in
-          let w : WellFormed n r k channel limit output = record {
-            channel-size = long;
-            in-range = omega (arith, ltb-false (firstOutside channel) (length channel) (is-false _ h13), first-outside-le channel);
-            limit-least = limits .0;
-            limit-most = limits .1;
-            output-size = same (length output) (bytesFor k) (is-false _ h15);
-          } in
-          subst (Fits decodedParts) (decoded-by later d n r polynomial k channel limit output e ∙ well-formed-answer later (maskOf d) n r polynomial k channel limit output w ∙ sym (first-none _))
-          (well n r polynomial k e w)))))
-
-  -- a run that makes at most 1,025 trials, of at most n · 2^n steps each
-  run-fits : (later : List ℕ → ℕ → List ℤ → ℕ → Out) (n made steps : ℕ) → n ≤ 10 → steps ≤ made * n * 2 ^ n
-      → ((bytes : List ℕ) × (decodedWith later d channel limit output ≡ (decode.Accepted made steps, bytes)))
-      ⊎ (decodedWith later d channel limit output ≡ (decode.Failed made steps, output))
-      → Fits decodedParts (decodedWith later d channel limit output)
-  run-fits later n made steps l most (inl (bytes, e)) =
-      let few = few-accepted later d channel limit output made steps bytes e in
-      subst (Fits decodedParts) (sym e) (fitting 0 made steps (omega arith) few (omega (arith, mul-le-mul (mul-le-mul few l) (pow-mono l))))
-  run-fits later n made steps l most (inr e) =
-      let few = few-failed later d channel limit output made steps output e in
-      subst (Fits decodedParts) (sym e) (fitting 16 made steps (omega arith) few (omega (arith, mul-le-mul (mul-le-mul few l) (pow-mono l))))
-
-  pub full-fits : Fits decodedParts (decodedFull d channel limit output)
-  full-fits =
-      decoded-fits fullTrial
-      (λ n r polynomial k e w.
-      let b = demand-3 d n r polynomial k channel limit output output e w w in
-      run-fits fullTrial n (b .made) (b .full) (described d n r polynomial k e .coded .n-most) (omega (arith, b .full-steps))
-      (⊎-elim (λ a. inl (a .0, a .1)) (λ a. inr (a .1)) (b .answers)))
-
-  pub restarted-fits : Fits decodedParts (decodedRestarted d channel limit output)
-  restarted-fits =
-      decoded-fits restartedTrial
-      (λ n r polynomial k e w.
-      let b = demand-3 d n r polynomial k channel limit output output e w w in
-      run-fits restartedTrial n (b .made) (b .restarted) (described d n r polynomial k e .coded .n-most) (omega (arith, b .exceeds, b .full-steps))
-      (⊎-elim (λ a. inl (a .0, a .2)) (λ a. inr (a .2)) (b .answers)))
+    ran : (c : Code) (v : Verdict) → Holds (answerOf (maskOf d) c output v)
+    ran c (passed trial steps bits) b = fitting (omega arith) (omega (arith, b .0)) (omega (arith, b .1))
+    ran c (failed made steps) b = fitting (omega arith) (omega (arith, b .0)) (omega (arith, b .1))

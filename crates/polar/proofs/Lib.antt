@@ -2,4 +2,3 @@ pub mod Answers
 pub mod Fitting
 pub mod Fields
 pub mod Quantised
-pub mod Starred

@@ -1,5 +1,4 @@
 -- What the quantiser writes is never refused 13, and 12 only for its length: its bytes are channel values within -31..31.
--- Assumes nothing.
 use mathlib.Core.Path.{_≡_}
 use mathlib.Core.List.{List}
 use Prim.Native.Nat.{ℕ}
@@ -12,8 +11,7 @@ use Rattle.quantiser.specs.declared.Quantised.the-variants.{Done}
 use Rattle.quantiser.specs.declared.Summary.{Summary}
 use Rattle.quantiser.specs.Quantise.{quantised}
 use Rattle.quantiser.proofs.Accepted.{channel-values}
-use Rattle.sc.specs.Values.{channelValue}
-use Rattle.sc.specs.Outside.{firstOutside}
+use Rattle.channel.specs.Channel.{channelValue, firstOutside}
 
 pub quantised-in-range : (scale : Float) (samples : List Float) (output : List ℕ) (s : Summary) (written : List ℕ) → quantised scale samples output ≡ (Done s, written) → firstOutside written ≡ length written
 unfolding channelValue

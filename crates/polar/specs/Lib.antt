@@ -1,2 +1,3 @@
 pub mod Number
-pub mod Fields
+pub mod Claims
+pub mod Contracts

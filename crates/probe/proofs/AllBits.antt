@@ -1,4 +1,4 @@
--- The test whether every number of a list is a bit, from an index on. Assumes nothing.
+-- The test whether every number of a list is a bit, from an index on.
 use mathlib.Core.Path.{_≡_, sym, ap, _∙_}
 use mathlib.Core.Bool.{true, false, _&&_, and-eq-true-iff}
 use mathlib.Core.List.{List, [], _∷_}
@@ -8,9 +8,9 @@ use borrow.Author.Tests.{ltb-true, lt-ltb, le-ltb}
 use lib.Dec.{ltb}
 use lib.ListN.{length, getD, drop}
 use lib.Seq.{drop-cons}
-use Rattle.bits.specs.Bit.{Bits}
+use Rattle.bits.specs.Claims.{Bits}
 use Rattle.bits.proofs.Lists.{bits-nil, bits-cons}
-use Rattle.probe.specs.Packing.{allBits}
+use Rattle.probe.specs.Contracts.{allBits}
 
 pub all-bits : (xs : List ℕ) → allBits xs ≡ true → Bits xs
 all-bits [] e = bits-nil

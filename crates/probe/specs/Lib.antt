@@ -1,3 +1,1 @@
-pub mod Number
-pub mod Packing
-pub mod Quantised
+pub mod Contracts

@@ -2,30 +2,42 @@
 // not admit gets a number of its own.
 use code::Description;
 use quantiser::Quantised;
+use refusal::Refusal;
 ghost use mathlib.Core.Path.{_≡_};
+ghost use Rattle.refusal.specs.Judge.{numberOf};
 ghost use Rattle.code.specs.Description.{describe};
 ghost use Rattle.quantiser.specs.Quantise.{quantised};
-ghost use Rattle.probe.specs.Number.{numberOf};
-ghost use Rattle.probe.specs.Quantised.{toldBy};
-ghost use Rattle.probe.specs.Packing.{allBits, packing, unpacking, bitAt, onesAnswer};
+ghost use Rattle.probe.specs.Contracts.{indexOf, descriptionNumber, allBits, packing, unpacking, bitAt, onesAnswer, probeAnswerBy};
+
+// A refusal's number.
+fn refusal_number(x: Refusal) -> u64
+    ensures { λ i. ⌜ i ≡ numberOf x ⌝ }
+{
+    x.number() as u64
+}
+
+// A refusal's index, or 0.
+fn refusal_index(x: Refusal) -> u64
+    ensures { λ i. ⌜ i ≡ indexOf x ⌝ }
+{
+    match x {
+        Refusal::Alone(_) => 0,
+        Refusal::At { refusal: _, index } => index as u64,
+    }
+}
 
 #[no_mangle]
 pub extern "C" fn probe_description(d: &[u8]) -> u64
-    ensures { λ x. ⌜ x ≡ numberOf (describe (now (d .entry))) ⌝ }
+    ensures { λ x. ⌜ x ≡ descriptionNumber (describe (now (d .entry))) ⌝ }
 {
     match code::read_description(d) {
-        Description::Code {
-            n,
-            r,
-            polynomial,
-            k,
-        } => {
-            n as u64 * 0x100
-                + r as u64 * 0x1_0000
-                + polynomial as u64 * 0x100_0000
-                + k as u64 * 0x100_0000_0000
+        Description::Accepted(code) => {
+            code.n as u64 * 0x100
+                + code.r as u64 * 0x1_0000
+                + code.polynomial as u64 * 0x100_0000
+                + code.k as u64 * 0x100_0000_0000
         }
-        Description::Refused(i) => i as u64,
+        Description::Refused(x) => refusal_number(x),
     }
 }
 
@@ -96,7 +108,7 @@ pub extern "C" fn probe_quantise(
     output: &mut [u8],
     numbers: &mut [u64; 2],
 ) -> f32
-    ensures { λ peak. ⌜ ((peak, now (numbers .exit)), now (output .exit)) ≡ toldBy (quantised scale (now (samples .entry)) (now (output .entry))) (now (numbers .entry)) ⌝ }
+    ensures { λ peak. ⌜ ((peak, now (numbers .exit)), now (output .exit)) ≡ probeAnswerBy (quantised scale (now (samples .entry)) (now (output .entry))) (now (numbers .entry)) ⌝ }
 {
     match quantiser::quantise(scale, samples, output) {
         Quantised::Done(s) => {
@@ -104,14 +116,9 @@ pub extern "C" fn probe_quantise(
             numbers[1] = s.clipped as u64;
             s.peak
         }
-        Quantised::Refused(i) => {
-            numbers[0] = i as u64;
-            numbers[1] = 0;
-            0.0
-        }
-        Quantised::RefusedAt { refusal, index } => {
-            numbers[0] = refusal as u64;
-            numbers[1] = index as u64;
+        Quantised::Refused(x) => {
+            numbers[0] = refusal_number(x);
+            numbers[1] = refusal_index(x);
             0.0
         }
     }

@@ -1,4 +1,4 @@
--- The whole number nearest to a fraction a / d. Assumes nothing.
+-- The whole number nearest to a fraction a / d.
 use mathlib.Core.Path.{_≡_, refl, sym, ap, _∙_}
 use mathlib.Core.Bool.{Bool, true, false}
 use Prim.Native.Nat.{ℕ, zero, suc, _+_, _-_, _*_, _≤_, _<_}

@@ -1,4 +1,4 @@
--- Which floats are numbers: how a program tests it, and that a valid scale times a number is one. Assumes nothing.
+-- Which floats are numbers: how a program tests it, and that a valid scale times a number is one.
 use mathlib.Core.Path.{_≡_, refl, sym, ap, _∙_, subst}
 use mathlib.Core.Bool.{Bool, true, false, not, true≢false}
 use mathlib.Core.List.{List}
@@ -11,7 +11,8 @@ use lib.Ieee.Fits.{and-l}
 use lib.ListN.{length, getD}
 use Rattle.laws.proofs.Choice.{cond-ind}
 use Rattle.laws.proofs.First.{first-before}
-use Rattle.quantiser.specs.Quantise.{product, validScale, Admitted}
+use Rattle.quantiser.specs.Quantise.{product, validScale}
+use Rattle.quantiser.specs.Claims.{WellFormed}
 
 -- `y != y`
 pub differs-nan : (y : Float) → ne y y ≡ true → isNan y ≡ true
@@ -41,7 +42,8 @@ round-number : (f : Format) (s : Bool) (a c : ℕ) → T (not (isNan (round f s 
 unfolding round
 round-number f s a c = units-number f s _ _
 
-product-number : (f : Format) (scale y : Float) → T (validScale scale) → isNan y ≡ false → T (not (isNan (mul f scale y)))
+-- a valid scale times a number
+pub product-number : (f : Format) (scale y : Float) → T (validScale scale) → isNan y ≡ false → T (not (isNan (mul f scale y)))
 unfolding mul isNan validScale lt
 product-number f nan y v n = absurd v
 product-number f (inf true) y v n = absurd v
@@ -53,6 +55,6 @@ product-number f (fin false (suc m) e) (inf t) v n = rw eqb·suc-zero tt
 product-number f (fin false m e) (fin t q d) v n = round-number f _ _ _
 
 -- so every product of an admitted call is
-pub admitted-number : {scale : Float} {samples : List Float} {output : List ℕ} → Admitted scale samples output → (k : ℕ) → k < length samples → T (not (isNan (product scale samples k)))
+pub admitted-number : {scale : Float} {samples : List Float} {output : List ℕ} → WellFormed scale samples output → (k : ℕ) → k < length samples → T (not (isNan (product scale samples k)))
 admitted-number {scale} {samples} a k h =
     product-number binary32 scale (getD samples k nan) (a .scale-valid) (first-before (λ i. isNan (getD samples i nan)) (length samples) k (omega (arith, a .all-numbers)))

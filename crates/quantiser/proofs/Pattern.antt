@@ -1,4 +1,4 @@
--- What the bits of an f32 say of it: its magnitude, and the whole number nearest to four times that. Assumes nothing.
+-- What the bits of an f32 say of it: its magnitude, and the whole number nearest to four times that.
 use mathlib.Core.Path.{_≡_, refl, sym, ap, _∙_, subst}
 use mathlib.Core.Logic.{inl, inr}
 use mathlib.Core.Bool.{Bool, true, false, not, cond}

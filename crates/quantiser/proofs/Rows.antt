@@ -1,11 +1,11 @@
--- Document 01, "Vectors at the edges": the row on scale 1, and what stands next to it. Assumes nothing.
+-- Document 01, "Vectors at the edges": the row on scale 1, and what stands next to it.
 use mathlib.Core.Path.{_≡_, refl}
 use mathlib.Core.List.{List, [], _∷_}
 use Prim.Native.Nat.{ℕ}
 use lib.Ieee.{Float, binary32, ofBits, mul, lt, isNan}
-use Rattle.laws.specs.Choice.{firstOr}
 use Rattle.laws.specs.First.{firstWhere}
-use Rattle.laws.specs.Segment.{table}
+use Rattle.laws.specs.Table.{table}
+use Rattle.refusal.specs.Judge.{judge, refusedOr}
 use Rattle.quantiser.specs.declared.Quantised.{Quantised}
 use Rattle.quantiser.specs.declared.Quantised.the-variants.{Done}
 use Rattle.quantiser.specs.Level.{magnitude, quarters, whole, level, isClipped}
@@ -26,5 +26,5 @@ abbrev pub answer : Quantised × List ℕ
 answer = (Done record { peak = ofBits binary32 0x40fc_0000; clipped = 1 }, 1 ∷ 255 ∷ 2 ∷ 31 ∷ 31 ∷ [])
 
 pub row-is : quantised (ofBits binary32 0x3f80_0000) row (0 ∷ 0 ∷ 0 ∷ 0 ∷ 0 ∷ []) ≡ answer
-unfolding ofBits mul lt isNan firstOr table firstWhere magnitude quarters whole level isClipped larger peakOf clippedOf validScale quantised
+unfolding ofBits mul lt isNan judge refusedOr table firstWhere magnitude quarters whole level isClipped larger peakOf clippedOf validScale quantised
 row-is = refl

@@ -1,4 +1,4 @@
--- The clipped count and the peak of the products. Assumes nothing.
+-- The clipped count and the peak of the products.
 use mathlib.Core.Path.{_≡_, refl, sym}
 use mathlib.Core.Logic.{inl, inr}
 use mathlib.Core.Bool.{Bool, true, false, not, cond, true≢false}

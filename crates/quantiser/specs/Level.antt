@@ -1,9 +1,11 @@
 -- Document 01, "Sample quantiser": what becomes of one product p. A finite p is ±m · 2^e, and 2^e is the fraction up e / down e.
 use mathlib.Core.Bool.{Bool, false, cond}
-use Prim.Native.Nat.{ℕ, suc, _+_, _-_, _*_, _/_, min}
+use Prim.Native.Nat.{ℕ, _+_, _*_, _/_}
 use lib.Dec.{ltb}
 use lib.Ieee.{Float, nan, inf, fin, up, down, lt}
-use lib.IntN.{ℤ, pos, negsuc, negℤ, natAbs}
+use lib.IntN.{ℤ, pos, negℤ, natAbs}
+use Rattle.channel.specs.Channel.{byteOf, clip}
+use Rattle.quantiser.specs.declared.Level.{Level}
 
 abbrev pub plusZero : Float
 plusZero = fin false 0 (pos 0)
@@ -33,11 +35,6 @@ signed negative n = cond negative (negℤ (pos n)) (pos n)
 unfoldable pub whole : Float → ℤ
 whole p = signed (lt p plusZero) (quarters p)
 
--- clipped to −31..31
-abbrev pub clip : ℤ → ℤ
-clip (pos n) = pos (min 31 n)
-clip (negsuc n) = negℤ (pos (min 31 (suc n)))
-
 -- the whole number that the output byte stands for
 unfoldable pub level : Float → ℤ
 level p = clip (whole p)
@@ -46,7 +43,6 @@ level p = clip (whole p)
 unfoldable pub isClipped : Float → Bool
 isClipped p = ltb 31 (natAbs (whole p))
 
--- a whole number as a byte in two's complement
-abbrev pub byteOf : ℤ → ℕ
-byteOf (pos n) = n
-byteOf (negsuc n) = 256 - suc n
+-- what becomes of p: its byte, 1 where it is clipped or else 0, and its magnitude
+abbrev pub levelOf : Float → Level
+levelOf p = record { byte = byteOf (level p); clipped = cond (isClipped p) 1 0; magnitude = magnitude p }

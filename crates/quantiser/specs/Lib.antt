@@ -1,2 +1,3 @@
 pub mod Level
 pub mod Quantise
+pub mod Claims

@@ -1,11 +1,23 @@
 // The sample quantiser: samples times a scale, as channel values in quarter units.
+use refusal::Judgement;
+use refusal::Refusal;
 ghost use mathlib.Core.Path.{_≡_};
-ghost use mathlib.Core.Bool.{not, cond};
+ghost use mathlib.Core.Bool.{not};
 ghost use Prim.Native.Nat.{_<_, min, max};
 ghost use lib.Dec.{T};
-ghost use lib.Ieee.{isNan};
-ghost use Rattle.quantiser.specs.Level.{magnitude, nearest, quarters, level, isClipped, byteOf};
-ghost use Rattle.quantiser.specs.Quantise.{larger, validScale, firstNan, accepted, quantised, Admitted};
+ghost use lib.Ieee.{binary32, mul, isNan};
+ghost use Rattle.refusal.specs.Judge.{judge};
+ghost use Rattle.channel.specs.Channel.{byteOf};
+ghost use Rattle.quantiser.specs.Level.{magnitude, nearest, quarters, level, levelOf};
+ghost use Rattle.quantiser.specs.Quantise.{larger, validScale, firstNan, quantisingRefusals, accepted, quantised};
+ghost use Rattle.quantiser.specs.Claims.{WellFormed};
+
+// What becomes of one sample: its byte, 1 where its product is clipped or else 0, and its product's magnitude.
+pub struct Level {
+    pub byte: u8,
+    pub clipped: usize,
+    pub magnitude: f32,
+}
 
 // What is told of the products: the largest magnitude, and how many were clipped.
 pub struct Summary {
@@ -13,11 +25,10 @@ pub struct Summary {
     pub clipped: usize,
 }
 
-// A summary, the number of a refusal, or refusal 22 with the index of the first sample that is not a number.
+// What quantise answers: the bytes are written, or the refusal.
 pub enum Quantised {
     Done(Summary),
-    Refused(u8),
-    RefusedAt { refusal: u8, index: usize },
+    Refused(Refusal),
 }
 
 // A magnitude's bits, no further down than the last float below 1/8 and no further up than the last below 8.
@@ -52,26 +63,18 @@ fn nearest_quarters(p: f32) -> u32
     rounded(significand << (bits / 0x80_0000 - 123))
 }
 
-// The output byte: 32, which stands for all that is clipped, becomes 31.
-fn level_byte(p: f32) -> u8
-    requires { ⌜ T (not (isNan p)) ⌝ }
+// The output byte, n being the whole number nearest to 4|p|, or 32 where it is larger. 32, which stands for all that is clipped,
+// becomes 31.
+fn level_byte(p: f32, n: u32) -> u8
+    requires { ⌜ n ≡ min 32 (quarters p) ⌝ }
     ensures { λ b. ⌜ b ≡ byteOf (level p) ⌝ }
 {
-    let n = nearest_quarters(p);
     let clipped = n - n / 32;
     if p < 0.0 {
         ((256 - clipped) % 256) as u8
     } else {
         clipped as u8
     }
-}
-
-// 1 where p is clipped, else 0.
-fn one_if_clipped(p: f32) -> usize
-    requires { ⌜ T (not (isNan p)) ⌝ }
-    ensures { λ r. ⌜ r ≡ cond (isClipped p) 1 0 ⌝ }
-{
-    (nearest_quarters(p) / 32) as usize
 }
 
 // p without its sign: the sign bit cleared.
@@ -82,6 +85,22 @@ fn absolute(p: f32) -> f32
     f32::from_bits(f32::to_bits(p) % 0x8000_0000)
 }
 
+// What becomes of the sample y. The product is a number where the scale is valid and y is a number.
+pub fn quantise_one(scale: f32, y: f32) -> Level
+    requires { ⌜ T (not (isNan (mul binary32 scale y))) ⌝ }
+    ensures { λ l. ⌜ l ≡ levelOf (mul binary32 scale y) ⌝ }
+{
+    let p = scale * y;
+    let n = nearest_quarters(p);
+    let byte = level_byte(p, n);
+    let magnitude = absolute(p);
+    Level {
+        byte,
+        clipped: (n / 32) as usize,
+        magnitude,
+    }
+}
+
 fn larger_of(a: f32, b: f32) -> f32
     ensures { λ r. ⌜ r ≡ larger a b ⌝ }
 {
@@ -90,18 +109,17 @@ fn larger_of(a: f32, b: f32) -> f32
 
 // Writes the byte of every sample.
 fn fill(scale: f32, samples: &[f32], output: &mut [u8]) -> Summary
-    requires { ⌜ Admitted scale (now samples) (now output) ⌝ }
+    requires { ⌜ WellFormed scale (now samples) (now output) ⌝ }
     ensures { λ s. ⌜ (Quantised.Done s, now (output .exit)) ≡ accepted scale (now (samples .entry)) ⌝ }
 {
     let mut peak = 0.0f32;
     let mut clipped = 0usize;
     let mut i = 0usize;
     while i < samples.len() {
-        let p = scale * samples[i];
-        output[i] = level_byte(p);
-        clipped += one_if_clipped(p);
-        let magnitude = absolute(p);
-        peak = larger_of(peak, magnitude);
+        let level = quantise_one(scale, samples[i]);
+        output[i] = level.byte;
+        clipped += level.clipped;
+        peak = larger_of(peak, level.magnitude);
         i += 1;
     }
     Summary { peak, clipped }
@@ -133,19 +151,29 @@ fn first_nan(samples: &[f32]) -> usize
     i
 }
 
+// Refusals 20 to 22.
+fn judge_quantising(scale: f32, samples: &[f32], output: &[u8]) -> Judgement
+    ensures { λ j. ⌜ j ≡ judge (quantisingRefusals scale (now (samples .entry)) (now (output .entry))) ⌝ }
+{
+    if samples.len() != output.len() {
+        return Judgement::Refused(Refusal::Alone(20));
+    }
+    if !is_valid(scale) {
+        return Judgement::Refused(Refusal::Alone(21));
+    }
+    let index = first_nan(samples);
+    if index < samples.len() {
+        return Judgement::Refused(Refusal::At { refusal: 22, index });
+    }
+    Judgement::Fine
+}
+
 // Quantises samples to channel values, one byte each.
 pub fn quantise(scale: f32, samples: &[f32], output: &mut [u8]) -> Quantised
     ensures { λ a. ⌜ (a, now (output .exit)) ≡ quantised scale (now (samples .entry)) (now (output .entry)) ⌝ }
 {
-    if samples.len() != output.len() {
-        return Quantised::Refused(20);
+    match judge_quantising(scale, samples, output) {
+        Judgement::Fine => Quantised::Done(fill(scale, samples, output)),
+        Judgement::Refused(x) => Quantised::Refused(x),
     }
-    if !is_valid(scale) {
-        return Quantised::Refused(21);
-    }
-    let index = first_nan(samples);
-    if index < samples.len() {
-        return Quantised::RefusedAt { refusal: 22, index };
-    }
-    Quantised::Done(fill(scale, samples, output))
 }

@@ -1,11 +1,11 @@
 // Reads records from standard input, and prints a line for each. What a line says is proved in `records`: only reading and writing are here.
+use code::LONGEST;
 use libc::STDIN_FILENO;
 use libc::STDOUT_FILENO;
-use records::HELD;
-use records::LINE;
+use lines::LINE;
 ghost use Prim.Native.Nat.{_+_, _≤_};
 ghost use lib.ListN.{length};
-ghost use Rattle.receive.specs.Rooms.{Rooms, Within, Inside};
+ghost use Rattle.receive.specs.Contracts.{Inside, Within, Rooms};
 
 // The longest record.
 const RECORD: usize = 65535;
@@ -71,7 +71,7 @@ fn make_room(output: &[u8], waiting: usize) -> usize
 
 // Responds to a record.
 fn print_response(state: State, bytes: &[u8], held: &mut [u8], output: &mut [u8]) -> State
-    requires { do ⌜ (4 ≤ length (now bytes)) × ((← ⟦HELD⟧) ≤ length (now held)) × ((← ⟦LINE⟧) ≤ length (now output)) × Inside (now held) (now output) state ⌝ }
+    requires { do ⌜ (4 ≤ length (now bytes)) × ((← ⟦LONGEST⟧) ≤ length (now held)) × ((← ⟦LINE⟧) ≤ length (now output)) × Inside (now held) (now output) state ⌝ }
     ensures { λ after. ⌜ Inside (now (held .exit)) (now (output .exit)) after ⌝ }
 {
     let waiting = make_room(output, state.waiting);
@@ -87,7 +87,7 @@ fn print_cut(output: &mut [u8], waiting: usize) -> usize
     ensures { λ left. ⌜ left ≤ length (now (output .exit)) ⌝ }
 {
     let waiting = make_room(output, waiting);
-    waiting + records::put_cut(&mut output[waiting..])
+    waiting + lines::put_cut(&mut output[waiting..])
 }
 
 // The last line, after which all is written.
@@ -95,13 +95,13 @@ fn print_end(output: &mut [u8], waiting: usize, count: u64)
     requires { do ⌜ (waiting ≤ length (now output)) × ((← ⟦LINE⟧) ≤ length (now output)) ⌝ }
 {
     let waiting = make_room(output, waiting);
-    let end = waiting + records::put_end(&mut output[waiting..], count);
+    let end = waiting + lines::put_end(&mut output[waiting..], count);
     write_first(output, end);
 }
 
 // Responds to each record until the input is at its end or cut. No input is long enough for the count to reach its bound.
 fn receive(bytes: &mut [u8], held: &mut [u8], output: &mut [u8])
-    requires { do ⌜ Rooms (← ⟦RECORD⟧) (← ⟦HELD⟧) (← ⟦LINE⟧) (now bytes) (now held) (now output) ⌝ }
+    requires { do ⌜ Rooms (← ⟦RECORD⟧) (← ⟦LONGEST⟧) (← ⟦LINE⟧) (now bytes) (now held) (now output) ⌝ }
 {
     let mut state = State {
         waiting: 0,
@@ -129,7 +129,7 @@ fn receive(bytes: &mut [u8], held: &mut [u8], output: &mut [u8])
 
 fn main() {
     let mut bytes = [0u8; RECORD];
-    let mut held = [0u8; HELD];
+    let mut held = [0u8; LONGEST];
     let mut output = [0u8; OUTPUT];
     receive(&mut bytes, &mut held, &mut output);
 }

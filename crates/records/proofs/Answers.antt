@@ -1,19 +1,19 @@
--- A line that is put, beside a description that is held. Assumes nothing.
+-- A line that is put, beside a description that is held.
 use mathlib.Core.Path.{_≡_, ap, subst}
 use mathlib.Core.List.{List}
 use Prim.Native.Nat.{ℕ, _≤_}
 use native.Mathlib.Omega.{arith}
 use lib.ListN.{length, take}
 use Rattle.records.specs.declared.Response.{Response}
-use Rattle.records.specs.Put.{Put}
-use Rattle.records.specs.Respond.{Answers}
-use Rattle.records.proofs.Putting.{length-put, take-put}
+use Rattle.records.specs.Contracts.{RespondPost}
+use Rattle.lines.specs.Contracts.{PutPost}
+use Rattle.lines.proofs.Putting.{length-put, take-put}
 
 abbrev response : ℕ → ℕ → Response
 response line held = record { line = line; held = held }
 
 -- a line, with what was held
-pub answers-line : {w text w′ held : List ℕ} {next size : ℕ} → Put w 0 text w′ next → size ≤ length held → Answers (text, take size held) w′ held (response next size)
+pub answers-line : {w text w′ held : List ℕ} {next size : ℕ} → PutPost w 0 text w′ next → size ≤ length held → RespondPost (text, take size held) w′ held (response next size)
 answers-line {w} {text} {w′} {held} {next} {size} p h = record {
   line-fits = omega (arith, p .fits, length-put p);
   held-fits = h;
@@ -21,5 +21,5 @@ answers-line {w} {text} {w′} {held} {next} {size} p h = record {
 }
 
 -- the same answer
-pub answers-as : {a : List ℕ × List ℕ} {line held : List ℕ} {r : Response} → Answers a line held r → (b : List ℕ × List ℕ) → a ≡ b → Answers b line held r
-answers-as {a} {line} {held} {r} p b e = subst (λ (x : List ℕ × List ℕ). Answers x line held r) e p
+pub answers-as : {a : List ℕ × List ℕ} {line held : List ℕ} {r : Response} → RespondPost a line held r → (b : List ℕ × List ℕ) → a ≡ b → RespondPost b line held r
+answers-as {a} {line} {held} {r} p b e = subst (λ (x : List ℕ × List ℕ). RespondPost x line held r) e p

@@ -1,1 +1,3 @@
 pub mod Resume
+pub mod Claims
+pub mod Contracts

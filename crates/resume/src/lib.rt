@@ -1,20 +1,22 @@
 // Resume: one decoding pass whose first bits are given.
+use arrays::SIZE;
+use code::Code;
 use code::Description;
+use refusal::Judgement;
+use refusal::Refusal;
 use sc::Work;
-use transform::BitArray;
-use transform::SIZE;
 ghost use mathlib.Core.Path.{_≡_};
-ghost use Prim.Native.Nat.{_*_, _^_, _≤_};
+ghost use Prim.Native.Nat.{_*_, _≤_};
 ghost use lib.ListN.{length};
-ghost use Rattle.laws.specs.Segment.{splice};
-ghost use Rattle.sc.specs.Arrays.{deepest};
-ghost use Rattle.resume.specs.Resume.{badBit, firstBad, resumePass, Resumable, resumedCode, resumed};
+ghost use Rattle.refusal.specs.Judge.{judge};
+ghost use Rattle.code.specs.Claims.{Coded};
+ghost use Rattle.resume.specs.Resume.{badBit, firstBad, resumePass, prefixRefusals, resumingRefusals, resumedBy, resumed};
+ghost use Rattle.resume.specs.Contracts.{ResumePre};
 
-// What resume answers: the steps made, or the number of the refusal, in two cases with its first index.
+// What resume answers: the steps made, or the refusal.
 pub enum Resumed {
     Done { steps: u32 },
-    Refused(u8),
-    RefusedAt { refusal: u8, index: u32 },
+    Refused(Refusal),
 }
 
 // Whether a prefix byte is other than 0 or 1, or a 1 at a frozen index, which the mask does not mark.
@@ -39,22 +41,10 @@ fn first_bad(mask: &[u8], prefix: &[u8]) -> usize
     i
 }
 
-// Puts a prefix in its place.
-fn copy_in(prefix: &[u8], bits: &mut BitArray)
-    requires { do ⌜ (length (now prefix) ≤ (← ⟦SIZE⟧)) × (length (now bits) ≡ (← ⟦SIZE⟧)) ⌝ }
-    ensures { λ _. ⌜ now (bits .exit) ≡ splice (now (bits .entry)) 0 (now (prefix .entry)) ⌝ }
-{
-    let mut i = 0;
-    while i < prefix.len() {
-        bits[i] = prefix[i];
-        i += 1;
-    }
-}
-
 // The pass of an accepted call.
-fn resume_pass(n: u32, mask: &[u8], channel: &[u8], prefix: &[u8], output: &mut [u8]) -> Work
-    requires { ⌜ Resumable n (now mask) (now channel) (now prefix) (now output) ⌝ }
-    ensures { λ r. ⌜ (r .steps ≡ resumePass n (now (mask .entry)) (now (channel .entry)) (now (prefix .entry)) .steps) × (now (output .exit) ≡ resumePass n (now (mask .entry)) (now (channel .entry)) (now (prefix .entry)) .bits) ⌝ }
+fn resume_pass(mask: &[u8], code: Code, channel: &[u8], prefix: &[u8], output: &mut [u8]) -> Work
+    requires { ⌜ ResumePre (now mask) code (now channel) (now prefix) (now output) ⌝ }
+    ensures { λ done. ⌜ (done ≡ resumePass (now (mask .entry)) code (now (channel .entry)) (now (prefix .entry)) .work) × (now (output .exit) ≡ resumePass (now (mask .entry)) code (now (channel .entry)) (now (prefix .entry)) .bits) ⌝ }
 {
     let mut rules = [0u8; SIZE];
     let mut work = [0i32; SIZE];
@@ -62,9 +52,9 @@ fn resume_pass(n: u32, mask: &[u8], channel: &[u8], prefix: &[u8], output: &mut 
     let mut sums = [0u8; SIZE];
     let mut leaves = [0i32; SIZE];
     sc::rules_from(mask, &mut rules);
-    copy_in(prefix, &mut bits);
+    arrays::copy(prefix, 0, &mut bits, 0, prefix.len());
     let done = sc::pass(
-        n,
+        code,
         prefix.len(),
         channel,
         &rules,
@@ -73,41 +63,64 @@ fn resume_pass(n: u32, mask: &[u8], channel: &[u8], prefix: &[u8], output: &mut 
         &mut sums,
         &mut leaves,
     );
-    bits::copy(&bits, output);
+    arrays::copy(&bits, 0, output, 0, channel.len());
     done
 }
 
-// The operation under a code of length 2^n.
-fn resume_code(n: u32, mask: &[u8], channel: &[u8], prefix: &[u8], output: &mut [u8]) -> Resumed
-    requires { ⌜ (1 ≤ n) × (n ≤ deepest) × (8 * length (now mask) ≡ 2 ^ n) ⌝ }
-    ensures { λ r. ⌜ (r, now (output .exit)) ≡ resumedCode n (now (mask .entry)) (now (channel .entry)) (now (prefix .entry)) (now (output .entry)) ⌝ }
+// Refusals 17 to 19.
+fn judge_prefix(mask: &[u8], code: Code, prefix: &[u8], output: &[u8]) -> Judgement
+    requires { ⌜ Coded (now mask) code ⌝ }
+    ensures { λ j. ⌜ j ≡ judge (prefixRefusals (now (mask .entry)) code (now (prefix .entry)) (now (output .entry))) ⌝ }
 {
-    let size = 1usize << n;
-    if channel.len() != size {
-        return Resumed::Refused(12);
-    }
-    let outside = sc::first_outside(channel);
-    if outside < channel.len() {
-        return Resumed::RefusedAt {
-            refusal: 13,
-            index: outside as u32,
-        };
-    }
+    let size = 1usize << code.n;
     if size < prefix.len() {
-        return Resumed::Refused(17);
+        return Judgement::Refused(Refusal::Alone(17));
     }
-    let bad = first_bad(mask, prefix);
-    if bad < prefix.len() {
-        return Resumed::RefusedAt {
-            refusal: 18,
-            index: bad as u32,
-        };
+    let index = first_bad(mask, prefix);
+    if index < prefix.len() {
+        return Judgement::Refused(Refusal::At { refusal: 18, index });
     }
     if output.len() != size {
-        return Resumed::Refused(19);
+        return Judgement::Refused(Refusal::Alone(19));
     }
-    let done = resume_pass(n, mask, channel, prefix, output);
-    Resumed::Done { steps: done.steps }
+    Judgement::Fine
+}
+
+// Refusals 12, 13 and 17 to 19.
+fn judge_resuming(
+    mask: &[u8],
+    code: Code,
+    channel: &[u8],
+    prefix: &[u8],
+    output: &[u8],
+) -> Judgement
+    requires { ⌜ Coded (now mask) code ⌝ }
+    ensures { λ j. ⌜ j ≡ judge (resumingRefusals (now (mask .entry)) code (now (channel .entry)) (now (prefix .entry)) (now (output .entry))) ⌝ }
+{
+    match channel::judge_channel(code, channel) {
+        Judgement::Fine => judge_prefix(mask, code, prefix, output),
+        Judgement::Refused(x) => Judgement::Refused(x),
+    }
+}
+
+// Resumes under a code.
+pub fn resume_by(
+    mask: &[u8],
+    code: Code,
+    channel: &[u8],
+    prefix: &[u8],
+    output: &mut [u8],
+) -> Resumed
+    requires { ⌜ Coded (now mask) code ⌝ }
+    ensures { λ r. ⌜ (r, now (output .exit)) ≡ resumedBy (now (mask .entry)) code (now (channel .entry)) (now (prefix .entry)) (now (output .entry)) ⌝ }
+{
+    match judge_resuming(mask, code, channel, prefix, output) {
+        Judgement::Fine => {
+            let done = resume_pass(mask, code, channel, prefix, output);
+            Resumed::Done { steps: done.steps }
+        }
+        Judgement::Refused(x) => Resumed::Refused(x),
+    }
 }
 
 // All N bits of a pass whose first bits are the prefix, one a byte.
@@ -115,12 +128,9 @@ pub fn resume(description: &[u8], channel: &[u8], prefix: &[u8], output: &mut [u
     ensures { λ r. ⌜ (r, now (output .exit)) ≡ resumed (now (description .entry)) (now (channel .entry)) (now (prefix .entry)) (now (output .entry)) ⌝ }
 {
     match code::read_description(description) {
-        Description::Code {
-            n,
-            r: _,
-            polynomial: _,
-            k: _,
-        } => resume_code(n, code::mask_of(description), channel, prefix, output),
-        Description::Refused(refusal) => Resumed::Refused(refusal),
+        Description::Accepted(code) => {
+            resume_by(code::mask_of(description), code, channel, prefix, output)
+        }
+        Description::Refused(x) => Resumed::Refused(x),
     }
 }

@@ -1,14 +1,14 @@
--- Bits before an index depend on the rules before it alone, and so does the leaf value at the index. Assumes nothing.
+-- Bits before an index depend on the rules before it alone, and so does the leaf value at the index.
 use mathlib.Core.Path.{_≡_, sym, ap₂, _∙_}
 use mathlib.Core.List.{List}
 use Prim.Native.Nat.{ℕ, _+_, _^_, _<_, _≤_}
 use native.Mathlib.Omega.{arith}
 use lib.IntN.{ℤ, pos}
 use lib.ListN.{length, getD, take}
-use Rattle.sc.specs.Values.{Rule, decided}
+use Rattle.values.specs.Values.{decided, Rule}
 use Rattle.sc.specs.Pass.{node}
 use Rattle.sc.proofs.Node.{Short, length-bits}
-use Rattle.sc.proofs.Indices.{lt-cases, take-agree}
+use Rattle.laws.proofs.Indices.{lt-cases, take-agree}
 use Rattle.sc.proofs.Decisions.{leafValue, leaf-before, decision}
 
 -- two passes over the same values that have the same bits before index i

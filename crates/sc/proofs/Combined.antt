@@ -1,9 +1,9 @@
--- The sums of two halves, put side by side and then combined in place. Assumes nothing.
+-- The sums of two halves, put side by side and then combined in place.
 use mathlib.Core.Path.{_≡_, ap, ap₂, _∙_}
 use mathlib.Core.List.{List, _++_}
 use Prim.Native.Nat.{ℕ, _+_, _≤_}
 use lib.ListN.{length}
-use Rattle.laws.specs.Segment.{segment, splice}
+use Rattle.laws.specs.Contracts.{splice, segment}
 use Rattle.laws.proofs.Segment.{splice-over, segment-splice-front, segment-splice-back}
 use Rattle.transform.specs.Transform.{xors}
 use Rattle.transform.proofs.Xors.{length-xors}

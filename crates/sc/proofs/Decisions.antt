@@ -1,5 +1,5 @@
 -- A node index by index: a forced bit is the prefix's, and any other is decided by its rule from the value at its leaf, which depends on
--- the node's values and the bits before it. Assumes nothing.
+-- the node's values and the bits before it.
 use mathlib.Core.Path.{_≡_, refl, sym, ap, ap₂, _∙_}
 use mathlib.Core.Bool.{Bool, cond}
 use mathlib.Core.List.{List, [], _∷_, _++_}
@@ -13,11 +13,11 @@ use lib.ListN.{length, getD, take, drop, length-take, length-drop, List·getD-ap
 use lib.Seq.{getD-take, getD-drop, getD-append-add, take-take, take-at, drop-at}
 use Rattle.laws.proofs.Segment.{drop-take}
 use Rattle.transform.specs.Transform.{transformed}
-use Rattle.sc.specs.Values.{leftValues, rightValues, Rule, decided}
+use Rattle.values.specs.Values.{decided, Rule, rightValues, leftValues}
 use Rattle.sc.specs.Pass.{Out, forced, leaf, node}
 use Rattle.sc.proofs.Node.{leftOf, left, right, halves, leaf-cases, node-cases, Short, short-left, short-right, length-bits, length-leaves}
 use Rattle.sc.proofs.Sums.{sums-transformed}
-use Rattle.sc.proofs.Indices.{by-halves}
+use Rattle.laws.proofs.Indices.{by-halves}
 
 -- the value at leaf i of a node of values v, where b are the node's bits
 unfoldable pub leafValue : ℕ → List ℤ → List ℕ → ℕ → ℤ

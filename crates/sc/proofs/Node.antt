@@ -1,4 +1,4 @@
--- A node by its cases: forced, a leaf, or two halves; and the lengths of what it gives. Assumes nothing.
+-- A node by its cases: forced, a leaf, or two halves; and the lengths of what it gives.
 use mathlib.Core.Path.{_≡_, refl, sym, ap, subst}
 use mathlib.Core.Bool.{Bool, true, false, cond}
 use mathlib.Core.List.{List, []}
@@ -9,20 +9,11 @@ use borrow.Author.Tests.{le-leb, lt-leb, leb-true, leb-false}
 use lib.Dec.{leb}
 use lib.IntN.{ℤ, pos}
 use lib.ListN.{length, getD, take, drop, length-append, length-take, length-drop}
-use Rattle.laws.proofs.Table.{length-table}
 use Rattle.transform.specs.Transform.{xors}
 use Rattle.transform.proofs.Transformed.{length-transformed}
 use Rattle.transform.proofs.Xors.{length-xors}
-use Rattle.sc.specs.Values.{leftValues, rightValues, Rule}
+use Rattle.values.specs.Values.{Rule, rightValues, leftValues}
 use Rattle.sc.specs.Pass.{Out, forced, leaf, join, node}
-
-pub length-left : (h : ℕ) (v : List ℤ) → length (leftValues h v) ≡ h
-unfolding leftValues
-length-left h v = length-table _ h
-
-pub length-right : (h : ℕ) (v : List ℤ) (sums : List ℕ) → length (rightValues h v sums) ≡ h
-unfolding rightValues
-length-right h v sums = length-table _ h
 
 -- the values of the left half that are computed
 abbrev pub leftOf : ℕ → List ℕ → List ℤ → List ℤ

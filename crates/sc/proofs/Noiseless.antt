@@ -1,4 +1,4 @@
--- Values with the signs of a codeword and no zero among them decode to the bits of that codeword. Assumes nothing.
+-- Values with the signs of a codeword and no zero among them decode to the bits of that codeword.
 use mathlib.Core.Path.{_≡_, refl, sym, ap, ap₂, _∙_, subst, subst₂}
 use mathlib.Core.Bool.{false}
 use mathlib.Core.List.{List, [], _∷_, _++_}
@@ -12,16 +12,16 @@ use lib.ListN.{length, getD, take, drop, length-drop, take-append-drop, List·ge
 use lib.Pow.{pow-pos}
 use lib.Seq.{getD-take, getD-drop, getD-append-add, length-take-le, take-nil, drop-nil}
 use Rattle.laws.proofs.Table.{getD-table}
-use Rattle.bits.specs.Bit.{Bits}
+use Rattle.bits.specs.Claims.{Bits}
 use Rattle.bits.proofs.Lists.{bits-take, bits-drop}
 use Rattle.transform.specs.Transform.{transformed, xors}
 use Rattle.transform.proofs.Transformed.{bits-transformed, transformed-zero, transformed-suc}
 use Rattle.transform.proofs.Xors.{length-xors, getD-xors}
-use Rattle.sc.specs.Values.{hard, f, leftValues, rightValues, Rule, frozen, usual, opposite, decided}
+use Rattle.values.specs.Values.{decided, Rule, frozen, usual, opposite, rightValues, leftValues, f, hard}
 use Rattle.sc.specs.Pass.{Out, leaf, join, node}
 use Rattle.sc.proofs.Node.{node-leaf, node-halves, length-leaves}
-use Rattle.sc.proofs.Indices.{by-halves}
-use Rattle.sc.proofs.Favours.{Favours, f-favours, g-favours}
+use Rattle.laws.proofs.Indices.{by-halves}
+use Rattle.values.proofs.Favours.{Favours, f-favours, g-favours}
 
 -- n values with the signs of the bits x
 abbrev pub Signs : ℕ → List ℕ → List ℤ → Type 0

@@ -1,5 +1,4 @@
 -- A pass that is resumed from a prefix with which another pass begins gives what that pass gives, whatever the rules below the prefix.
--- Assumes nothing.
 use mathlib.Core.Path.{_≡_, refl, sym, ap, _∙_}
 use mathlib.Core.List.{List, []}
 use Prim.Native.Nat.{ℕ, _+_, _^_, _<_, _≤_}
@@ -9,12 +8,13 @@ use lib.IntN.{ℤ, pos}
 use lib.ListN.{length, getD, take, drop, length-drop}
 use lib.Seq.{take-all, take-length, getD-take, getD-drop, ext-getD}
 use Rattle.transform.specs.Transform.{transformed}
-use Rattle.sc.specs.Values.{Rule}
+use Rattle.values.specs.Values.{Rule}
 use Rattle.sc.specs.Pass.{Out, node}
 use Rattle.sc.proofs.Node.{Short, length-bits, length-leaves}
 use Rattle.sc.proofs.Sums.{sums-transformed}
+use Rattle.sc.proofs.StepsMost.{same-steps}
 use Rattle.sc.proofs.Steps.{steps-length}
-use Rattle.sc.proofs.Indices.{lt-cases, take-agree}
+use Rattle.laws.proofs.Indices.{lt-cases, take-agree}
 use Rattle.sc.proofs.Decisions.{decision}
 use Rattle.sc.proofs.Causality.{same-leaf, same-bit}
 
@@ -77,5 +77,5 @@ rules-below s p rule rule′ v short agree =
       bits = restart-bits s p p rule′ rule v short short c e back i;
       sums = restart-sums s p p rule′ rule v short short c e back i;
       leaves = restart-leaves s p p rule′ rule v short short c e back 0 (add-zero (length p)) i;
-      steps = steps-length s p p rule rule′ v v refl short i;
+      work = same-steps (steps-length s p p rule rule′ v v refl short) i;
     }

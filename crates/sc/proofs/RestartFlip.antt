@@ -1,5 +1,5 @@
--- A trial that flips an index begins as the trial before it, with the opposite at that index and zeros while indices are frozen: so it may
--- be resumed past them. Assumes nothing.
+-- A trial that flips an index begins as the trial before it, with the opposite at that index and zeros while indices are frozen. So it may
+-- be resumed past them (proofs/Restart.antt), whatever it flips from there on.
 use mathlib.Core.Path.{_≡_, sym, ap, ap₂, _∙_}
 use mathlib.Core.List.{List, [], _∷_, _++_}
 use Prim.Native.Nat.{ℕ, zero, suc, _+_, _-_, _^_, _<_, _≤_}
@@ -8,12 +8,11 @@ use native.Mathlib.Omega.{arith}
 use lib.IntN.{ℤ, pos}
 use lib.ListN.{length, getD, take, drop, replicate, length-append, length-take, length-drop, length-replicate, getD-replicate}
 use lib.Seq.{take-add, getD-take, getD-drop, ext-getD}
-use Rattle.sc.specs.Values.{Rule, frozen, usual, opposite, decided}
+use Rattle.values.specs.Values.{decided, Rule, frozen, usual, opposite}
 use Rattle.sc.specs.Pass.{Out, node}
 use Rattle.sc.proofs.Node.{Short, length-bits}
 use Rattle.sc.proofs.Decisions.{bit-decided}
 use Rattle.sc.proofs.Causality.{bits-before, leaf-at}
-use Rattle.sc.proofs.Restart.{restart-bits}
 
 -- what a trial that flips index i begins with, up to q: the bits b of the trial before up to i, the opposite at i, then frozen zeros
 abbrev pub flipped : List ℕ → ℕ → ℕ → List ℕ
@@ -64,16 +63,3 @@ module _ (s : ℕ) (rule rule′ : ℕ → Rule) (v : List ℤ) (i q : ℕ) (l :
       let d : i + k < q = omega (arith, length-replicate {A = ℕ} (q - (i + 1)) 0) in
       from-flip k d ∙ sym (getD-take n back k 0 (omega arith) ∙ getD-drop i (trial .bits) k 0)))
       ∙ sym (take-add i n (trial .bits)) ∙ ap (λ (k : ℕ). take k (trial .bits)) whole
-
-  -- a trial that is resumed at q, by rules that are its own from there on
-  pub restart-flips : (rule″ : ℕ → Rule) → ((j : ℕ) → q ≤ j → j < 2 ^ s → rule′ j ≡ rule″ j) → node s (flipped (first .bits) i q) rule″ v .bits ≡ trial .bits
-  restart-flips rule″ agree =
-      let p : List ℕ = flipped (first .bits) i q in
-      let e : length p ≡ q = length-flipped (first .bits) i q l (omega (arith, length-bits s [] rule v none)) in
-      restart-bits s [] p rule′ rule″ v none (omega arith) (omega arith) (begins-flipped ∙ ap (λ (k : ℕ). take k (trial .bits)) (sym e)) (λ j c. agree j (omega arith))
-
--- a trial that flips one index
-pub restart-flip : (s : ℕ) (rule rule′ : ℕ → Rule) (v : List ℤ) (i q : ℕ) → i < q → q ≤ 2 ^ s → rule i ≡ usual → rule′ i ≡ opposite → ((j : ℕ) → i < j → j < q → rule j ≡ frozen) → ((j : ℕ) → (j ≡ i → ⊥) → rule′ j ≡ rule j) → node s (flipped (node s [] rule v .bits) i q) rule v .bits ≡ node s [] rule′ v .bits
-restart-flip s rule rule′ v i q l m plain flip zeros others =
-    restart-flips s rule rule′ v i q l m (λ j c. sym (others j (λ e. omega arith))) plain flip (λ j c d. others j (λ e. omega arith) ∙ zeros j c d)
-    rule (λ j c d. others j (λ e. omega arith))

@@ -1,19 +1,21 @@
 -- The steps of a node, added up value by value, and those that its prefix saves are s * 2^s together; so they depend on the layer and
--- on the length of the prefix alone. Assumes nothing.
+-- on the length of the prefix alone.
 use mathlib.Core.Path.{_≡_, refl, sym, ap, _∙_}
 use mathlib.Core.Bool.{Bool, true, false, cond}
 use mathlib.Core.List.{List, [], _∷_}
-use Prim.Native.Nat.{ℕ, zero, suc, _+_, _-_, _*_, _%_, _^_, _<_, _≤_, min}
-use native.Mathlib.Nat.{two-pow-succ, suc-mul, one-mul, mod-le, mod-eq-of-lt, mod-eq-sub-mod, mul-add-mod-self-right}
+use Prim.Native.Nat.{ℕ, zero, suc, _+_, _-_, _*_, _/_, _%_, _^_, _<_, _≤_, min}
+use native.Mathlib.Nat.{two-pow-succ, suc-mul, one-mul, mod-le, mod-eq-of-lt, mod-eq-sub-mod, mul-add-mod-self-right, mul-le-mul-right, le-div-iff-mul-le, div-mul-le-self, div-add-mod'}
 use native.Mathlib.Omega.{arith}
 use borrow.Author.Tests.{leb-true, leb-false}
 use lib.Dec.{leb}
 use lib.IntN.{ℤ}
 use lib.ListN.{length, take, drop, length-take, length-drop}
-use Rattle.sc.specs.Values.{leftValues, rightValues, Rule}
+use lib.Pow.{pow-pos}
+use Rattle.values.specs.Values.{Rule, rightValues, leftValues}
 use Rattle.sc.specs.Pass.{Out, node}
 use Rattle.sc.specs.Skipped.{skipped}
-use Rattle.sc.proofs.Node.{leftOf, left, right, leaf-cases, node-cases, node-forced, length-left, length-right, Short, short-left, short-right}
+use Rattle.sc.proofs.Node.{leftOf, left, right, leaf-cases, node-cases, node-forced, Short, short-left, short-right}
+use Rattle.values.proofs.Lengths.{length-right, length-left}
 
 -- whole blocks of 2^s before q save all their steps
 skipped-add : (s c q : ℕ) → skipped s (c * 2 ^ s + q) ≡ s * (c * 2 ^ s) + skipped s q
@@ -31,6 +33,15 @@ pub skipped-none : (s : ℕ) → skipped s 0 ≡ 0
 unfolding skipped
 skipped-none zero = refl
 skipped-none (suc s) = omega (arith, skipped-none s)
+
+-- a longer prefix saves as much or more
+pub skipped-mono : (s : ℕ) {q q′ : ℕ} → q ≤ q′ → skipped s q ≤ skipped s q′
+unfolding skipped
+skipped-mono zero l = omega arith
+skipped-mono (suc s) {q} {q′} l =
+    let h : ℕ = 2 ^ s in
+    let fewer : q / h ≤ q′ / h = le-div-iff-mul-le (pow-pos s) .1 (omega (arith, div-mul-le-self q h)) in
+    omega (arith, skipped-mono s l, div-add-mod' q h, div-add-mod' q′ h, mul-le-mul-right h fewer)
 
 -- at the end of the node all is saved
 pub skipped-whole : (s : ℕ) → skipped s (2 ^ s) ≡ s * 2 ^ s
@@ -74,33 +85,33 @@ length-leftOf h p v = go (leb h (length p))
     go true = refl
     go false = length-left h v
 
-pub steps-and-skipped : (s : ℕ) (p : List ℕ) (rule : ℕ → Rule) (v : List ℤ) → Short s p → node s p rule v .steps + skipped s (length p) ≡ s * 2 ^ s
+pub steps-and-skipped : (s : ℕ) (p : List ℕ) (rule : ℕ → Rule) (v : List ℤ) → Short s p → node s p rule v .work .steps + skipped s (length p) ≡ s * 2 ^ s
 unfolding skipped
-steps-and-skipped zero p rule v l = leaf-cases (λ o. o .steps + 0 ≡ 0) 0 p rule v (λ f. refl) (λ f. refl)
+steps-and-skipped zero p rule v l = leaf-cases (λ o. o .work .steps + 0 ≡ 0) 0 p rule v (λ f. refl) (λ f. refl)
 steps-and-skipped (suc s) p rule v l =
     let h : ℕ = 2 ^ s in
     let q : ℕ = length p in
     let lo : Out = left s h p rule v in
-    let a : lo .steps + skipped s (min h q) ≡ s * h =
-    ap (λ (k : ℕ). lo .steps + skipped s k) (sym (length-take h p)) ∙ steps-and-skipped s (take h p) rule (leftOf h p v) (short-left s p) in
+    let a : lo .work .steps + skipped s (min h q) ≡ s * h =
+    ap (λ (k : ℕ). lo .work .steps + skipped s k) (sym (length-take h p)) ∙ steps-and-skipped s (take h p) rule (leftOf h p v) (short-left s p) in
     let ro : Out = right s h p rule v in
-    let b : ro .steps + skipped s (q - h) ≡ s * h =
-    ap (λ (k : ℕ). ro .steps + skipped s k) (sym (length-drop h p)) ∙ steps-and-skipped s (drop h p) (λ i. rule (h + i)) (rightValues h v (lo .sums)) (short-right s p l) in
+    let b : ro .work .steps + skipped s (q - h) ≡ s * h =
+    ap (λ (k : ℕ). ro .work .steps + skipped s k) (sym (length-drop h p)) ∙ steps-and-skipped s (drop h p) (λ i. rule (h + i)) (rightValues h v (lo .sums)) (short-right s p l) in
     let two : suc s * 2 ^ suc s ≡ s * h + s * h + (h + h) = ap (λ (k : ℕ). suc s * k) (two-pow-succ s) ∙ omega arith in
     let saved : q ≡ 2 ^ suc s → skipped (suc s) q ≡ suc s * 2 ^ suc s = λ e. ap (skipped (suc s)) e ∙ skipped-whole (suc s) in
-    node-cases (λ o. o .steps + skipped (suc s) q ≡ suc s * 2 ^ suc s) s p rule v
+    node-cases (λ o. o .work .steps + skipped (suc s) q ≡ suc s * 2 ^ suc s) s p rule v
     (λ f. omega (arith, saved (omega arith)))
     (λ f. omega (arith, skipped-suc s q f, length-leftOf h p v, length-right h v (lo .sums)))
 
 -- a whole pass
-pub steps-whole : (s : ℕ) (rule : ℕ → Rule) (v : List ℤ) → node s [] rule v .steps ≡ s * 2 ^ s
+pub steps-whole : (s : ℕ) (rule : ℕ → Rule) (v : List ℤ) → node s [] rule v .work .steps ≡ s * 2 ^ s
 steps-whole s rule v = omega (arith, steps-and-skipped s [] rule v (omega arith), skipped-none s)
 
 -- a pass whose bits are all forced
-pub steps-forced : (s : ℕ) (p : List ℕ) (rule : ℕ → Rule) (v : List ℤ) → length p ≡ 2 ^ s → node s p rule v .steps ≡ 0
-steps-forced s p rule v e = ap (λ (o : Out). o .steps) (node-forced s p rule v (omega arith))
+pub steps-forced : (s : ℕ) (p : List ℕ) (rule : ℕ → Rule) (v : List ℤ) → length p ≡ 2 ^ s → node s p rule v .work .steps ≡ 0
+steps-forced s p rule v e = ap (λ (o : Out). o .work .steps) (node-forced s p rule v (omega arith))
 
 -- prefixes of one length
-pub steps-length : (s : ℕ) (p p′ : List ℕ) (rule rule′ : ℕ → Rule) (v v′ : List ℤ) → length p ≡ length p′ → Short s p → node s p rule v .steps ≡ node s p′ rule′ v′ .steps
+pub steps-length : (s : ℕ) (p p′ : List ℕ) (rule rule′ : ℕ → Rule) (v v′ : List ℤ) → length p ≡ length p′ → Short s p → node s p rule v .work .steps ≡ node s p′ rule′ v′ .work .steps
 steps-length s p p′ rule rule′ v v′ e l =
     omega (arith, steps-and-skipped s p rule v l, steps-and-skipped s p′ rule′ v′ (omega arith), ap (skipped s) e)

@@ -1,23 +1,20 @@
--- The sums of a node are the transform of its bits, and both are bits. Assumes nothing.
+-- The sums of a node are the transform of its bits, and both are bits.
 use mathlib.Core.Path.{_≡_, refl, sym, ap, ap₂, _∙_}
 use mathlib.Core.List.{List, [], _∷_, _++_}
 use Prim.Native.Nat.{ℕ, zero, suc, _+_, _^_, _<_}
 use native.Mathlib.Omega.{arith}
-use lib.IntN.{ℤ, pos, negsuc}
+use lib.IntN.{ℤ, pos}
 use lib.ListN.{getD, take, drop}
 use lib.Seq.{take-at, drop-at}
-use Rattle.bits.specs.Bit.{Bits}
+use Rattle.bits.specs.Claims.{Bits}
 use Rattle.bits.proofs.Lists.{bits-nil, bits-cons, bits-append, bits-take, bits-drop}
 use Rattle.transform.specs.Transform.{transformed, xors}
 use Rattle.transform.proofs.Transformed.{bits-transformed, transformed-zero, transformed-suc}
 use Rattle.transform.proofs.Xors.{bits-xors}
-use Rattle.sc.specs.Values.{rightValues, Rule, frozen, usual, opposite, hard, decided}
+use Rattle.values.specs.Values.{decided, Rule, frozen, usual, opposite, rightValues}
+use Rattle.values.proofs.Signs.{hard-lt}
 use Rattle.sc.specs.Pass.{Out, node}
 use Rattle.sc.proofs.Node.{leftOf, left, right, leaf-cases, node-cases, Short, short-left, short-right, length-bits}
-
-hard-lt : (v : ℤ) → hard v < 2
-hard-lt (pos a) = omega arith
-hard-lt (negsuc a) = omega arith
 
 pub decided-lt : (rule : Rule) (v : ℤ) → decided rule v < 2
 decided-lt frozen v = omega arith

@@ -1,14 +1,14 @@
--- Bits within an array. Assumes nothing.
+-- Bits within an array.
 use mathlib.Core.Path.{_≡_, sym, ap, _∙_, subst}
 use mathlib.Core.List.{List}
 use Prim.Native.Nat.{ℕ, _+_, _≤_}
 use native.Mathlib.Omega.{arith}
 use lib.ListN.{length}
-use Rattle.laws.specs.Segment.{segment, splice}
+use Rattle.laws.specs.Contracts.{splice, segment}
 use Rattle.laws.proofs.Segment.{segment-front, segment-back, segment-splice, length-splice}
-use Rattle.bits.specs.Bit.{Bits}
+use Rattle.bits.specs.Claims.{Bits}
 use Rattle.bits.proofs.Lists.{bits-take, bits-drop}
-use Rattle.transform.specs.Transform.{BitsAt}
+use Rattle.transform.specs.Contracts.{BitsAt}
 
 -- the halves of such bits
 module _ {room : ℕ} {w : List ℕ} {base h : ℕ} (p : BitsAt room w base (h + h)) where

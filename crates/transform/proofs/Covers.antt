@@ -1,4 +1,4 @@
--- Which indices cover which, with one bit more. Assumes nothing.
+-- Which indices cover which, with one bit more.
 use mathlib.Core.Path.{_≡_, refl, sym, ap, ap₂, _∙_, subst}
 use mathlib.Core.Bool.{Bool, _&&_}
 use Prim.Native.Nat.{ℕ, zero, suc, _+_, _*_, _%_, _^_, _<_}

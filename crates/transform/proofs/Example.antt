@@ -1,8 +1,7 @@
 -- The encoder's examples of document 01, "Vectors at the edges", from the bits u on: under D, indices 3, 5, 6, 7 hold payload, then check.
--- Assumes nothing.
 use mathlib.Core.Path.{_≡_, refl}
 use mathlib.Core.List.{[], _∷_}
-use Rattle.laws.specs.Segment.{table}
+use Rattle.laws.specs.Table.{table}
 use Rattle.bits.specs.Bit.{number}
 use Rattle.bits.specs.Packing.{packed}
 use Rattle.transform.specs.Transform.{covers, parity, transformed}

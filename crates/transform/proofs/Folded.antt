@@ -1,16 +1,16 @@
--- The recursive form: its lengths, and on bits it is the transform. Assumes nothing.
+-- The recursive form: its lengths, and on bits it is the transform.
 use mathlib.Core.Path.{_≡_, refl, sym, ap₂, _∙_}
 use mathlib.Core.List.{List, _++_}
-use Prim.Native.Nat.{ℕ, zero, suc, _+_, _^_}
+use Prim.Native.Nat.{ℕ, zero, suc, _^_}
 use native.Mathlib.Nat.{two-pow-succ}
 use native.Mathlib.Omega.{arith}
 use lib.ListN.{length, take, drop, length-append, length-take, length-drop}
 use Rattle.laws.proofs.Table.{length-table, table-ext}
-use Rattle.bits.specs.Bit.{Bits}
+use Rattle.bits.specs.Claims.{Bits}
 use Rattle.bits.proofs.Bitwise.{xor-bits}
 use Rattle.bits.proofs.Lists.{bits-take, bits-drop}
 use Rattle.transform.specs.Transform.{transformed, xors}
-use Rattle.transform.specs.Folded.{xorBytes, folded}
+use Rattle.transform.specs.Contracts.{folded, xorBytes}
 use Rattle.transform.proofs.Transformed.{bits-transformed, transformed-zero, transformed-suc}
 
 pub length-xorBytes : (h : ℕ) (a b : List ℕ) → length (xorBytes h a b) ≡ h

@@ -1,13 +1,13 @@
--- Folding in place, half by half: what each call finds in the array, and what all of them leave. Assumes nothing.
+-- Folding in place, half by half: what each call finds in the array, and what all of them leave.
 use mathlib.Core.Path.{_≡_, refl, sym, ap, ap₂, _∙_, subst}
 use mathlib.Core.List.{List, _++_}
 use Prim.Native.Nat.{ℕ, suc, _+_, _-_, _/_, _^_, _≤_}
 use native.Mathlib.Omega.{arith}
 use lib.ListN.{length, take, drop, length-append}
-use Rattle.laws.specs.Segment.{segment, splice}
+use Rattle.laws.specs.Contracts.{splice, segment}
 use Rattle.laws.proofs.Segment.{length-segment, segment-front, segment-back, drop-splice, length-splice, splice-segment, segment-splice-front, segment-splice-back, splice-next, splice-over}
 use Rattle.laws.proofs.Powers.{half-pow, two-halves}
-use Rattle.transform.specs.Folded.{xorBytes, folded, BytesAt}
+use Rattle.transform.specs.Contracts.{BytesAt, folded, xorBytes}
 use Rattle.transform.proofs.Folded.{length-xorBytes, length-folded, folded-suc}
 
 -- a single byte stays as it is

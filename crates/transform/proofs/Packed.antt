@@ -1,4 +1,4 @@
--- The recursive form on packed bits: each byte transformed, then the bytes folded, is the transform of their bits. Assumes nothing.
+-- The recursive form on packed bits: each byte transformed, then the bytes folded, is the transform of their bits.
 use mathlib.Core.Path.{_≡_, sym, ap, ap₂, _∙_}
 use mathlib.Core.List.{List, [], _∷_, _++_}
 use Prim.Native.Nat.{ℕ, zero, suc, _+_, _-_, _*_, _/_, _%_, _^_, _<_}
@@ -7,7 +7,7 @@ use native.Mathlib.Omega.{arith}
 use lib.Bits.{xor-lt}
 use lib.ListN.{length, getD, take, drop, List·getD-append, List·getD-eq-default}
 use lib.Seq.{take-at, drop-at, getD-append-add}
-use Rattle.laws.specs.Segment.{table}
+use Rattle.laws.specs.Table.{table}
 use Rattle.laws.proofs.Each.{Each, each-append, each-take, each-drop, each-table}
 use Rattle.laws.proofs.Table.{length-table, getD-table, table-ext, table-append}
 use Rattle.bits.specs.Bit.{bit, bitsOf}
@@ -17,7 +17,7 @@ use Rattle.bits.proofs.Number.{number-lt, bit-number}
 use Rattle.bits.proofs.BitsOf.{bitsOf-table}
 use Rattle.bits.proofs.Packing.{packed-unpacked}
 use Rattle.transform.specs.Transform.{codeBit, transformed, xors}
-use Rattle.transform.specs.Folded.{xorBytes, folded, transformedByte}
+use Rattle.transform.specs.Contracts.{transformedByte, folded, xorBytes}
 use Rattle.transform.proofs.Folded.{length-xorBytes, length-folded, folded-suc}
 use Rattle.transform.proofs.Parity.{parity-lt}
 use Rattle.transform.proofs.Transformed.{transformed-suc}

@@ -1,4 +1,4 @@
--- The exclusive-or of many bits. Assumes nothing.
+-- The exclusive-or of many bits.
 use mathlib.Core.Path.{_≡_, refl, sym, ap, ap₂, _∙_}
 use Prim.Native.Nat.{ℕ, zero, suc, _+_, _%_, _<_}
 use native.Mathlib.Nat.{add-zero, add-suc, add-mod}

@@ -1,4 +1,4 @@
--- The polar transform: its recursive form, that it is linear, and that it undoes itself. Assumes nothing.
+-- The polar transform: its recursive form, that it is linear, and that it undoes itself.
 use mathlib.Core.Path.{_≡_, refl, sym, ap, ap₂, _∙_}
 use mathlib.Core.Bool.{Bool, true, false, _&&_, cond}
 use mathlib.Core.List.{List, [], _∷_, _++_}
@@ -8,9 +8,9 @@ use native.Mathlib.Omega.{arith}
 use lib.Dec.{leb}
 use lib.ListN.{length, take, drop, getD, length-drop, take-append-drop}
 use lib.Seq.{getD-take, getD-drop, take-at, drop-at, length-take-le}
-use Rattle.laws.specs.Segment.{table}
+use Rattle.laws.specs.Table.{table}
 use Rattle.laws.proofs.Table.{length-table, getD-table, table-ext, table-append}
-use Rattle.bits.specs.Bit.{Bits}
+use Rattle.bits.specs.Claims.{Bits}
 use Rattle.bits.proofs.Lists.{bits-table, bits-take, bits-drop}
 use Rattle.transform.specs.Transform.{covers, parity, codeBit, transformed, xors}
 use Rattle.transform.proofs.Covers.{Above, above-zero, above-one, covers-suc}

@@ -1,13 +1,13 @@
--- The exclusive-or of two lists, bit by bit. Assumes nothing.
+-- The exclusive-or of two lists, bit by bit.
 use mathlib.Core.Path.{_≡_, sym, ap, _∙_}
 use mathlib.Core.List.{List}
 use Prim.Native.Nat.{ℕ, _+_, _%_, _<_}
 use native.Mathlib.Nat.{mod-lt, zero-lt-suc}
 use native.Mathlib.Omega.{arith}
 use lib.ListN.{length, getD}
-use Rattle.laws.specs.Segment.{table}
+use Rattle.laws.specs.Table.{table}
 use Rattle.laws.proofs.Table.{length-table, getD-table, table-ext, table-getD}
-use Rattle.bits.specs.Bit.{Bits}
+use Rattle.bits.specs.Claims.{Bits}
 use Rattle.bits.proofs.Lists.{bits-table}
 use Rattle.transform.specs.Transform.{xors}
 

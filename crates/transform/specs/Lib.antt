@@ -1,2 +1,2 @@
 pub mod Transform
-pub mod Folded
+pub mod Contracts

@@ -1,13 +1,12 @@
 -- The polar transform of document 01, "Check and encoder"; document 000, section II-A: x = u·G^(⊗n), in natural order.
 -- x_j is the exclusive-or of every u_i for which each one bit of j is also one in i.
-use mathlib.Core.Path.{_≡_}
 use mathlib.Core.Bool.{Bool, true, _&&_, cond}
 use mathlib.Core.List.{List}
-use Prim.Native.Nat.{ℕ, zero, suc, _+_, _%_, _^_, _≤_}
+use Prim.Native.Nat.{ℕ, zero, suc, _+_, _%_, _^_}
 use lib.Dec.{leb}
-use lib.ListN.{length, getD}
-use Rattle.laws.specs.Segment.{table, segment}
-use Rattle.bits.specs.Bit.{bit, Bits}
+use lib.ListN.{getD}
+use Rattle.laws.specs.Table.{table}
+use Rattle.bits.specs.Bit.{bit}
 
 -- whether each one bit of j, among its n low bits, is also one in i
 unfoldable pub covers : ℕ → ℕ → ℕ → Bool
@@ -30,9 +29,3 @@ transformed n u = table (codeBit n u) (2 ^ n)
 -- the exclusive-or of two lists of h bits, bit by bit
 unfoldable pub xors : ℕ → List ℕ → List ℕ → List ℕ
 xors h a b = table (λ j. (getD a j 0 + getD b j 0) % 2) h
-
--- n bits from `base` on, within an array of `size` bytes
-pub record BitsAt (size : ℕ) (bytes : List ℕ) (base n : ℕ) : Type 0 where
-  pub whole : length bytes ≡ size
-  pub fits : base + n ≤ size
-  pub bits : Bits (segment bytes base n)

@@ -1,20 +1,15 @@
 // The polar transform, in place: of bits, one a byte, on a segment of a working array, and of packed bits.
+use arrays::BitArray;
+use arrays::ByteArray;
+use arrays::SIZE;
 ghost use mathlib.Core.Path.{_≡_};
 ghost use Prim.Native.Nat.{_+_, _*_, _^_};
 ghost use lib.ListN.{getD};
-ghost use Rattle.laws.specs.Segment.{table, segment, splice};
+ghost use Rattle.laws.specs.Table.{table};
+ghost use Rattle.laws.specs.Contracts.{splice, segment};
 ghost use Rattle.bits.specs.Packing.{packed, unpacked};
-ghost use Rattle.transform.specs.Transform.{transformed, xors, BitsAt};
-ghost use Rattle.transform.specs.Folded.{xorBytes, folded, transformedByte, BytesAt};
-
-// As many bits as the longest code has.
-pub const SIZE: usize = 1024;
-
-// A working array of bytes.
-pub type ByteArray = [u8; SIZE];
-
-// A working array of bits, one a byte.
-pub type BitArray = ByteArray;
+ghost use Rattle.transform.specs.Transform.{transformed, xors};
+ghost use Rattle.transform.specs.Contracts.{BitsAt, BytesAt, transformedByte, folded, xorBytes};
 
 // Of two halves of h bytes from `base` on, puts their exclusive-or in the place of the first.
 fn xor_halves(bytes: &mut ByteArray, base: usize, h: usize)

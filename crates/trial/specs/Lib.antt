@@ -1,3 +1,3 @@
 pub mod Trial
-pub mod FirstAfter
-pub mod Work
+pub mod Claims
+pub mod Contracts

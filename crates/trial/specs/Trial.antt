@@ -1,52 +1,63 @@
 -- Document 01, "Flip decoding, full and restarted": one trial, and when it passes.
-use mathlib.Core.Bool.{Bool, cond}
+use mathlib.Core.Bool.{Bool, false, _||_, cond}
 use mathlib.Core.List.{List, [], _∷_, _++_}
-use Prim.Native.Nat.{ℕ, _+_, _-_, _^_}
+use Prim.Native.Nat.{ℕ, _+_, _-_}
 use lib.Dec.{eqb}
 use lib.IntN.{ℤ}
 use lib.ListN.{getD, take, replicate}
 use Rattle.laws.specs.First.{firstWhere}
-use Rattle.bits.specs.Bit.{bitsOf}
 use Rattle.bits.specs.Mask.{maskBit}
+use Rattle.code.specs.declared.Code.{Code}
+use Rattle.code.specs.Code.{codeLength, divisor, startBits}
 use Rattle.crc.specs.Check.{passes}
-use Rattle.encoder.specs.Place.{taken}
-use Rattle.sc.specs.Values.{Rule, opposite}
+use Rattle.placing.specs.Place.{taken}
+use Rattle.values.specs.Values.{Rule, opposite, maskRule}
 use Rattle.sc.specs.Pass.{Out, node}
-use Rattle.sc.specs.Rules.{maskRule}
+use Rattle.trial.specs.declared.Restart.{Restart}
+use Rattle.trial.specs.declared.Restart.the-variants.{Root, After}
 
 -- trial 1: a plain pass
-abbrev pub firstTrial : List ℕ → ℕ → List ℤ → Out
-firstTrial mask n v = node n [] (maskRule mask) v
+abbrev pub firstTrial : List ℕ → Code → List ℤ → Out
+firstTrial mask c v = node (c .n) [] (maskRule mask) v
 
--- the opposite decision at index i, the usual one elsewhere
-abbrev pub flipRule : List ℕ → ℕ → ℕ → Rule
-flipRule mask i j = cond (eqb j i) opposite (maskRule mask j)
+-- whether j is among the indices
+abbrev pub member : ℕ → List ℕ → Bool
+member j [] = false
+member j (i ∷ is) = eqb j i || member j is
 
--- a later trial that repeats the pass from the root
-abbrev pub fullTrial : List ℕ → ℕ → List ℤ → ℕ → Out
-fullTrial mask n v i = node n [] (flipRule mask i) v
+-- a later trial flips a list of indices, ascending: the opposite decision at each, the usual one elsewhere
+abbrev pub flipRule : List ℕ → List ℕ → ℕ → Rule
+flipRule mask is j = cond (member j is) opposite (maskRule mask j)
 
--- the first information index among j, …, j + m - 1, or j + m
-abbrev pub firstFrom : List ℕ → ℕ → ℕ → ℕ
-firstFrom mask j m = j + firstWhere (λ k. eqb (maskBit mask (j + k)) 1) m
+-- the lowest of them
+abbrev pub lowest : List ℕ → ℕ
+lowest [] = 0
+lowest (i ∷ is) = i
 
--- q: the first information index above i, or N
-abbrev pub resumeAt : List ℕ → ℕ → ℕ → ℕ
-resumeAt mask n i = firstFrom mask (i + 1) (2 ^ n - (i + 1))
-
--- trial 1's bits before i, its opposite at i, zeros up to q
-abbrev pub flippedBits : List ℕ → ℕ → ℕ → List ℕ
-flippedBits bits i q = take i bits ++ ((1 - getD bits i 0) ∷ replicate (q - (i + 1)) 0)
+-- how a trial whose lowest flipped index is i begins, up to q: trial 1's bits before i, its opposite at i, zeros
+abbrev pub forcedPrefix : List ℕ → ℕ → ℕ → List ℕ
+forcedPrefix bits i q = take q (take i bits ++ ((1 - getD bits i 0) ∷ replicate (q - (i + 1)) 0))
 
 -- a later trial that resumes at q
-abbrev pub restartedTrial : List ℕ → ℕ → List ℤ → ℕ → Out
-restartedTrial mask n v i =
-    node n (flippedBits (firstTrial mask n v .bits) i (resumeAt mask n i)) (maskRule mask) v
+abbrev pub trialFrom : ℕ → List ℕ → Code → List ℤ → List ℕ → Out
+trialFrom q mask c v is = node (c .n) (forcedPrefix (firstTrial mask c v .bits) (lowest is) q) (flipRule mask is) v
+
+-- the first information index above i, or N, of N indices
+abbrev pub resumeAt : List ℕ → ℕ → ℕ → ℕ
+resumeAt mask N i = i + 1 + firstWhere (λ k. eqb (maskBit mask (i + 1 + k)) 1) (N - (i + 1))
+
+-- where later trials resume: full decoding repeats each from the root, restarted decoding resumes past the lowest flipped index
+abbrev pub restartAt : Restart → List ℕ → ℕ → ℕ → ℕ
+restartAt Root mask N i = 0
+restartAt After mask N i = resumeAt mask N i
+
+abbrev pub laterTrial : Restart → List ℕ → Code → List ℤ → List ℕ → Out
+laterTrial restart mask c v is = trialFrom (restartAt restart mask (codeLength c) (lowest is)) mask c v is
 
 -- payload and check of a trial's bits: those at the information indices
-abbrev pub messageIn : List ℕ → ℕ → List ℕ → List ℕ
-messageIn mask n bits = taken mask bits (2 ^ n)
+abbrev pub messageIn : List ℕ → Code → List ℕ → List ℕ
+messageIn mask c bits = taken mask bits (codeLength c)
 
 -- a trial passes when the remainder of its payload equals its check bits
-abbrev pub trialPasses : List ℕ → ℕ → ℕ → ℕ → ℕ → List ℕ → Bool
-trialPasses mask n r polynomial k bits = passes (bitsOf r polynomial) (bitsOf r 0) k (messageIn mask n bits)
+abbrev pub trialPasses : List ℕ → Code → List ℕ → Bool
+trialPasses mask c bits = passes (divisor c) (startBits c) (c .k) (messageIn mask c bits)

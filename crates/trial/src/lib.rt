@@ -1,49 +1,33 @@
-// One trial of flip decoding: trial 1, a full or a restarted later trial, and its check.
-use sc::RuleArray;
-use sc::ValueArray;
+// One trial of flip decoding: trial 1, a later trial, and its check.
+use arrays::BitArray;
+use arrays::RuleArray;
+use arrays::SIZE;
+use arrays::ValueArray;
+use code::Code;
 use sc::Work;
-use transform::BitArray;
-use transform::SIZE;
 ghost use mathlib.Core.Path.{_≡_};
-ghost use Prim.Native.Nat.{_+_, _-_, _*_, _^_, _≤_, _<_};
+ghost use mathlib.Core.List.{[], _∷_};
+ghost use Prim.Native.Nat.{_+_, _-_, _*_, _≤_, _<_};
 ghost use lib.ListN.{length, take, getD, replicate};
-ghost use Rattle.laws.specs.Segment.{splice};
-ghost use Rattle.code.specs.Described.{Coded};
-ghost use Rattle.sc.specs.Arrays.{arrays, PassOn};
-ghost use Rattle.sc.specs.Layers.{channelValues};
-ghost use Rattle.trial.specs.Trial.{firstFrom, flippedBits, restartedTrial, messageIn};
-ghost use Rattle.trial.specs.Work.{flippedPass, TrialOn, Flipped, FirstBits, Tried, FirstTried, laterBy, passesBy};
+ghost use Rattle.laws.specs.Contracts.{splice};
+ghost use Rattle.code.specs.Code.{codeLength, informationCount};
+ghost use Rattle.code.specs.Claims.{Coded};
+ghost use Rattle.channel.specs.Channel.{channelValues};
+ghost use Rattle.sc.specs.Contracts.{arrays, PassPre};
+ghost use Rattle.trial.specs.Trial.{restartAt, forcedPrefix, laterTrial, messageIn, trialPasses};
+ghost use Rattle.trial.specs.Contracts.{firstFrom, Below, setAll, trialBy, PlainRules, TrialPre, LaterTrialPre, FirstBits, TrialPost, FirstTrialPost};
+ghost use Rattle.trial.specs.Claims.{Flips};
 
 // The rule of a flipped index: the opposite decision.
 const OPPOSITE: u8 = 3;
 
-// The numbers of a code, as its description gives them.
-pub struct Code {
-    pub n: u32,
-    pub r: u32,
-    pub polynomial: u32,
-    pub k: usize,
-}
+// The rule of any other information index.
+const USUAL: u8 = 1;
 
-// A later trial that repeats the pass from the root, with the opposite decision at index i.
-fn full_trial(
-    n: u32,
-    i: usize,
-    channel: &[u8],
-    rules: &mut RuleArray,
-    work: &mut ValueArray,
-    bits: &mut BitArray,
-    sums: &mut BitArray,
-    leaves: &mut ValueArray,
-) -> Work
-    requires { do ⌜ PassOn (← ⟦SIZE⟧) n 0 (now channel) (arrays (now work) (now bits) (now sums) (now leaves)) × (i < (← ⟦SIZE⟧)) × (length (now rules) ≡ (← ⟦SIZE⟧)) ⌝ }
-    ensures { λ done. do ⌜ Tried (← ⟦SIZE⟧ .entry) n (flippedPass n (now (rules .entry)) i (now (channel .entry))) (arrays (now (work .exit)) (now (bits .exit)) (now (sums .exit)) (now (leaves .exit))) (done .steps) × (now (rules .exit) ≡ now (rules .entry)) ⌝ }
-{
-    let usual = rules[i];
-    rules[i] = OPPOSITE;
-    let done = sc::pass(n, 0, channel, rules, work, bits, sums, leaves);
-    rules[i] = usual;
-    done
+// Where later trials resume: at the root, or past their lowest flipped index.
+pub enum Restart {
+    Root,
+    After,
 }
 
 // The first information index from `from` on, or N.
@@ -61,15 +45,14 @@ fn first_from(mask: &[u8], from: usize) -> usize
     j
 }
 
-// Copies the first `count` bits.
-fn copy_bits(count: usize, from: &BitArray, bits: &mut BitArray)
-    requires { do ⌜ (count ≤ (← ⟦SIZE⟧)) × (length (now from) ≡ (← ⟦SIZE⟧)) × (length (now bits) ≡ (← ⟦SIZE⟧)) ⌝ }
-    ensures { λ _. ⌜ now (bits .exit) ≡ splice (now (bits .entry)) 0 (take count (now (from .entry))) ⌝ }
+// Where a trial with this lowest flipped index resumes.
+pub fn restart_index(restart: Restart, mask: &[u8], lowest: usize) -> usize
+    requires { do ⌜ (8 * length (now mask) ≤ (← ⟦SIZE⟧)) × (lowest < 8 * length (now mask)) ⌝ }
+    ensures { λ q. ⌜ q ≡ restartAt restart (now (mask .entry)) (8 * length (now (mask .entry))) lowest ⌝ }
 {
-    let mut j = 0;
-    while j < count {
-        bits[j] = from[j];
-        j += 1;
+    match restart {
+        Restart::Root => 0,
+        Restart::After => first_from(mask, lowest + 1),
     }
 }
 
@@ -85,42 +68,61 @@ fn clear_bits(at: usize, count: usize, bits: &mut BitArray)
     }
 }
 
-// What a trial that flips index i begins with: trial 1's bits before i, the opposite at i, zeros up to q.
-fn flip_prefix(i: usize, q: usize, first: &BitArray, bits: &mut BitArray)
-    requires { do ⌜ (i < q) × (q ≤ (← ⟦SIZE⟧)) × (getD (now first) i 0 < 2) × (length (now first) ≡ (← ⟦SIZE⟧)) × (length (now bits) ≡ (← ⟦SIZE⟧)) ⌝ }
-    ensures { λ _. ⌜ now (bits .exit) ≡ splice (now (bits .entry)) 0 (flippedBits (now (first .entry)) i q) ⌝ }
+// How a trial whose lowest flipped index is i begins, up to q.
+fn put_prefix(i: usize, q: usize, first: &BitArray, bits: &mut BitArray)
+    requires { do ⌜ (i < (← ⟦SIZE⟧)) × (q ≤ (← ⟦SIZE⟧)) × (getD (now first) i 0 < 2) × (length (now first) ≡ (← ⟦SIZE⟧)) × (length (now bits) ≡ (← ⟦SIZE⟧)) ⌝ }
+    ensures { λ _. ⌜ now (bits .exit) ≡ splice (now (bits .entry)) 0 (forcedPrefix (now (first .entry)) i q) ⌝ }
 {
-    copy_bits(i, first, bits);
+    if q <= i {
+        arrays::copy(first, 0, bits, 0, q);
+        return;
+    }
+    arrays::copy(first, 0, bits, 0, i);
     bits[i] = 1 - first[i];
     clear_bits(i + 1, q - (i + 1), bits);
 }
 
-// A later trial that resumes at q, the first information index above i, or N.
-fn restarted_trial(
-    mask: &[u8],
-    n: u32,
-    i: usize,
+// Sets the rule of each of some indices.
+fn set_rules(rule: u8, flips: &[usize], rules: &mut RuleArray)
+    requires { do ⌜ Below (← ⟦SIZE⟧) (now flips) × (length (now rules) ≡ (← ⟦SIZE⟧)) ⌝ }
+    ensures { λ _. ⌜ now (rules .exit) ≡ setAll (now (rules .entry)) (now (flips .entry)) rule ⌝ }
+{
+    let mut a = 0;
+    while a < flips.len() {
+        let i = flips[a];
+        rules[i] = rule;
+        a += 1;
+    }
+}
+
+// A later trial that flips some indices, given in ascending order, and resumes at q. Afterwards each of them has the usual rule.
+pub fn later_trial(
+    code: Code,
+    q: usize,
+    flips: &[usize],
     channel: &[u8],
     first: &BitArray,
-    rules: &RuleArray,
+    rules: &mut RuleArray,
     work: &mut ValueArray,
     bits: &mut BitArray,
     sums: &mut BitArray,
     leaves: &mut ValueArray,
 ) -> Work
-    requires { do ⌜ TrialOn (← ⟦SIZE⟧) (now mask) n (now channel) (now rules) (arrays (now work) (now bits) (now sums) (now leaves)) × Flipped (now mask) n i × FirstBits (← ⟦SIZE⟧) (now mask) n (now channel) (now first) ⌝ }
-    ensures { λ done. do ⌜ Tried (← ⟦SIZE⟧ .entry) n (restartedTrial (now (mask .entry)) n (channelValues (now (channel .entry))) i) (arrays (now (work .exit)) (now (bits .exit)) (now (sums .exit)) (now (leaves .exit))) (done .steps) ⌝ }
+    requires { do ⌜ TrialPre (← ⟦SIZE⟧) code (now channel) (now rules) (arrays (now work) (now bits) (now sums) (now leaves)) × LaterTrialPre (← ⟦SIZE⟧) code q (now flips) (now first) ⌝ }
+    ensures { λ done. do ⌜ TrialPost (← ⟦SIZE⟧ .entry) code q (trialBy q (now (first .entry)) (now (rules .entry)) code (channelValues (now (channel .entry))) (now (flips .entry))) (arrays (now (work .exit)) (now (bits .exit)) (now (sums .exit)) (now (leaves .exit))) done × (now (rules .exit) ≡ setAll (now (rules .entry)) (now (flips .entry)) 1) ⌝ }
 {
-    let q = first_from(mask, i + 1);
-    flip_prefix(i, q, first, bits);
-    sc::pass(n, q, channel, rules, work, bits, sums, leaves)
+    put_prefix(flips[0], q, first, bits);
+    set_rules(OPPOSITE, flips, rules);
+    let done = sc::pass(code, q, channel, rules, work, bits, sums, leaves);
+    set_rules(USUAL, flips, rules);
+    done
 }
 
-// One later trial, restarted or full, that flips index i.
+// A later trial that flips one index.
 pub fn flip_trial(
-    restart: bool,
+    restart: Restart,
     mask: &[u8],
-    n: u32,
+    code: Code,
     i: usize,
     channel: &[u8],
     first: &BitArray,
@@ -130,19 +132,29 @@ pub fn flip_trial(
     sums: &mut BitArray,
     leaves: &mut ValueArray,
 ) -> Work
-    requires { do ⌜ TrialOn (← ⟦SIZE⟧) (now mask) n (now channel) (now rules) (arrays (now work) (now bits) (now sums) (now leaves)) × Flipped (now mask) n i × FirstBits (← ⟦SIZE⟧) (now mask) n (now channel) (now first) ⌝ }
-    ensures { λ done. do ⌜ Tried (← ⟦SIZE⟧ .entry) n (laterBy restart (now (mask .entry)) n (channelValues (now (channel .entry))) i) (arrays (now (work .exit)) (now (bits .exit)) (now (sums .exit)) (now (leaves .exit))) (done .steps) × (now (rules .exit) ≡ now (rules .entry)) ⌝ }
+    requires { do ⌜ TrialPre (← ⟦SIZE⟧) code (now channel) (now rules) (arrays (now work) (now bits) (now sums) (now leaves)) × Coded (now mask) code × Flips (now mask) (codeLength code) (i ∷ []) × PlainRules (← ⟦SIZE⟧) (now mask) code (now rules) × FirstBits (← ⟦SIZE⟧) (now mask) code (now channel) (now first) ⌝ }
+    ensures { λ done. do ⌜ TrialPost (← ⟦SIZE⟧ .entry) code (restartAt restart (now (mask .entry)) (codeLength code) i) (laterTrial restart (now (mask .entry)) code (channelValues (now (channel .entry))) (i ∷ [])) (arrays (now (work .exit)) (now (bits .exit)) (now (sums .exit)) (now (leaves .exit))) done × PlainRules (← ⟦SIZE⟧ .entry) (now (mask .entry)) code (now (rules .exit)) ⌝ }
 {
-    if restart {
-        return restarted_trial(mask, n, i, channel, first, rules, work, bits, sums, leaves);
-    }
-    full_trial(n, i, channel, rules, work, bits, sums, leaves)
+    let q = restart_index(restart, mask, i);
+    let flips = [i; 1];
+    later_trial(
+        code,
+        q,
+        &flips,
+        channel,
+        first,
+        rules,
+        work,
+        bits,
+        sums,
+        leaves,
+    )
 }
 
 // Trial 1, a plain pass: its bits and leaf values stay in `first` and `values`.
 pub fn first_trial(
     mask: &[u8],
-    n: u32,
+    code: Code,
     channel: &[u8],
     first: &mut BitArray,
     values: &mut ValueArray,
@@ -150,19 +162,19 @@ pub fn first_trial(
     work: &mut ValueArray,
     sums: &mut BitArray,
 ) -> Work
-    requires { do ⌜ PassOn (← ⟦SIZE⟧) n 0 (now channel) (arrays (now work) (now first) (now sums) (now values)) × (8 * length (now mask) ≡ 2 ^ n) × (length (now rules) ≡ (← ⟦SIZE⟧)) ⌝ }
-    ensures { λ done. do ⌜ FirstTried (← ⟦SIZE⟧ .entry) (now (mask .entry)) n (now (channel .entry)) (now (rules .exit)) (arrays (now (work .exit)) (now (first .exit)) (now (sums .exit)) (now (values .exit))) (done .steps) ⌝ }
+    requires { do ⌜ PassPre (← ⟦SIZE⟧) code 0 (now channel) (arrays (now work) (now first) (now sums) (now values)) × (8 * length (now mask) ≡ codeLength code) × (length (now rules) ≡ (← ⟦SIZE⟧)) ⌝ }
+    ensures { λ done. do ⌜ FirstTrialPost (← ⟦SIZE⟧ .entry) (now (mask .entry)) code (now (channel .entry)) (now (rules .exit)) (arrays (now (work .exit)) (now (first .exit)) (now (sums .exit)) (now (values .exit))) done ⌝ }
 {
     sc::rules_from(mask, rules);
-    sc::pass(n, 0, channel, rules, work, first, sums, values)
+    sc::pass(code, 0, channel, rules, work, first, sums, values)
 }
 
 // Takes a trial's message out of its bits, and says whether its payload has the check that follows it.
 pub fn trial_passes(mask: &[u8], code: Code, bits: &BitArray, message: &mut [u8]) -> bool
-    requires { ⌜ Coded (now mask) (code .n) (code .r) (code .k) × (2 ^ code .n ≤ length (now bits)) × (2 ^ code .n ≤ length (now message)) ⌝ }
-    ensures { λ ok. ⌜ (ok ≡ passesBy (now (mask .entry)) code (take (2 ^ code .n) (now (bits .entry)))) × (take (code .k + code .r) (now (message .exit)) ≡ messageIn (now (mask .entry)) (code .n) (take (2 ^ code .n) (now (bits .entry)))) ⌝ }
+    requires { ⌜ Coded (now mask) code × (codeLength code ≤ length (now bits)) × (codeLength code ≤ length (now message)) ⌝ }
+    ensures { λ ok. ⌜ (ok ≡ trialPasses (now (mask .entry)) code (take (codeLength code) (now (bits .entry)))) × (take (informationCount code) (now (message .exit)) ≡ messageIn (now (mask .entry)) code (take (codeLength code) (now (bits .entry)))) ⌝ }
 {
-    encoder::take_out(mask, bits, message);
+    placing::take_out(mask, bits, message);
     let size = code.k + code.r as usize;
     crc::passes(&message[..size], code.k, code.r, code.polynomial, 0)
 }

@@ -5,7 +5,10 @@
 #include <stddef.h>
 #include <stdint.h>
 
-enum { SIZE = 1024, HEADER = 8 };
+/* The largest n. */
+#define DEEPEST 10
+
+enum { SIZE = 1 << DEEPEST, HEADER = 8 };
 
 /* What a description says. */
 struct code {
@@ -53,7 +56,7 @@ static unsigned read_description(const uint8_t *d, size_t len, struct code *code
     if (word(d + 2) != 1)
         return 3;
     code->n = d[4];
-    if (code->n < 3 || code->n > 10)
+    if (code->n < 3 || code->n > DEEPEST)
         return 4;
     code->size = (size_t)1 << code->n;
     if (len != HEADER + code->size / 8)

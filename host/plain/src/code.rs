@@ -1,6 +1,7 @@
 //! What the calls are lent: descriptions and channels.
 
 use crate::answer::refuse_if;
+use crate::DEEPEST;
 
 /// Bytes of a description before its mask.
 const HEADER: usize = 8;
@@ -20,7 +21,7 @@ impl<'a> Code<'a> {
         refuse_if(usize::from(word(d, 0)) != d.len(), 2)?;
         refuse_if(word(d, 2) != 1, 3)?;
         let n = d[4];
-        refuse_if(!(3..=10).contains(&n), 4)?;
+        refuse_if(!(3..=DEEPEST).contains(&n), 4)?;
         let size = 1 << n;
         refuse_if(d.len() != HEADER + size / 8, 5)?;
         let r = u32::from(d[5]);

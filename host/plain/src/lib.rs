@@ -16,5 +16,6 @@ pub use encode::encode;
 pub use quantise::quantise;
 pub use resume::resume;
 
-/// The largest N.
-const SIZE: usize = 1024;
+/// The largest n and N.
+const DEEPEST: u8 = 10;
+const SIZE: usize = 1 << DEEPEST;

@@ -4,11 +4,12 @@ use crate::bench::codec::Way;
 use crate::bench::process::TIMES_ONLY;
 use crate::bench::task::{Limit, Task, LIMITS};
 use crate::bench::LAYERS;
+use crate::sizes::{DEEPEST, MOST_TRIALS};
 
 pub const USAGE: &str = "\
 bench [OPERATION ..] [--n N ..] [--t T ..] [--rounds R]
   OPERATION   encode, pass, full, restarted or quantise; all where none is named
-  --n N       the code lengths, as n from 5 to 10; 5, 7 and 10 where none is named
+  --n N       the code lengths, as n from 5 on; 5, 7 and the largest where none is named
   --t T       the trial limits, from 1 on, or all for K + 1; 1, 13 and all where none is named
   --rounds R  how many rounds each row takes, instead of as many as about two seconds hold";
 
@@ -30,7 +31,7 @@ impl Choice {
         let mut words = words.iter();
         while let Some(word) = words.next() {
             match word.as_str() {
-                "--n" => layers.push(number(words.next()?, 5..=10)?),
+                "--n" => layers.push(number(words.next()?, 5..=DEEPEST)?),
                 "--t" => limits.push(limit(words.next()?)?),
                 "--rounds" => rounds = Some(number(words.next()?, 1..=1_000_000)?),
                 TIMES_ONLY => times_only = true,
@@ -90,7 +91,7 @@ fn number(word: &str, range: std::ops::RangeInclusive<usize>) -> Option<usize> {
 fn limit(word: &str) -> Option<Limit> {
     match word {
         "all" => Some(Limit::All),
-        _ => Some(Limit::Trials(number(word, 1..=1025)? as u32)),
+        _ => Some(Limit::Trials(number(word, 1..=MOST_TRIALS)? as u32)),
     }
 }
 

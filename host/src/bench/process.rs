@@ -6,9 +6,6 @@ use std::process::{Command, Stdio};
 
 use crate::bench::timing::Times;
 
-/// How many there are.
-pub const PROCESSES: usize = 5;
-
 /// The word that asks a process for nothing but its times.
 pub const TIMES_ONLY: &str = "--times-only";
 

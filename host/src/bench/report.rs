@@ -4,9 +4,9 @@ use std::fs;
 
 use crate::bench::codec::{Codec, COMPILERS};
 use crate::bench::frames::COUNT;
-use crate::bench::process::PROCESSES;
 use crate::bench::task::Task;
 use crate::bench::timing::Times;
+use crate::bench::PROCESSES;
 
 /// One task at one length: the answers, and the time of each codec, the library's first.
 pub struct Row {

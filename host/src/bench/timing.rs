@@ -9,8 +9,9 @@ use std::str::FromStr;
 
 use crate::bench::codec::Codec;
 use crate::bench::frames::{Frame, COUNT};
-use crate::bench::process::PROCESSES;
 use crate::bench::task::Task;
+use crate::bench::PROCESSES;
+use crate::sizes::LONGEST;
 
 /// A codec's turn takes at least so long, in nanoseconds.
 const TURN: f64 = 1e6;
@@ -139,7 +140,7 @@ fn round<'a>(
 
 /// The time of some sweeps over frames.
 fn time(task: Task, codec: &Codec, frames: &[Frame], sweeps: usize) -> f64 {
-    let mut room = [0; 1024];
+    let mut room = [0; LONGEST];
     let start = thread_time();
     for _ in 0..sweeps {
         for frame in frames {

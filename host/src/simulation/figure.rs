@@ -1,7 +1,7 @@
 //! The results as a picture: frame errors, undetected errors and steps against Eb/N0.
 
 use crate::simulation::svg::{svg, Axis, Curve, Mark, Panel};
-use crate::simulation::{Decoder, Row, Setting, Tally, LIMIT, SETTINGS};
+use crate::simulation::{Decoder, Row, Setting, Tally, LAYERS, LIMIT, SETTINGS};
 
 /// A colour for each payload size.
 const COLOURS: [&str; 3] = ["#0072b2", "#d55e00", "#009e73"];
@@ -13,8 +13,9 @@ const DOTTED: Option<&str> = Some("3 3");
 pub fn figure(rows: &[Row]) -> String {
     let frames = rows.first().map_or(0, |row| row.tally.frames);
     let title = format!(
-        "What flipping gains: N = 1024, check of 16 bits, T = {LIMIT}, BPSK under Gaussian noise, \
+        "What flipping gains: N = {}, check of 16 bits, T = {LIMIT}, BPSK under Gaussian noise, \
          {} frames a point",
+        1 << LAYERS,
         with_comma(frames)
     );
     svg(

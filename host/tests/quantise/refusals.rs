@@ -1,6 +1,7 @@
 //! Refused calls.
 
 use host::random::Random;
+use host::sizes::LONGEST;
 
 use crate::calls::{check, refused};
 use crate::floats::{any_nan, any_samples, right_scale, wrong_scales, NOT_A_NUMBER};
@@ -40,7 +41,7 @@ fn late_samples_of_a_long_list() {
 #[test]
 fn lengths_that_differ() {
     let mut random = Random::new(10);
-    for count in [0, 1, 2, 3, 7, 8, 9, 63, 64, 65, 255, 256, 257, 1_024] {
+    for count in [0, 1, 2, 3, 7, 8, 9, 63, 64, 65, 255, 256, 257, LONGEST] {
         let samples = any_samples(&mut random, count);
         let near = count.saturating_sub(2)..count + 3;
         let far = [0, count / 2, 2 * count, count + 256, count + 65_536];

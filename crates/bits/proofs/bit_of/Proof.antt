@@ -1,4 +1,4 @@
--- `bits::bit_of` meets its contract: the mask 1 is a remainder by 2. Assumes nothing.
+-- `bits::bit_of` meets its contract: the mask 1 is a remainder by 2.
 use borrow.Author.Needs.{needs}
 use lib.Bits.{and-mask}
 use Rattle.bits.proofs.bit_of.Statement.{statement}

@@ -1,4 +1,4 @@
--- `bits::bit_or_zero` meets its contract. Assumes nothing.
+-- `bits::bit_or_zero` meets its contract.
 use mathlib.Core.Path.{sym}
 use borrow.Author.Needs.{needs}
 use denote.Ref.{now}

@@ -1,4 +1,4 @@
--- `bits::ones` meets its contract. The invariant: the count is that of the information indices of the first m bytes. Assumes nothing.
+-- `bits::ones` meets its contract. The invariant: the count is that of the information indices of the first m bytes.
 use mathlib.Core.Path.{_≡_, refl}
 use Prim.Native.Nat.{_≤_, _<_, _*_, _-_}
 use native.Mathlib.Omega.{arith}

@@ -1,11 +1,11 @@
--- `bits::pack` meets its contract: it fills the whole list, byte by byte. Assumes nothing.
+-- `bits::pack` meets its contract: it fills the whole list, byte by byte.
 use mathlib.Core.Path.{ap, _∙_}
 use Prim.Native.Nat.{_-_}
 use native.Mathlib.Omega.{arith}
 use borrow.Author.Needs.{needs}
 use denote.Ref.{now}
 use lib.ListN.{length}
-use Rattle.laws.specs.Segment.{table}
+use Rattle.laws.specs.Table.{table}
 use Rattle.laws.proofs.Filling.{Filling, filling-none, filling-more, filling-whole}
 use Rattle.bits.specs.Packing.{packedByte, packed}
 use Rattle.bits.proofs.pack.Statement.{statement}

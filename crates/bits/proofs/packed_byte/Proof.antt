@@ -1,4 +1,4 @@
--- `bits::packed_byte` meets its contract. The invariant: the byte is the number that its first b bits make. Assumes nothing.
+-- `bits::packed_byte` meets its contract. The invariant: the byte is the number that its first b bits make.
 use mathlib.Core.Path.{_≡_, refl, ap, ap₂, _∙_}
 use mathlib.Core.List.{List}
 use Prim.Native.Nat.{ℕ, _+_, _-_, _*_, _≤_, _<_}

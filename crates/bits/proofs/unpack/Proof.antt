@@ -1,4 +1,4 @@
--- `bits::unpack` meets its contract: it fills the whole list, bit by bit. Assumes nothing.
+-- `bits::unpack` meets its contract: it fills the whole list, bit by bit.
 use mathlib.Core.List.{List}
 use Prim.Native.Nat.{ℕ, _-_, _/_, _%_}
 use native.Mathlib.Omega.{arith}

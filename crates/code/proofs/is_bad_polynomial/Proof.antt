@@ -1,4 +1,4 @@
--- `code::is_bad_polynomial` meets its contract: the mask 1 gives bit 0, and the shift what stands at r and above. Assumes nothing.
+-- `code::is_bad_polynomial` meets its contract: the mask 1 gives bit 0, and the shift what stands at r and above.
 use mathlib.Core.Path.{_≡_, ap, _∙_, sym}
 use mathlib.Core.Bool.{Bool, _||_}
 use Prim.Native.Nat.{ℕ, _/_, _%_, _^_}
@@ -9,7 +9,8 @@ use lib.Bits.{bitAnd, and-mask}
 use lib.Dec.{eqb}
 use Rattle.laws.proofs.Choice.{or-first, or-second}
 use Rattle.bits.specs.Bit.{bit}
-use Rattle.code.specs.Description.{differs, badPolynomial}
+use Rattle.code.specs.Description.{badPolynomial}
+use Rattle.refusal.specs.Judge.{differs}
 use Rattle.code.proofs.is_bad_polynomial.Statement.{statement}
 use Rattle.code.proofs.is_bad_polynomial.Tie as tie
 

@@ -1,4 +1,4 @@
--- `code::is_outside` meets its contract. Assumes nothing.
+-- `code::is_outside` meets its contract.
 use borrow.Author.Tests.{lt-ltb, le-ltb}
 use Rattle.laws.proofs.Choice.{or-first, or-second}
 use Rattle.code.proofs.is_outside.Statement.{statement}

@@ -1,4 +1,4 @@
--- `code::mask_of` meets its contract: a part up to the end is all that is left. Assumes nothing.
+-- `code::mask_of` meets its contract: a part up to the end is all that is left.
 use native.Mathlib.Nat.{le-of-eq}
 use borrow.Author.Needs.{needs}
 use denote.Ref.{now}

@@ -1,4 +1,4 @@
--- `code::read_word` meets its contract: two bytes are below 2^16. Assumes nothing.
+-- `code::read_word` meets its contract: two bytes are below 2^16.
 use Prim.Native.Nat.{_+_}
 use native.Mathlib.Omega.{arith}
 use borrow.Author.Needs.{needs}

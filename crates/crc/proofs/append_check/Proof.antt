@@ -1,4 +1,4 @@
--- `crc::append_check` meets its contract. Assumes nothing.
+-- `crc::append_check` meets its contract.
 use mathlib.Core.Path.{sym, ap, _∙_}
 use mathlib.Core.List.{List, _++_}
 use Prim.Native.Nat.{ℕ, _+_}

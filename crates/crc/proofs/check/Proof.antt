@@ -1,4 +1,4 @@
--- `crc::check` meets its contract. The invariant: the register, run over what is left of the payload, ends at the check. Assumes nothing.
+-- `crc::check` meets its contract. The invariant: the register, run over what is left of the payload, ends at the check.
 use mathlib.Core.Path.{_≡_, sym, ap, _∙_}
 use mathlib.Core.List.{List}
 use Prim.Native.Nat.{ℕ, _+_, _-_, _^_, _≤_, _<_}
@@ -10,7 +10,8 @@ use lib.ListN.{length, getD, drop, drop-of-length-le}
 use lib.Pow.{pow-pos}
 use Rattle.bits.specs.Bit.{bitsOf}
 use Rattle.bits.proofs.Lists.{bits-of}
-use Rattle.crc.specs.Check.{checkOf, step}
+use Rattle.crc.specs.Check.{checkOf}
+use Rattle.crc.specs.Contracts.{step}
 use Rattle.crc.proofs.Register.{run, run-check, run-next}
 use Rattle.bits.proofs.BitsOf.{length-bitsOf, bitsOf-mod}
 use Rattle.crc.proofs.check.Statement.{statement}

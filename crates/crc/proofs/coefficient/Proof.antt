@@ -1,4 +1,4 @@
--- `crc::coefficient` meets its contract: the mask 1 is a remainder by 2. Assumes nothing.
+-- `crc::coefficient` meets its contract: the mask 1 is a remainder by 2.
 use borrow.Author.Needs.{needs}
 use lib.Bits.{and-mask}
 use Rattle.crc.proofs.coefficient.Statement.{statement}

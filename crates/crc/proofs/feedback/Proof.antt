@@ -1,4 +1,4 @@
--- `crc::feedback` meets its contract. The invariant: the word holds the coefficients from z^(r - 1) down to z^i. Assumes nothing.
+-- `crc::feedback` meets its contract. The invariant: the word holds the coefficients from z^(r - 1) down to z^i.
 use mathlib.Core.Path.{_≡_, sym, ap, ap₂, _∙_}
 use Prim.Native.Nat.{ℕ, _+_, _-_, _*_, _/_, _%_, _^_, _≤_, _<_}
 use native.Mathlib.Nat.{mod-lt, div-one, div-eq-of-lt}

@@ -1,4 +1,4 @@
--- `crc::holds_bits` meets its contract. The invariant: the answer hangs on the bits from index at + j on. Assumes nothing.
+-- `crc::holds_bits` meets its contract. The invariant: the answer hangs on the bits from index at + j on.
 use mathlib.Core.Path.{_≡_, sym, ap, ap₂, _∙_}
 use mathlib.Core.Bool.{Bool, false, _&&_}
 use mathlib.Core.List.{List}

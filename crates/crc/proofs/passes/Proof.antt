@@ -1,4 +1,4 @@
--- `crc::passes` meets its contract. Assumes nothing.
+-- `crc::passes` meets its contract.
 use mathlib.Core.Path.{sym, ap, _∙_}
 use native.Mathlib.Omega.{arith}
 use borrow.Author.Needs.{needs}

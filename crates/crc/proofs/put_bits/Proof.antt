@@ -1,10 +1,10 @@
--- `crc::put_bits` meets its contract: it fills r places, bit by bit. Assumes nothing.
+-- `crc::put_bits` meets its contract: it fills r places, bit by bit.
 use mathlib.Core.Path.{_≡_, refl, ap, _∙_}
 use Prim.Native.Nat.{ℕ, _+_, _-_}
 use native.Mathlib.Omega.{arith}
 use borrow.Author.Needs.{needs}
 use denote.Ref.{now}
-use Rattle.laws.specs.Segment.{splice}
+use Rattle.laws.specs.Contracts.{splice}
 use Rattle.laws.proofs.Filling.{Filling, filling-none, filling-more, filling-done}
 use Rattle.bits.specs.Bit.{bit}
 use Rattle.bits.proofs.BitsOf.{bitsOf-table}

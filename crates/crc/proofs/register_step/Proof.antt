@@ -1,4 +1,4 @@
--- `crc::register_step` meets its contract. Assumes nothing.
+-- `crc::register_step` meets its contract.
 use native.Mathlib.Nat.{mod-lt, zero-lt-suc}
 use native.Mathlib.Omega.{arith}
 use borrow.Author.Needs.{needs}

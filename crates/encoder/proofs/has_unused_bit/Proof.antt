@@ -1,4 +1,4 @@
--- `encoder::has_unused_bit` meets its contract: a whole last byte leaves no bit unused. Assumes nothing.
+-- `encoder::has_unused_bit` meets its contract: a whole last byte leaves no bit unused.
 use mathlib.Core.Path.{_≡_, sym, ap, _∙_, subst}
 use mathlib.Core.Bool.{not}
 use mathlib.Core.List.{List}

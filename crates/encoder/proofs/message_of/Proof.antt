@@ -1,4 +1,4 @@
--- `encoder::message_of` meets its contract. Assumes nothing.
+-- `encoder::message_of` meets its contract.
 use mathlib.Core.Path.{_≡_, sym, ap, _∙_}
 use mathlib.Core.List.{List, _++_}
 use Prim.Native.Nat.{ℕ, _+_}
@@ -15,13 +15,13 @@ use Rattle.encoder.proofs.message_of.Statement.{statement}
 use Rattle.encoder.proofs.message_of.Tie as tie
 
 -- the part lent for the payload's bits
-part-length : (c : tie.After-unpack-arg) → length (take (c .before .before .before .args .k) (now (c .before .before .before .args .message))) ≡ c .before .before .before .args .k
+part-length : (c : tie.After-unpack-arg) → length (take (c .before .before .before .args .code .k) (now (c .before .before .before .args .message))) ≡ c .before .before .before .args .code .k
 part-length c = length-take-le _ _ (omega (arith, c .before .before .before .pre .message-size))
 
 -- the message with the payload's bits in it
 module _ (c : tie.After-unpack) where
   abbrev k : ℕ
-  k = c .before .before .before .before .args .k
+  k = c .before .before .before .before .args .code .k
 
   abbrev message : List ℕ
   message = now (c .before .before .before .before .args .message)
@@ -32,7 +32,7 @@ module _ (c : tie.After-unpack) where
   payload-length : length (c .unpack .last .1 .0) ≡ k
   payload-length = ap length payload-bits ∙ length-unpacked _ k
 
-  whole-length : length (c .unpack .last .1 .0 ++ drop k message) ≡ k + c .before .before .before .before .args .r
+  whole-length : length (c .unpack .last .1 .0 ++ drop k message) ≡ k + c .before .before .before .before .args .code .r
   whole-length =
       omega (arith, payload-length, length-append (c .unpack .last .1 .0) (drop k message), length-drop k message, c .before .before .before .before .pre .message-size)
 
@@ -41,7 +41,7 @@ returns c =
     let u = c .before .before .before .before .before .before in
     let s = u .before .before .before .before in
     c .before .before .append-check .ensures
-    ∙ ap (messageOf (s .args .r) (s .args .polynomial)) (take-at (u .unpack .last .1 .0) (drop (k u) (message u)) (k u) (payload-length u) ∙ payload-bits u)
+    ∙ ap (messageOf (s .args .code)) (take-at (u .unpack .last .1 .0) (drop (k u) (message u)) (k u) (payload-length u) ∙ payload-bits u)
 
 pub message-of-spec : {M : Type 1} → statement M
 message-of-spec =

@@ -1,4 +1,4 @@
--- `flip::accept` meets its contract. Assumes nothing.
+-- `flip::accept` meets its contract.
 use mathlib.Core.Path.{_≡_, sym, ap, _∙_}
 use borrow.Author.Needs.{needs}
 use denote.Ref.{now}

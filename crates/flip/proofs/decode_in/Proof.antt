@@ -1,7 +1,7 @@
--- `flip::decode_in` meets its contract. Assumes nothing.
+-- `flip::decode_in` meets its contract.
 use mathlib.Core.Path.{refl}
 use borrow.Author.Needs.{needs}
-use lib.Pow.{pow-mono}
+use Rattle.arrays.proofs.Sizes.{fits}
 use Rattle.flip.proofs.decode_in.Statement.{statement}
 use Rattle.flip.proofs.decode_in.Tie as tie
 
@@ -15,7 +15,7 @@ run-trials-requires c κs =
         rules-whole = refl;
         work-whole = refl;
         sums-whole = refl;
-        message-size = pow-mono (p .coded .n-most);
+        message-size = fits (p .coded .n-most);
       },
     )
 

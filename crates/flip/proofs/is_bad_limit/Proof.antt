@@ -1,4 +1,4 @@
--- `flip::is_bad_limit` meets its contract. Assumes nothing.
+-- `flip::is_bad_limit` meets its contract.
 use borrow.Author.Needs.{needs}
 use borrow.Author.Tests.{lt-ltb, le-ltb}
 use Rattle.laws.proofs.Choice.{or-first, or-second}

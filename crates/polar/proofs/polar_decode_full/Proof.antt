@@ -1,9 +1,10 @@
--- `polar::polar_decode_full` meets its contract. Assumes nothing.
+-- `polar::polar_decode_full` meets its contract.
 use mathlib.Core.Path.{sym, subst}
 use borrow.Author.Needs.{needs}
+use Rattle.trial.specs.declared.Restart.the-variants.{Root}
 use Rattle.polar.specs.Number.{decodedParts}
 use Rattle.polar.proofs.Answers.{numbered-answer}
-use Rattle.polar.proofs.Fitting.{Fits, full-fits}
+use Rattle.polar.proofs.Fitting.{Fits, decoded-fits}
 use Rattle.polar.proofs.polar_decode_full.Statement.{statement}
 use Rattle.polar.proofs.polar_decode_full.Tie as tie
 
@@ -12,6 +13,6 @@ polar-decode-full-spec =
     tie.close
     (tie.spec
     (λ c κs. search needs)
-    (λ c κs. subst (Fits decodedParts) (sym (c .before .before .decode-full .ensures)) (full-fits _ _ _ _))
+    (λ c κs. subst (Fits decodedParts) (sym (c .before .before .decode-full .ensures)) (decoded-fits Root _ _ _ _))
     (λ c. search needs)
     (λ c. numbered-answer decodedParts (c .decoded-answer .ensures) (c .before .before .before .decode-full .ensures)))

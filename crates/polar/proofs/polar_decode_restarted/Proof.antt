@@ -1,9 +1,10 @@
--- `polar::polar_decode_restarted` meets its contract. Assumes nothing.
+-- `polar::polar_decode_restarted` meets its contract.
 use mathlib.Core.Path.{sym, subst}
 use borrow.Author.Needs.{needs}
+use Rattle.trial.specs.declared.Restart.the-variants.{After}
 use Rattle.polar.specs.Number.{decodedParts}
 use Rattle.polar.proofs.Answers.{numbered-answer}
-use Rattle.polar.proofs.Fitting.{Fits, restarted-fits}
+use Rattle.polar.proofs.Fitting.{Fits, decoded-fits}
 use Rattle.polar.proofs.polar_decode_restarted.Statement.{statement}
 use Rattle.polar.proofs.polar_decode_restarted.Tie as tie
 
@@ -12,6 +13,6 @@ polar-decode-restarted-spec =
     tie.close
     (tie.spec
     (λ c κs. search needs)
-    (λ c κs. subst (Fits decodedParts) (sym (c .before .before .decode-restarted .ensures)) (restarted-fits _ _ _ _))
+    (λ c κs. subst (Fits decodedParts) (sym (c .before .before .decode-restarted .ensures)) (decoded-fits After _ _ _ _))
     (λ c. search needs)
     (λ c. numbered-answer decodedParts (c .decoded-answer .ensures) (c .before .before .before .decode-restarted .ensures)))

@@ -1,9 +1,14 @@
--- `polar::polar_resume` meets its contract. Assumes nothing.
+-- `polar::polar_resume` meets its contract.
 use borrow.Author.Needs.{needs}
 use Rattle.polar.specs.Number.{resumedParts}
 use Rattle.polar.proofs.Answers.{answered}
+use Rattle.polar.proofs.Fitting.{case-fits, resumed-fits}
 use Rattle.polar.proofs.polar_resume.Statement.{statement}
 use Rattle.polar.proofs.polar_resume.Tie as tie
+
+refusal-answer-requires : tie.Need-refusal-answer-requires
+refusal-answer-requires c κs =
+    case-fits resumedParts (resumed-fits _ _ _ _) (c .before .before .before .before .before .resume .ensures) (c .before .x .given .1)
 
 returns : tie.Need-returns
 returns c =
@@ -11,11 +16,7 @@ returns c =
 
 returns-2 : tie.Need-returns-2
 returns-2 c =
-    answered resumedParts (c .answer2 .ensures) (c .before .before .i .given .1) (c .before .before .before .before .before .before .resume .ensures)
-
-returns-3 : tie.Need-returns-3
-returns-3 c =
-    answered resumedParts (c .answer3 .ensures) (c .before .before .refusal .given .1) (c .before .before .before .before .before .before .resume .ensures)
+    answered resumedParts (c .refusal-answer .ensures) (c .before .before .x .given .1) (c .before .before .before .before .before .before .resume .ensures)
 
 pub polar-resume-spec : {M : Type 1} → statement M
 polar-resume-spec =
@@ -23,14 +24,11 @@ polar-resume-spec =
     (tie.spec
     (λ c κs. search needs)
     (λ c. search needs)
-    (λ c κs. search needs)
     (λ c. search needs)
     (λ c κs. search needs)
     (λ c. search needs)
-    (λ c κs. search needs)
+    refusal-answer-requires
     (λ c. search needs)
     returns
     (λ c. search needs)
-    returns-2
-    (λ c. search needs)
-    returns-3)
+    returns-2)

@@ -1,11 +1,11 @@
--- `probe::are_bits` meets its contract. The invariant: the test from i on decides. Assumes nothing.
+-- `probe::are_bits` meets its contract. The invariant: the test from i on decides.
 use mathlib.Core.Path.{_≡_, refl, sym, ap, _∙_}
 use Prim.Native.Nat.{_-_, _≤_}
 use native.Mathlib.Omega.{arith}
 use borrow.Author.Needs.{needs}
 use denote.Ref.{now}
 use lib.ListN.{length, drop, drop-of-length-le}
-use Rattle.probe.specs.Packing.{allBits}
+use Rattle.probe.specs.Contracts.{allBits}
 use Rattle.probe.proofs.AllBits.{all-next, all-stop}
 use Rattle.probe.proofs.are_bits.Statement.{statement}
 use Rattle.probe.proofs.are_bits.Tie as tie

@@ -1,8 +1,6 @@
--- `probe::probe_ones` meets its contract. Assumes nothing.
-use mathlib.Core.Path.{sym, _∙_}
+-- `probe::probe_ones` meets its contract.
 use borrow.Author.Needs.{needs}
 use borrow.Author.Tests.{lt-ltb, le-ltb}
-use Rattle.laws.proofs.Choice.{first-none, first-yes, first-no}
 use Rattle.probe.proofs.probe_ones.Statement.{statement}
 use Rattle.probe.proofs.probe_ones.Tie as tie
 
@@ -10,6 +8,6 @@ pub probe-ones-spec : {M : Type 1} → statement M
 probe-ones-spec =
     tie.close
     (tie.spec
-    (λ c. first-yes _ _ _ _ (lt-ltb _ _ (c .if1 .taken)))
+    (λ c. rw (lt-ltb _ _ (c .if1 .taken)))
     (λ c κs. search needs)
-    (λ c. c .ones .ensures ∙ sym (first-no _ _ _ _ (le-ltb _ _ (c .before .if1 .left)) ∙ first-none _)))
+    (λ c. rw (le-ltb _ _ (c .before .if1 .left)) (c .ones .ensures)))

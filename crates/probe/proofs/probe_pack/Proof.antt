@@ -1,15 +1,14 @@
--- `probe::probe_pack` meets its contract. Assumes nothing.
+-- `probe::probe_pack` meets its contract.
 use mathlib.Core.Path.{_≡_, sym, ap, _∙_}
-use mathlib.Core.Bool.{true, not}
+use mathlib.Core.Bool.{true}
 use mathlib.Core.List.{List}
 use Prim.Native.Nat.{ℕ}
 use borrow.Author.Needs.{needs}
 use borrow.Author.Tests.{eq-eqb, ne-eqb, not-true, not-false}
 use denote.Ref.{now}
 use lib.ListN.{length}
-use Rattle.laws.proofs.Choice.{first-none, first-yes, first-no}
 use Rattle.bits.specs.Packing.{bytesFor}
-use Rattle.probe.specs.Packing.{allBits}
+use Rattle.probe.specs.Contracts.{allBits}
 use Rattle.probe.proofs.AllBits.{all-bits}
 use Rattle.probe.proofs.probe_pack.Statement.{statement}
 use Rattle.probe.proofs.probe_pack.Tie as tie
@@ -21,18 +20,15 @@ full : (c : tie.Else2) → length (now (c .before .before .before .before .befor
 full c = c .if2 .left ∙ c .before .bytes-for .ensures
 
 returns : tie.Need-returns
-returns c = first-yes _ _ _ _ (ap not (sym (c .before .are-bits .ensures) ∙ not-true _ (c .if1 .taken)))
+returns c = rw (sym (c .before .are-bits .ensures) ∙ not-true _ (c .if1 .taken))
 
 returns-2 : tie.Need-returns-2
-returns-2 c =
-    first-yes _ _ _ _ (ap not (ne-eqb _ _ (λ e. c .if2 .taken (e ∙ sym (c .before .bytes-for .ensures)))))
-    ∙ sym (first-no _ _ _ _ (ap not (are-bits (c .before .before))))
+returns-2 c = rw (are-bits (c .before .before), ne-eqb _ _ (λ e. c .if2 .taken (e ∙ sym (c .before .bytes-for .ensures))))
 
 returns-3 : tie.Need-returns-3
 returns-3 c =
     let p = c .before .before .before .before in
-    ap (λ (bytes : List ℕ). (0, bytes)) (c .before .before .pack .ensures)
-    ∙ sym (first-no _ _ _ _ (ap not (are-bits (p .before .before))) ∙ first-no _ _ _ _ (ap not (eq-eqb _ _ (full p))) ∙ first-none _)
+    rw (are-bits (p .before .before), eq-eqb _ _ (full p)) (ap (λ (bytes : List ℕ). (0, bytes)) (c .before .before .pack .ensures))
 
 pub probe-pack-spec : {M : Type 1} → statement M
 probe-pack-spec =

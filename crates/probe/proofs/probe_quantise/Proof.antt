@@ -1,4 +1,4 @@
--- `probe::probe_quantise` meets its contract: the definition goes by the answer. Assumes nothing.
+-- `probe::probe_quantise` meets its contract: the definition goes by the answer.
 use mathlib.Core.Path.{_≡_, sym, ap, _∙_}
 use mathlib.Core.List.{List}
 use Prim.Native.Nat.{ℕ}
@@ -6,30 +6,28 @@ use borrow.Author.Needs.{needs}
 use denote.Ref.{now}
 use lib.Ieee.{ofBits}
 use Rattle.quantiser.specs.declared.Quantised.{Quantised}
-use Rattle.probe.specs.Quantised.{toldBy}
+use Rattle.probe.specs.Contracts.{probeAnswerBy}
 use Rattle.probe.proofs.probe_quantise.Statement.{statement}
 use Rattle.probe.proofs.probe_quantise.Tie as tie
 
 -- an answer a that was found, with the output that it left
-by : {a b : Quantised} {left : List ℕ} {x : Quantised × List ℕ} (numbers : List ℕ) → b ≡ a → (b, left) ≡ x → toldBy (a, left) numbers ≡ toldBy x numbers
-by {left = left} numbers e f = ap (λ (y : Quantised × List ℕ). toldBy y numbers) (ap (λ (a : Quantised). (a, left)) (sym e) ∙ f)
+by : {a b : Quantised} {left : List ℕ} {x : Quantised × List ℕ} (numbers : List ℕ) → b ≡ a → (b, left) ≡ x → probeAnswerBy (a, left) numbers ≡ probeAnswerBy x numbers
+by {left = left} numbers e f = ap (λ (y : Quantised × List ℕ). probeAnswerBy y numbers) (ap (λ (a : Quantised). (a, left)) (sym e) ∙ f)
+
+returns : tie.Need-returns
+returns c =
+    let s = c .before in
+    let q = s .before .before .before .before in
+    by (now (q .before .before .before .before .args .numbers)) (s .s .given .1) (q .quantise .ensures)
 
 returns-2 : tie.Need-returns-2
 unfolding ofBits
 returns-2 c =
-    let q = c .before .before .before .before .before in
-    by (now (q .before .before .before .before .args .numbers)) (c .before .i .given .1) (q .quantise .ensures)
-
-returns-3 : tie.Need-returns-3
-unfolding ofBits
-returns-3 c =
-    let q = c .before .before .before .before .before in
-    by (now (q .before .before .before .before .args .numbers)) (c .before .refusal .given .1) (q .quantise .ensures)
-
-returns : tie.Need-returns
-returns c =
-    let q = c .before .before .before .before .before in
-    by (now (q .before .before .before .before .args .numbers)) (c .before .s .given .1) (q .quantise .ensures)
+    let n = c .before in
+    let x = n .before .before in
+    let q = x .before .before .before .before in
+    let numbers = now (q .before .before .before .before .args .numbers) in
+    rw (n .refusal-number .ensures, c .refusal-index .ensures) (by numbers (x .x .given .1) (q .quantise .ensures))
 
 pub probe-quantise-spec : {M : Type 1} → statement M
 probe-quantise-spec =
@@ -40,16 +38,11 @@ probe-quantise-spec =
     (λ c. search needs)
     (λ c. search needs)
     (λ c. search needs)
+    (λ c κs. search needs)
     (λ c. search needs)
-    (λ c. search needs)
-    (λ c. search needs)
-    (λ c. search needs)
-    (λ c. search needs)
-    (λ c. search needs)
+    (λ c κs. search needs)
     (λ c. search needs)
     (λ c. search needs)
     returns
     (λ c. search needs)
-    returns-2
-    (λ c. search needs)
-    returns-3)
+    returns-2)

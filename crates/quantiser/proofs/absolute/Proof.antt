@@ -1,4 +1,4 @@
--- `quantiser::absolute` meets its contract. Assumes nothing.
+-- `quantiser::absolute` meets its contract.
 use mathlib.Core.Path.{sym, subst}
 use borrow.Author.Needs.{needs}
 use lib.Dec.{T}

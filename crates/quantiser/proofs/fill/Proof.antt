@@ -1,4 +1,4 @@
--- `quantiser::fill` meets its contract. The invariant: i bytes are written, and peak and count are those of i products. Assumes nothing.
+-- `quantiser::fill` meets its contract. The invariant: i bytes are written, and peak and count are those of i products.
 use mathlib.Core.Path.{_≡_, refl, sym, ap, ap₂, _∙_}
 use mathlib.Core.Bool.{not}
 use Prim.Native.Nat.{ℕ, suc, _+_, _-_}
@@ -9,10 +9,10 @@ use denote.Ref.{now}
 use lib.Dec.{T}
 use lib.Ieee.{Float, isNan, ofBits}
 use lib.ListN.{length}
-use Rattle.laws.specs.Segment.{table}
 use Rattle.laws.proofs.Filling.{Filling, filling-none, filling-more, filling-whole}
-use Rattle.quantiser.specs.Level.{level, byteOf}
-use Rattle.quantiser.specs.Quantise.{product, larger, peakOf, clippedOf}
+use Rattle.quantiser.specs.declared.Level.{Level}
+use Rattle.quantiser.specs.Level.{levelOf}
+use Rattle.quantiser.specs.Quantise.{product, bytes, larger, peakOf, clippedOf}
 use Rattle.quantiser.proofs.Numbers.{admitted-number}
 use Rattle.quantiser.proofs.Totals.{clipped-le}
 use Rattle.quantiser.proofs.fill.Statement.{statement}
@@ -20,7 +20,7 @@ use Rattle.quantiser.proofs.fill.Tie as tie
 
 abbrev Inv-loop : tie.InvT-loop
 Inv-loop scale samples output₀ peak₀ clipped₀ i₀ output peak clipped i =
-    Filling (λ k. byteOf (level (product scale samples k))) 0 (length output₀) output₀ output i
+    Filling (λ k. levelOf (product scale samples k) .byte) 0 (length output₀) output₀ output i
     × (peak ≡ peakOf (product scale samples) i)
     × (clipped ≡ clippedOf (product scale samples) i)
 
@@ -39,23 +39,25 @@ p c = let s = c .before .before .before .before in product (s .args .scale) (now
 number : (c : tie.In-loop Inv-loop μ-loop) → T (not (isNan (p c (c .before .loop .i))))
 number c = admitted-number (c .before .before .before .before .pre) (c .before .loop .i) (omega arith)
 
-counted : (c : tie.After-one-if-clipped Inv-loop μ-loop) → let l = c .before .before .before in l .before .loop .clipped + c .one-if-clipped .result ≡ clippedOf (p l) (suc (l .before .loop .i))
+counted : (c : tie.After-quantise-one Inv-loop μ-loop) → let l = c .before .before in l .before .loop .clipped + c .quantise-one .result .clipped ≡ clippedOf (p l) (suc (l .before .loop .i))
 unfolding clippedOf
-counted c = ap₂ (λ (x y : ℕ). x + y) (c .before .before .before .before .loop .inv .2) (c .one-if-clipped .ensures)
+counted c = ap₂ (λ (x y : ℕ). x + y) (c .before .before .before .loop .inv .2) (ap (λ (x : Level). x .clipped) (c .quantise-one .ensures))
 
 add-clipped : tie.Need-add-clipped Inv-loop μ-loop
 add-clipped c =
     let l = c .before .before .before in
-    omega (arith, counted c, clipped-le (p l) (suc (l .before .loop .i)))
+    omega (arith, counted (c .before), clipped-le (p l) (suc (l .before .loop .i)))
 
 loop-again : tie.Need-loop-again Inv-loop μ-loop
 unfolding peakOf
 loop-again c =
-    let l = c .before .before .before .before .before in
-    let k = l .before .loop in (
-      filling-more (k .inv .0) (k .i) (c .before .before .before .level-byte .result) (omega (arith, l)) (omega arith) (c .before .before .before .level-byte .ensures),
-      rw add-one (c .larger-of .ensures ∙ ap₂ larger (k .inv .1) (c .before .absolute .ensures)),
-      rw add-one (counted (c .before .before)),
+    let q = c .before .before in
+    let l = q .before .before in
+    let k = l .before .loop in
+    let e = q .quantise-one .ensures in (
+      filling-more (k .inv .0) (k .i) (q .quantise-one .result .byte) (omega (arith, l)) (omega arith) (ap (λ (x : Level). x .byte) e),
+      rw add-one (c .larger-of .ensures ∙ ap₂ larger (k .inv .1) (ap (λ (x : Level). x .magnitude) e)),
+      rw add-one (counted q),
     )
 
 returns : tie.Need-returns Inv-loop μ-loop
@@ -64,7 +66,7 @@ returns c =
     let s = c .before .before .before .before in
     let p : ℕ → Float = product (s .args .scale) (now (s .args .samples)) in
     let e : k .i ≡ length (now (s .args .samples)) = omega arith in
-    let written = filling-whole (k .inv .0) (omega arith) ∙ ap (table (λ i. byteOf (level (p i)))) (sym (s .pre .same-length)) in
+    let written = filling-whole (k .inv .0) (omega arith) ∙ ap (bytes p) (sym (s .pre .same-length)) in
     rw (k .inv .1, k .inv .2, e, written)
 
 pub fill-spec : {M : Type 1} → statement M
@@ -78,9 +80,7 @@ fill-spec =
     (λ c. search needs)
     (λ c κs. number (c .before))
     (λ c. omega (arith, c .before .before .before .before .before .before .pre, c .before .before .before .loop .inv .0))
-    (λ c κs. number (c .before .before))
     add-clipped
-    (λ c κs. number (c .before .before .before))
     (λ c κs. search needs)
     (λ c. search needs)
     (λ c. search needs)

@@ -1,4 +1,4 @@
--- `quantiser::first_nan` meets its contract. The invariant: no sample below i is a NaN. Assumes nothing.
+-- `quantiser::first_nan` meets its contract. The invariant: no sample below i is a NaN.
 use mathlib.Core.Path.{_≡_, sym}
 use mathlib.Core.Bool.{false}
 use Prim.Native.Nat.{ℕ, _≤_, _<_, _-_}

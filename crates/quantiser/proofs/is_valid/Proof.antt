@@ -1,4 +1,4 @@
--- `quantiser::is_valid` meets its contract. Assumes nothing.
+-- `quantiser::is_valid` meets its contract.
 use lib.Ieee.{ofBits, nanBits}
 use Rattle.quantiser.specs.Quantise.{validScale}
 use Rattle.quantiser.proofs.is_valid.Statement.{statement}

@@ -1,4 +1,4 @@
--- `quantiser::larger_of` meets its contract. Assumes nothing.
+-- `quantiser::larger_of` meets its contract.
 use Rattle.quantiser.specs.Quantise.{larger}
 use Rattle.quantiser.proofs.larger_of.Statement.{statement}
 use Rattle.quantiser.proofs.larger_of.Tie as tie

@@ -1,16 +1,16 @@
--- `quantiser::level_byte` meets its contract. Assumes nothing.
+-- `quantiser::level_byte` meets its contract.
 use Prim.Native.Nat.{min}
 use native.Mathlib.Omega.{arith}
 use borrow.Author.Needs.{needs}
 use lib.Ieee.{ofBits}
 use Rattle.quantiser.specs.Level.{quarters}
-use Rattle.quantiser.proofs.Level.{level-signed, minus-byte}
+use Rattle.quantiser.proofs.Levels.{level-signed, minus-byte}
 use Rattle.quantiser.proofs.level_byte.Statement.{statement}
 use Rattle.quantiser.proofs.level_byte.Tie as tie
 
 returns : tie.Need-returns
 unfolding ofBits
-returns c = rw (level-signed, c .if1 .taken) (minus-byte _ (min 31 (quarters (c .before .before .args .p))) (omega arith) (omega arith))
+returns c = rw (level-signed, c .if1 .taken) (minus-byte _ (min 31 (quarters (c .before .args .p))) (omega arith) (omega arith))
 
 returns-2 : tie.Need-returns-2
 unfolding ofBits
@@ -20,7 +20,6 @@ pub level-byte-spec : {M : Type 1} → statement M
 level-byte-spec =
     tie.close
     (tie.spec
-    (λ c κs. search needs)
     (λ c. search needs)
     (λ c. search needs)
     (λ c. search needs)

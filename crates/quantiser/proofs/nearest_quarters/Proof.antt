@@ -1,4 +1,4 @@
--- `quantiser::nearest_quarters` meets its contract: the shift loses no bit, and the rest is `quarters-bits`. Assumes nothing.
+-- `quantiser::nearest_quarters` meets its contract: the shift loses no bit, and the rest is `quarters-bits`.
 use mathlib.Core.Path.{_≡_, sym, ap, _∙_, subst}
 use Prim.Native.Nat.{ℕ, _%_, _<_}
 use native.Mathlib.Omega.{arith}

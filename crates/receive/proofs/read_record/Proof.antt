@@ -1,4 +1,4 @@
--- `receive::read_record` meets its contract: a length is below 65,536. Assumes nothing.
+-- `receive::read_record` meets its contract: a length is below 65,536.
 use mathlib.Core.Path.{sym}
 use native.Mathlib.Omega.{arith}
 use borrow.Author.Needs.{needs}

@@ -1,4 +1,4 @@
--- `receive::receive` meets its contract. The invariant: the buffers keep their sizes, and what waits and what is held is inside them. Assumes nothing.
+-- `receive::receive` meets its contract. The invariant: the buffers keep their sizes, and what waits and what is held is inside them.
 use mathlib.Core.Path.{_≡_, sym, subst}
 use Prim.Native.Nat.{_-_}
 use native.Mathlib.Omega.{arith}
@@ -6,7 +6,7 @@ use borrow.Author.Needs.{needs}
 use lib.ListN.{length}
 use lib.Seq.{length-take-le}
 use Rattle.receive.specs.declared.Next.the-variants.{Whole}
-use Rattle.receive.specs.Rooms.{Within, Inside}
+use Rattle.receive.specs.Contracts.{Inside, Within}
 use Rattle.receive.proofs.receive.Statement.{statement}
 use Rattle.receive.proofs.receive.Tie as tie
 

@@ -1,4 +1,4 @@
--- `receive::write_first` meets its contract. Assumes nothing.
+-- `receive::write_first` meets its contract.
 use mathlib.Core.Path.{sym}
 use borrow.Author.Needs.{needs}
 use lib.Seq.{length-take-le}

@@ -1,13 +1,13 @@
--- `records::put_decoded` meets its contract. Assumes nothing.
+-- `records::put_decoded` meets its contract.
 use mathlib.Core.Path.{ap}
 use borrow.Author.Needs.{needs}
-use Rattle.records.specs.Respond.{lineOfAnswer}
-use Rattle.records.proofs.Putting.{put-as}
+use Rattle.records.specs.Contracts.{lineOfAnswer}
+use Rattle.lines.proofs.Putting.{put-as}
 use Rattle.records.proofs.put_decoded.Statement.{statement}
 use Rattle.records.proofs.put_decoded.Tie as tie
 
 returns : tie.Need-returns
-returns c = put-as (c .before .before .put-answer .ensures) _ (ap lineOfAnswer (c .before .before .before .before .before .before .before .decode-restarted .ensures))
+returns c = put-as (c .before .before .put-answer .ensures) _ (ap lineOfAnswer (c .before .before .before .before .before .before .before .decode-by .ensures))
 
 pub put-decoded-spec : {M : Type 1} → statement M
 put-decoded-spec =

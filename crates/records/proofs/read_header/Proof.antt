@@ -1,4 +1,4 @@
--- `records::read_header` meets its contract. Assumes nothing.
+-- `records::read_header` meets its contract.
 use mathlib.Core.Path.{ap₂}
 use Prim.Native.Nat.{ℕ}
 use native.Mathlib.Omega.{arith}

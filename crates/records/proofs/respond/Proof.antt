@@ -1,6 +1,7 @@
--- `records::respond` meets its contract: past each test that fails, the answer is that of the kinds that are left. Assumes nothing.
+-- `records::respond` meets its contract: past each test that fails, the answer is that of the kinds that are left.
 use mathlib.Core.Path.{_≡_, sym, ap, _∙_}
-use mathlib.Core.List.{List, [], _∷_}
+use mathlib.Core.Bool.{Bool, cond}
+use mathlib.Core.List.{List}
 use Prim.Native.Nat.{ℕ}
 use borrow.Author.Needs.{needs}
 use borrow.Author.Tests.{eq-eqb, ne-eqb}
@@ -8,19 +9,23 @@ use denote.Ref.{now}
 use lib.Dec.{eqb}
 use lib.ListN.{take}
 use lib.Seq.{length-take-le}
-use Rattle.laws.specs.Choice.{firstOr}
-use Rattle.laws.proofs.Choice.{first-none, first-yes, first-no}
 use Rattle.code.specs.Description.{word}
 use Rattle.records.specs.declared.Header.{Header}
-use Rattle.records.specs.Line.{skipLine}
-use Rattle.records.specs.Respond.{channelLine, responded}
+use Rattle.lines.specs.Line.{skipLine}
+use Rattle.records.specs.Respond.{descriptionResponse, channelLine, responded}
 use Rattle.records.proofs.Answers.{answers-line, answers-as}
 use Rattle.records.proofs.respond.Statement.{statement}
 use Rattle.records.proofs.respond.Tie as tie
 
--- the answer once the kind is not 1
+-- the answer by what the tests of kind 1 and of kind 2 say
+abbrev by-2 : List ℕ → List ℕ → Bool → List ℕ × List ℕ
+by-2 held bytes t = cond t (channelLine held bytes, held) (skipLine (word bytes 2), held)
+
 abbrev past : List ℕ → List ℕ → List ℕ × List ℕ
-past held bytes = firstOr ((eqb (word bytes 2) 2, (channelLine held bytes, held)) ∷ []) (skipLine (word bytes 2), held)
+past held bytes = by-2 held bytes (eqb (word bytes 2) 2)
+
+abbrev by-1 : List ℕ → List ℕ → Bool → List ℕ × List ℕ
+by-1 held bytes t = cond t (descriptionResponse held bytes) (past held bytes)
 
 module _ (c : tie.After-read-header) where
   abbrev held : List ℕ
@@ -34,27 +39,29 @@ module _ (c : tie.After-read-header) where
 
 past-1 : (c : tie.Else1) → responded (held (c .before)) (bytes (c .before)) ≡ past (held (c .before)) (bytes (c .before))
 unfolding responded
-past-1 c = first-no _ _ _ _ (ne-eqb _ _ (λ e. c .if1 .left (kind-is (c .before) ∙ e)))
+past-1 c = ap (by-1 (held (c .before)) (bytes (c .before))) (ne-eqb _ _ (λ e. c .if1 .left (kind-is (c .before) ∙ e)))
 
 returns : tie.Need-returns
 unfolding responded
 returns c =
     let t = c .before .before .before .before .before .before .before in
-    answers-as (c .before .before .before .before .respond-description .ensures) _ (first-yes _ _ _ _ (eq-eqb _ _ (sym (kind-is (t .before)) ∙ t .if1 .taken)))
+    let h = t .before in
+    answers-as (c .before .before .before .before .respond-description .ensures) _ (sym (ap (by-1 (held h) (bytes h)) (eq-eqb _ _ (sym (kind-is h) ∙ t .if1 .taken))))
 
 returns-2 : tie.Need-returns-2
 returns-2 c =
     let t = c .before .before .before .before .before in
-    answers-as (answers-line (c .before .before .put-channel .ensures) (t .before .before .before .before .before .before .pre .size-most)) _
-    (first-yes _ _ _ _ (eq-eqb _ _ (sym (kind-is (t .before .before)) ∙ t .if2 .taken)) ∙ sym (past-1 (t .before)))
+    let h = t .before .before in
+    answers-as (answers-line (c .before .before .put-channel .ensures) (h .before .before .before .before .pre .size-most)) _
+    (sym (past-1 (t .before) ∙ ap (by-2 (held h) (bytes h)) (eq-eqb _ _ (sym (kind-is h) ∙ t .if2 .taken))))
 
 returns-3 : tie.Need-returns-3
 returns-3 c =
     let e = c .before .before .before .before .before in
     let h = e .before .before in
-    answers-as (answers-line (c .before .before .put-line .ensures) (e .before .before .before .before .before .before .pre .size-most)) _
+    answers-as (answers-line (c .before .before .put-line .ensures) (h .before .before .before .before .pre .size-most)) _
     (ap (λ (kind : ℕ). (skipLine kind, held h)) (kind-is h)
-    ∙ sym (past-1 (e .before) ∙ first-no _ _ _ _ (ne-eqb _ _ (λ q. e .if2 .left (kind-is h ∙ q))) ∙ first-none _))
+    ∙ sym (past-1 (e .before) ∙ ap (by-2 (held h) (bytes h)) (ne-eqb _ _ (λ q. e .if2 .left (kind-is h ∙ q)))))
 
 pub respond-spec : {M : Type 1} → statement M
 respond-spec =

@@ -1,4 +1,4 @@
--- `resume::first_bad` meets its contract. The invariant: no byte passed is bad. Assumes nothing.
+-- `resume::first_bad` meets its contract. The invariant: no byte passed is bad.
 use mathlib.Core.Path.{_≡_, sym, ap, _∙_}
 use mathlib.Core.Bool.{Bool, false}
 use mathlib.Core.List.{List}

@@ -1,4 +1,4 @@
--- `resume::is_bad` meets its contract. Assumes nothing.
+-- `resume::is_bad` meets its contract.
 use mathlib.Core.Path.{sym, ap, _∙_}
 use mathlib.Core.Bool.{Bool, _&&_}
 use borrow.Author.Tests.{lt-ltb, le-ltb, eq-eqb, ne-eqb}

@@ -1,21 +1,29 @@
--- `sc::decode_node` meets its contract: each need is a law of proofs/Recursion.antt. The measure is the layer. Assumes nothing.
-use mathlib.Core.Path.{refl, ap₂, _∙_, subst}
-use Prim.Native.Nat.{ℕ, _+_, _-_, _*_, _/_, _^_, _≤_, _<_}
+-- `sc::decode_node` meets its contract: each need is a law of proofs/Recursion.antt. The measure is the layer.
+use mathlib.Core.Path.{_≡_, sym, ap, ap₂, _∙_, subst₂}
+use mathlib.Core.List.{List, [], _∷_}
+use Prim.Native.Nat.{ℕ, _+_, _-_, _/_, _^_, _≤_, _<_}
 use native.Mathlib.Omega.{arith}
 use borrow.Author.Needs.{needs}
 use borrow.Fn.Kinds.{In}
 use borrow.Fn.PlainCycle.{Measures, is, falls, and}
 use denote.Ref.{now}
-use lib.IntN.{pos}
+use lib.IntN.{ℤ, pos}
 use lib.ListN.{getD}
 use mir.Syntax.{w32}
+use Rattle.laws.specs.Contracts.{segment}
 use Rattle.laws.proofs.Signed.{back-is}
-use Rattle.sc.specs.Bounds.{Within, most}
-use Rattle.sc.specs.Arrays.{deepest}
-use Rattle.transform.proofs.Halves.{Halving, halving}
-use Rattle.sc.proofs.Ending.{forced-bits, forced-worked, leaf-value, leaf-holds, leaf-worked}
-use Rattle.sc.proofs.Free.{is-free, four-holds, four-values, four-small, four-worked}
-use Rattle.sc.proofs.Recursion.{left-at, half-fits, whole₂, own-kept, right-at, combine-at, left-few, right-few, halves-worked, inner-at, left-of-own, inner-again, right-of-own}
+use Rattle.values.specs.Claims.{Within}
+use Rattle.arrays.specs.Sizes.{deepest}
+use Rattle.arrays.specs.Claims.{longest}
+use Rattle.transform.proofs.Halves.{halving}
+use Rattle.sc.specs.Pass.{plusWork}
+use Rattle.sc.specs.Claims.{most}
+use Rattle.sc.specs.Contracts.{arrays}
+use Rattle.sc.proofs.StepsMost.{steps-of}
+use Rattle.sc.proofs.Halves.{sized-of}
+use Rattle.sc.proofs.Ending.{forced-bits, forced-worked}
+use Rattle.sc.proofs.Free.{is-free, one-value, by-value}
+use Rattle.sc.proofs.Recursion.{Inner, inner-at, inner-half, inner-left, inner-again, inner-right, inner-few, inner-combine, inner-worked}
 use Rattle.sc.proofs.decode_node.Reads as node
 use Rattle.sc.proofs.decode_node.Kinds as kinds
 use Rattle.sc.proofs.+decode_node.Lts-decode_node as lts
@@ -78,166 +86,121 @@ module _ (t : ℕ) where
 
   -- ---- a node of layer 2 without a forced bit
 
+  module _ (k : lts.Then2 (Q t) (at t) node.Post) where
+    abbrev start₂ : lts.Start (Q t) (at t) node.Post
+    start₂ = k .before .before .before
+
+    free : (start₂ .args .layer ≡ 2) × (start₂ .args .q ≤ start₂ .args .base)
+    free = is-free (start₂ .args .layer) (start₂ .args .base) (start₂ .args .q) (k .before .is-free-four .ensures) (k .if2 .taken)
+
+    four : start₂ .args .size ≡ 4
+    four = start₂ .pre .1 .0 .pow ∙ ap (λ (n : ℕ). 2 ^ n) (free .0)
+
   decode-four-requires : lts.Need-decode-four-requires (Q t) (at t) node.Post
   decode-four-requires c κs =
-      let k = c .before .before .before .before .before in
-      let s = k .before .before in
-      let rules = now (s .args .rules) in
+      let k = c .before .before .before .before in
+      let s = start₂ k in
       let p = s .pre .1 .0 in
-      let free = is-free (s .args .layer) (s .args .base) (s .args .q) (k .is-free-four .ensures) (c .before .before .before .before .if2 .taken) in
-      (four-holds rules p (free .0) (free .1), subst (Within (most deepest 2)) (four-values rules p (free .0) (free .1) (now (s .args .work))) (four-small rules p (free .0) (free .1)))
+      let small = p .small (k .before .before .if1 .left) in
+      (sized-of (p .whole), omega (arith, p .fits, four k), subst₂ (λ (n m : ℕ). Within (most deepest n) (segment (now (s .args .work)) m m)) (free k .0) (four k) small)
 
   returns-2 : lts.Need-returns-2 (Q t) (at t) node.Post
   returns-2 c =
-      let k = c .before .before .before .before .before .before in
-      let s = k .before .before in
-      let rules = now (s .args .rules) in
-      let p = s .pre .1 .0 in
-      let free = is-free (s .args .layer) (s .args .base) (s .args .q) (k .is-free-four .ensures) (c .before .before .before .before .before .if2 .taken) in
-      four-worked rules p (free .0) (free .1) (four-values rules p (free .0) (free .1) (now (s .args .work))) (c .decode-four .ensures)
+      let k = c .before .before .before .before .before in
+      by-value (free k .0) (four k) (ap (λ (m : ℕ). segment (now (start₂ k .args .work)) m m) (four k)) (free k .1) (c .decode-four .ensures)
 
   -- ---- a leaf
 
+  module _ (k : lts.Then3 (Q t) (at t) node.Post) where
+    abbrev start₃ : lts.Start (Q t) (at t) node.Post
+    start₃ = k .before .before .before .before
+
+    one : start₃ .args .size ≡ 1
+    one = start₃ .pre .1 .0 .pow ∙ ap (λ (n : ℕ). 2 ^ n) (k .if3 .taken)
+
   leaf-requires : lts.Need-leaf-requires (Q t) (at t) node.Post
   leaf-requires c κs =
-      let e = c .before .before .before .before in
-      let s = e .before .before .before .before in
-      leaf-holds (now (s .args .rules)) (s .pre .1 .0) (e .before .before .before .if1 .left) (e .if3 .taken)
+      let k = c .before .before .before .before in
+      let p = start₃ k .pre .1 .0 in
+      (sized-of (p .whole), omega (arith, p .fits, one k))
 
   returns-3 : lts.Need-returns-3 (Q t) (at t) node.Post
   returns-3 c =
-      let e = c .before .before .before .before .before in
-      let s = e .before .before .before .before in
-      let p = s .pre .1 .0 in
-      let more = e .before .before .before .if1 .left in
-      let rules = now (s .args .rules) in
-      let value = back-is w32 (getD (now (s .args .work)) 1 (pos 0)) (record { sfits = c .before .before .before .before .leaf-arg .given }) in
-      leaf-worked rules p more (e .if3 .taken) (value ∙ leaf-value rules p more (e .if3 .taken) refl) (c .leaf .ensures .1)
+      let k = c .before .before .before .before .before in
+      let p = start₃ k .pre .1 .0 in
+      let work = now (start₃ k .args .work) in
+      let value = back-is w32 (getD work 1 (pos 0)) (record { sfits = c .before .before .before .before .leaf-arg .given }) in
+      by-value (k .if3 .taken) (one k) (one-value work (one k) (omega (arith, p .whole .work)) ∙ ap (λ (x : ℤ). x ∷ []) (sym value))
+      (omega (arith, k .before .before .before .if1 .left, one k)) (c .leaf .ensures .1)
 
   -- ---- two halves
 
-  abbrev Else3 : Type 0
-  Else3 = lts.Else3 (Q t) (at t) node.Post
+  module _ (e : lts.Else3 (Q t) (at t) node.Post) where
+    abbrev start : lts.Start (Q t) (at t) node.Post
+    start = e .before .before .before .before
 
-  abbrev start : Else3 → lts.Start (Q t) (at t) node.Post
-  start e = e .before .before .before .before
+    abbrev rules : List ℕ
+    rules = now (start .args .rules)
 
-  -- back from a place to the one after an earlier call
-  abbrev left-done : lts.After-decode-node (Q t) (at t) node.Post → lts.After-left-values (Q t) (at t) node.Post
-  left-done c = c .before .before .before .before .before
-
-  abbrev left-node-done : lts.After-right-values (Q t) (at t) node.Post → lts.After-decode-node (Q t) (at t) node.Post
-  left-node-done c = c .before .before .before
-
-  abbrev right-done : lts.After-decode-node2 (Q t) (at t) node.Post → lts.After-right-values (Q t) (at t) node.Post
-  right-done c = c .before .before .before .before .before
-
-  two : (c : Else3) → let s = start c .args in Halving (s .layer) (s .size) (s .layer - 1) (s .size / 2)
-  two c = halving (c .if3 .left) (start c .pre .1 .0 .pow)
+    inner : let s = start .args in Inner longest (s .layer) (s .size) (s .layer - 1) (s .size / 2) (s .base) (s .q) (arrays (now (s .work)) (now (s .bits)) (now (s .sums)) (now (s .leaves)))
+    inner = record {
+      halving = halving (e .if3 .left) (start .pre .1 .0 .pow);
+      pre = start .pre .1 .0;
+      more = e .before .before .before .if1 .left;
+      double = start .pre .1 .1;
+    }
 
   left-values-requires : lts.Need-left-values-requires (Q t) (at t) node.Post
-  left-values-requires c κs =
-      let e = c .before in
-      let s = start e in
-      inner-at (now (s .args .rules)) (two e) (s .pre .1 .0) (e .before .before .before .if1 .left) (s .pre .1 .1)
+  left-values-requires c κs = inner-at (rules (c .before)) (inner (c .before))
 
   node-requires : lts.Need-decode-node-requires (Q t) (at t) node.Post
   node-requires c κs =
       let l = c .before .before .before .before in
       let e = l .before .before in
-      let s = start e in
-      let rules = now (s .args .rules) in
-      let p = s .pre .1 .0 in
-      let more = e .before .before .before .if1 .left in
-      let own = left-of-own rules (two e) p more (s .pre .1 .1) (l .left-values .ensures) in
-      (omega (arith, s .pre .0, two e .below), (left-at rules (two e) p more own, half-fits rules (two e) p more))
+      (omega (arith, start e .pre .0, inner e .halving .below), (inner-left (rules e) (inner e) (l .left-values .ensures), inner-half (rules e) (inner e)))
+
+  -- after the left half
+  module _ (k : lts.After-decode-node (Q t) (at t) node.Post) where
+    abbrev l : lts.After-left-values (Q t) (at t) node.Post
+    l = k .before .before .before .before .before
+
+    abbrev e : lts.Else3 (Q t) (at t) node.Post
+    e = l .before .before
 
   right-values-requires : lts.Need-right-values-requires (Q t) (at t) node.Post
   right-values-requires c κs =
       let k = c .before .before in
-      let l = left-done k in
-      let e = l .before .before in
-      let s = start e in
-      let rules = now (s .args .rules) in
-      let d = two e in
-      let p = s .pre .1 .0 in
-      let more = e .before .before .before .if1 .left in
-      let c₁ = left-of-own rules d p more (s .pre .1 .1) (l .left-values .ensures) in
-      let c₂ = k .decode-node .ensures in
-      (inner-again rules d p more (s .pre .1 .1) (whole₂ rules d p more c₁ c₂) (own-kept rules d p more c₁ c₂), omega (arith, d .two, p .fits))
+      (inner-again (rules (e k)) (inner (e k)) (l k .left-values .ensures) (k .decode-node .ensures), omega (arith, inner (e k) .halving .two, inner (e k) .pre .fits))
 
   node-requires-2 : lts.Need-decode-node-requires-2 (Q t) (at t) node.Post
   node-requires-2 c κs =
       let r = c .before .before .before .before in
-      let k = left-node-done r in
-      let l = left-done k in
-      let e = l .before .before in
-      let s = start e in
-      let rules = now (s .args .rules) in
-      let d = two e in
-      let p = s .pre .1 .0 in
-      let more = e .before .before .before .if1 .left in
-      let c₁ = left-of-own rules d p more (s .pre .1 .1) (l .left-values .ensures) in
-      let c₂ = k .decode-node .ensures in
-      let c₃ = right-of-own rules d p more (s .pre .1 .1) (whole₂ rules d p more c₁ c₂) (own-kept rules d p more c₁ c₂) (r .right-values .ensures) in
-      (omega (arith, s .pre .0, d .below), (right-at rules d p more c₁ c₂ c₃, half-fits rules d p more))
+      let k = r .before .before .before in
+      (omega (arith, start (e k) .pre .0, inner (e k) .halving .below), (inner-right (rules (e k)) (inner (e k)) (l k .left-values .ensures) (k .decode-node .ensures) (r .right-values .ensures), inner-half (rules (e k)) (inner (e k))))
+
+  -- after the right half
+  module _ (n : lts.After-decode-node2 (Q t) (at t) node.Post) where
+    abbrev r : lts.After-right-values (Q t) (at t) node.Post
+    r = n .before .before .before .before .before
+
+    abbrev k : lts.After-decode-node (Q t) (at t) node.Post
+    k = r .before .before .before
+
+    -- the steps of each half are few
+    few : (l k .left-values .result .steps + k .decode-node .result .steps < 2 ^ 31) × (r .right-values .result .steps + n .decode-node2 .result .steps < 2 ^ 31)
+    few = inner-few (rules (e k)) (inner (e k)) (l k .left-values .ensures) (k .decode-node .ensures) (r .right-values .ensures) (n .decode-node2 .ensures)
 
   combine-requires : lts.Need-combine-requires (Q t) (at t) node.Post
   combine-requires c κs =
-      let r = right-done (c .before) in
-      let k = left-node-done r in
-      let l = left-done k in
-      let e = l .before .before in
-      let s = start e in
-      let rules = now (s .args .rules) in
-      let d = two e in
-      let p = s .pre .1 .0 in
-      let more = e .before .before .before .if1 .left in
-      let c₁ = left-of-own rules d p more (s .pre .1 .1) (l .left-values .ensures) in
-      let c₂ = k .decode-node .ensures in
-      let c₃ = right-of-own rules d p more (s .pre .1 .1) (whole₂ rules d p more c₁ c₂) (own-kept rules d p more c₁ c₂) (r .right-values .ensures) in
-      combine-at rules d p more c₁ c₂ c₃ (c .before .decode-node2 .ensures)
-
-  -- the steps of each half are few
-  few : (c : lts.After-decode-node2 (Q t) (at t) node.Post) →
-      let r = right-done c in
-      let k = left-node-done r in
-      let l = left-done k in
-      (l .left-values .result .steps + k .decode-node .result .steps ≤ 10 * 2 ^ 9) × (r .right-values .result .steps + c .decode-node2 .result .steps ≤ 10 * 2 ^ 9)
-  few c =
-      let r = right-done c in
-      let k = left-node-done r in
-      let l = left-done k in
-      let e = l .before .before in
-      let s = start e in
-      let rules = now (s .args .rules) in
-      let d = two e in
-      let p = s .pre .1 .0 in
-      let more = e .before .before .before .if1 .left in
-      let c₁ = left-of-own rules d p more (s .pre .1 .1) (l .left-values .ensures) in
-      let c₂ = k .decode-node .ensures in
-      let c₃ = right-of-own rules d p more (s .pre .1 .1) (whole₂ rules d p more c₁ c₂) (own-kept rules d p more c₁ c₂) (r .right-values .ensures) in
-      let c₄ = c .decode-node2 .ensures in
-      (left-few rules d p more c₁ c₂ c₃ c₄, right-few rules d p more c₁ c₂ c₃ c₄)
+      let n = c .before in
+      inner-combine (rules (e (k n))) (inner (e (k n))) (l (k n) .left-values .ensures) (k n .decode-node .ensures) (r n .right-values .ensures) (n .decode-node2 .ensures)
 
   returns-4 : lts.Need-returns-4 (Q t) (at t) node.Post
   returns-4 c =
       let m = c .before .before .before in
       let n = m .before .before in
-      let r = right-done n in
-      let k = left-node-done r in
-      let l = left-done k in
-      let e = l .before .before in
-      let s = start e in
-      let rules = now (s .args .rules) in
-      let d = two e in
-      let p = s .pre .1 .0 in
-      let more = e .before .before .before .if1 .left in
-      let c₁ = left-of-own rules d p more (s .pre .1 .1) (l .left-values .ensures) in
-      let c₂ = k .decode-node .ensures in
-      let c₃ = right-of-own rules d p more (s .pre .1 .1) (whole₂ rules d p more c₁ c₂) (own-kept rules d p more c₁ c₂) (r .right-values .ensures) in
-      let total = c .plus3 .ensures ∙ ap₂ (λ (x y : ℕ). x + y) (c .before .before .plus .ensures) (c .before .plus2 .ensures) in
-      halves-worked rules d p more c₁ c₂ c₃ (n .decode-node2 .ensures) total (m .combine .ensures)
+      let total = c .plus3 .ensures ∙ ap₂ plusWork (c .before .before .plus .ensures) (c .before .plus2 .ensures) in
+      inner-worked (rules (e (k n))) (inner (e (k n))) (l (k n) .left-values .ensures) (k n .decode-node .ensures) (r n .right-values .ensures) (n .decode-node2 .ensures) total (m .combine .ensures)
 
 pub +decode-node-spec : {M : Type 1} → statement M
 +decode-node-spec = close μ λ t. lts.spec (Q t)
@@ -263,5 +226,5 @@ pub +decode-node-spec : {M : Type 1} → statement M
     (combine-requires t)
     (λ c κs. omega (arith, few t (c .before .before)))
     (λ c κs. omega (arith, few t (c .before .before .before)))
-    (λ c κs. omega (arith, c .before .plus .ensures, c .plus2 .ensures, few t (c .before .before .before .before)))
+    (λ c κs. omega (arith, ap steps-of (c .before .plus .ensures), ap steps-of (c .plus2 .ensures), few t (c .before .before .before .before)))
     (returns-4 t)

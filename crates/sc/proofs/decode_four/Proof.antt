@@ -1,155 +1,140 @@
--- `sc::decode_four` meets its contract: two nodes of layer 1, by the halves of proofs/Free.antt. Assumes nothing.
-use mathlib.Core.Path.{_≡_, refl, sym, ap, ap₂, _∙_, subst}
+-- `sc::decode_four` meets its contract: two nodes of layer 1, by the halves of proofs/Free.antt.
+use mathlib.Core.Path.{_≡_, sym, ap, ap₂, _∙_, subst}
 use mathlib.Core.List.{List, [], _∷_}
-use Prim.Native.Nat.{ℕ, _+_, _<_}
+use Prim.Native.Nat.{ℕ, _+_, _^_, _<_, _≤_}
+use native.Mathlib.Nat.{add-zero}
 use native.Mathlib.Omega.{arith}
 use borrow.Author.Needs.{needs}
 use denote.Ref.{now}
 use lib.IntN.{ℤ, pos, natAbs}
 use lib.ListN.{getD}
 use mir.Syntax.{w32}
-use Rattle.laws.specs.Segment.{table, segment}
+use Rattle.laws.specs.Table.{table}
+use Rattle.laws.specs.Contracts.{segment}
 use Rattle.laws.proofs.Segment.{getD-segment}
 use Rattle.laws.proofs.Signed.{back, back-is}
-use Rattle.sc.specs.Values.{f, g, leftValues, rightValues}
-use Rattle.sc.specs.Pass.{node}
-use Rattle.sc.specs.Bounds.{Within, most}
-use Rattle.sc.specs.Arrays.{rulesFrom, deepest}
+use Rattle.values.specs.Values.{rightValues, leftValues, g, f}
+use Rattle.values.specs.Claims.{Within}
+use Rattle.values.proofs.Bounds.{within-right, within-left}
+use Rattle.arrays.specs.Sizes.{deepest}
+use Rattle.sc.specs.declared.Work.{Work}
+use Rattle.sc.specs.Pass.{plusWork}
+use Rattle.sc.specs.Claims.{most}
 use Rattle.sc.proofs.Layers.{back-within}
-use Rattle.sc.proofs.Bounds.{within-left, within-right}
-use Rattle.sc.proofs.Free.{laid-as, left-holds, right-holds, left-sum, combine-free, halves-laid}
+use Rattle.sc.proofs.StepsMost.{counted, steps-of, same-steps}
+use Rattle.sc.proofs.Halves.{laid-most}
+use Rattle.sc.proofs.Free.{free-sized, free-combine, free-laid}
 use Rattle.sc.proofs.decode_four.Statement.{statement}
 use Rattle.sc.proofs.decode_four.Tie as tie
 
--- the four values, as the machine reads them
-own : (w : List ℤ) → Within (most deepest 2) (segment w 4 4) → (k : ℕ) → k < 4 → back w32 (getD w (4 + k) (pos 0)) ≡ getD (segment w 4 4) k (pos 0)
-own w p k l = ap (back w32) (sym (getD-segment w 4 4 k (pos 0) l)) ∙ back-within p (omega arith) k
+module _ (s : tie.Start) where
+  abbrev w : List ℤ
+  w = now (s .args .work)
+
+  abbrev v : List ℤ
+  v = segment w 4 4
+
+  -- the four values, as the machine reads them
+  own : (k : ℕ) → k < 4 → back w32 (getD w (4 + k) (pos 0)) ≡ getD v k (pos 0)
+  own k l = ap (back w32) (sym (getD-segment w 4 4 k (pos 0) l)) ∙ back-within (s .pre .2) (omega arith) k
+
+  -- of those half the node apart, neither is large
+  small : (k : ℕ) → k < 2 → natAbs (back w32 (getD w (4 + k) (pos 0))) + natAbs (back w32 (getD w (4 + (2 + k)) (pos 0))) < 2 ^ 31
+  small k l = omega (arith, ap natAbs (own k (omega arith)), s .pre .2 .at k, ap natAbs (own (2 + k) (omega arith)), s .pre .2 .at (2 + k))
 
 f-requires : tie.Need-f-requires
-f-requires c κs =
-    let s = c .before .before .before .before in
-    let w = now (s .args .work) in
-    let p = s .pre .1 in
-    (omega (arith, ap natAbs (own w p 0 (omega arith)), p .at 0), omega (arith, ap natAbs (own w p 2 (omega arith)), p .at 2))
+f-requires c κs = let b = small (c .before .before .before .before) 0 (omega arith) in (omega (arith, b), omega (arith, b))
 
 f-requires-2 : tie.Need-f-requires-2
-f-requires-2 c κs =
-    let s = c .before .before .before .before .before in
-    let w = now (s .args .work) in
-    let p = s .pre .1 in
-    (omega (arith, ap natAbs (own w p 1 (omega arith)), p .at 1), omega (arith, ap natAbs (own w p 3 (omega arith)), p .at 3))
+f-requires-2 c κs = let b = small (c .before .before .before .before .before) 1 (omega arith) in (omega (arith, b), omega (arith, b))
 
--- the left values
-left-values : (c : tie.After-f2) →
-    let v = segment (now (c .before .before .before .before .before .before .args .work)) 4 4 in
-    back w32 (c .before .f .result) ∷ back w32 (c .f2 .result) ∷ [] ≡ leftValues 2 v
-unfolding leftValues table
-left-values c =
-    let s = c .before .before .before .before .before .before in
-    let w = now (s .args .work) in
-    let p = s .pre .1 in
-    let k = c .before in
-    ap₂ (λ (x y : ℤ). x ∷ y ∷ [])
-    (back-is w32 (k .f .result) (record { sfits = k .f .ok }) ∙ k .f .ensures ∙ ap₂ f (own w p 0 (omega arith)) (own w p 2 (omega arith)))
-    (back-is w32 (c .f2 .result) (record { sfits = c .f2 .ok }) ∙ c .f2 .ensures ∙ ap₂ f (own w p 1 (omega arith)) (own w p 3 (omega arith)))
+-- after the left values
+module _ (k : tie.After-f2) where
+  abbrev s : tie.Start
+  s = k .before .before .before .before .before .before
+
+  left-own : back w32 (k .before .f .result) ∷ back w32 (k .f2 .result) ∷ [] ≡ leftValues 2 (v s)
+  unfolding leftValues table
+  left-own =
+      let m = k .before in
+      ap₂ (λ (x y : ℤ). x ∷ y ∷ [])
+      (back-is w32 (m .f .result) (record { sfits = m .f .ok }) ∙ m .f .ensures ∙ ap₂ f (own s 0 (omega arith)) (own s 2 (omega arith)))
+      (back-is w32 (k .f2 .result) (record { sfits = k .f2 .ok }) ∙ k .f2 .ensures ∙ ap₂ f (own s 1 (omega arith)) (own s 3 (omega arith)))
 
 decode-two-requires : tie.Need-decode-two-requires
 decode-two-requires c κs =
     let k = c .before .before .before in
-    let s = k .before .before .before .before .before .before in
-    let small = subst (Within (most deepest 2)) (sym (left-values k)) (within-left 2 (s .pre .1)) in
-    (left-holds 1 (now (s .args .rules)) [] (s .pre .0), omega (arith, small .at 0, small .at 1))
+    let p = s k .pre in
+    let low = subst (Within (most deepest 2)) (sym (left-own k)) (within-left 2 (p .2)) in
+    (p .0, omega (arith, p .1), omega (arith, low .at 0, low .at 1))
 
--- the left half, by the definition
-left-is : (c : tie.After-decode-two) →
-    let k = c .before .before .before .before in
-    let s = k .before .before .before .before .before .before .args in
-    let rule = rulesFrom (now (s .rules)) (s .base) in
-    node 1 [] rule (back w32 (k .before .f .result) ∷ back w32 (k .f2 .result) ∷ []) ≡ node 1 [] rule (leftValues 2 (segment (now (s .work)) 4 4))
-left-is c =
-    let k = c .before .before .before .before in
-    let s = k .before .before .before .before .before .before .args in
-    ap (node 1 [] (rulesFrom (now (s .rules)) (s .base))) (left-values k)
+-- after the left half
+module _ (l : tie.After-decode-two) where
+  abbrev m : tie.After-f2
+  m = l .before .before .before .before
 
-g-requires : tie.Need-g-requires
-g-requires c κs =
-    let s = c .before .before .before .before .before .before .before .before .before .before .before .before in
-    let w = now (s .args .work) in
-    let p = s .pre .1 in
-    omega (arith, ap natAbs (own w p 0 (omega arith)), p .at 0, ap natAbs (own w p 2 (omega arith)), p .at 2)
+  abbrev sums : List ℕ
+  sums = l .decode-two .last .1 .1 .1 .1 .1 .0
 
-g-requires-2 : tie.Need-g-requires-2
-g-requires-2 c κs =
-    let s = c .before .before .before .before .before .before .before .before .before .before .before .before .before in
-    let w = now (s .args .work) in
-    let p = s .pre .1 in
-    omega (arith, ap natAbs (own w p 1 (omega arith)), p .at 1, ap natAbs (own w p 3 (omega arith)), p .at 3)
+-- after the right values
+module _ (n : tie.After-g2) where
+  abbrev l : tie.After-decode-two
+  l = n .before .before .before .before
 
--- the right values
-right-values : (c : tie.After-g2) →
-    let s = c .before .before .before .before .before .before .before .before .before .before .before .before .before .before .args in
-    let v = segment (now (s .work)) 4 4 in
-    back w32 (c .before .g .result) ∷ back w32 (c .g2 .result) ∷ [] ≡ rightValues 2 v (node 1 [] (rulesFrom (now (s .rules)) (s .base)) (leftValues 2 v) .sums)
-unfolding rightValues table
-right-values c =
-    let l = c .before .before .before .before in
-    let s = l .before .before .before .before .before .before .before .before .before .before in
-    let w = now (s .args .work) in
-    let p = s .pre .1 in
-    let k = c .before in
-    let sum = left-sum 1 (now (s .args .rules)) (segment w 4 4) (s .pre .0) (laid-as (left-is l) (l .decode-two .ensures .0)) in
-    let a = own w p 0 (omega arith) in
-    let b = own w p 1 (omega arith) in
-    let e = own w p 2 (omega arith) in
-    let d = own w p 3 (omega arith) in
-    let s₀ = sum (s .args .base) 0 (omega arith) (omega arith) in
-    let s₁ = sum (s .args .base + 1) 1 refl (omega arith) in
-    ap₂ (λ (x y : ℤ). x ∷ y ∷ [])
-    (back-is w32 (k .g .result) (record { sfits = k .g .ok }) ∙ k .g .ensures ∙ (λ t. g (a t) (e t) (s₀ t)))
-    (back-is w32 (c .g2 .result) (record { sfits = c .g2 .ok }) ∙ c .g2 .ensures ∙ (λ t. g (b t) (d t) (s₁ t)))
-
--- the right half, by the definition
-right-is : (c : tie.After-decode-two2) →
-    let k = c .before .before .before .before in
-    let s = k .before .before .before .before .before .before .before .before .before .before .before .before .before .before .args in
-    let v = segment (now (s .work)) 4 4 in
-    let rule = rulesFrom (now (s .rules)) (s .base + 2) in
-    node 1 [] rule (back w32 (k .before .g .result) ∷ back w32 (k .g2 .result) ∷ []) ≡ node 1 [] rule (rightValues 2 v (node 1 [] (rulesFrom (now (s .rules)) (s .base)) (leftValues 2 v) .sums))
-right-is c =
-    let k = c .before .before .before .before in
-    let s = k .before .before .before .before .before .before .before .before .before .before .before .before .before .before .args in
-    ap (node 1 [] (rulesFrom (now (s .rules)) (s .base + 2))) (right-values k)
+  right-own : back w32 (n .before .g .result) ∷ back w32 (n .g2 .result) ∷ [] ≡ rightValues 2 (v (s (m l))) (segment (sums l) (s (m l) .args .base) 2)
+  unfolding rightValues table
+  right-own =
+      let o = n .before in
+      let st = s (m l) in
+      let base = st .args .base in
+      let a = own st 0 (omega arith) in
+      let b = own st 1 (omega arith) in
+      let e = own st 2 (omega arith) in
+      let d = own st 3 (omega arith) in
+      let s₀ = ap (λ (i : ℕ). getD (sums l) i 0) (sym (add-zero base)) ∙ sym (getD-segment (sums l) base 2 0 0 (omega arith)) in
+      let s₁ = sym (getD-segment (sums l) base 2 1 0 (omega arith)) in
+      ap₂ (λ (x y : ℤ). x ∷ y ∷ [])
+      (back-is w32 (o .g .result) (record { sfits = o .g .ok }) ∙ o .g .ensures ∙ (λ t. g (a t) (e t) (s₀ t)))
+      (back-is w32 (n .g2 .result) (record { sfits = n .g2 .ok }) ∙ n .g2 .ensures ∙ (λ t. g (b t) (d t) (s₁ t)))
 
 decode-two-requires-2 : tie.Need-decode-two-requires-2
 decode-two-requires-2 c κs =
-    let k = c .before .before .before in
-    let l = c .before .before .before .before .before .before .before in
-    let s = l .before .before .before .before .before .before .before .before .before .before in
-    let v = segment (now (s .args .work)) 4 4 in
-    let rules = now (s .args .rules) in
-    let small = subst (Within (most deepest 2 + most deepest 2)) (sym (right-values k)) (within-right 2 (node 1 [] (rulesFrom rules (s .args .base)) (leftValues 2 v) .sums) (s .pre .1)) in
-    (right-holds 1 rules v (s .pre .0) (laid-as (left-is l) (l .decode-two .ensures .0)), omega (arith, small .at 0, small .at 1))
+    let n = c .before .before .before in
+    let st = s (m (l n)) in
+    let p = st .pre in
+    let low = subst (Within (most deepest 2 + most deepest 2)) (sym (right-own n)) (within-right 2 (segment (sums (l n)) (st .args .base) 2) (p .2)) in
+    (free-sized 1 _ (now (st .args .rules)) (v st) (p .0) (p .1) (left-own (m (l n))) (l n .decode-two .ensures), omega (arith, p .1), omega (arith, low .at 0, low .at 1))
+
+-- after the right half
+module _ (r : tie.After-decode-two2) where
+  abbrev n : tie.After-g2
+  n = r .before .before .before .before
+
+  abbrev start : tie.Start
+  start = s (m (l n))
+
+  -- the steps of the halves are few
+  few : (l n .decode-two .result .steps ≤ 2) × (r .decode-two2 .result .steps ≤ 2)
+  few = (laid-most (l n .decode-two .ensures), laid-most (r .decode-two2 .ensures))
 
 combine-requires : tie.Need-combine-requires
 combine-requires c κs =
     let r = c .before in
-    let l = r .before .before .before .before .before .before .before .before in
-    let s = l .before .before .before .before .before .before .before .before .before .before in
-    combine-free 1 (now (s .args .rules)) (segment (now (s .args .work)) 4 4) (s .pre .0) (laid-as (left-is l) (l .decode-two .ensures .0)) (laid-as (right-is r) (r .decode-two2 .ensures .0))
+    let k = l (n r) in
+    let p = start r .pre in
+    free-combine 1 _ (now (start r .args .rules)) (v (start r)) (p .0) (p .1) (left-own (m k)) (k .decode-two .ensures) (right-own (n r)) (r .decode-two2 .ensures)
 
--- the steps of the halves
-below : (c : tie.After-decode-two2) → (c .before .before .before .before .before .before .before .before .decode-two .result .steps ≡ 2) × (c .decode-two2 .result .steps ≡ 2)
-below c = (c .before .before .before .before .before .before .before .before .decode-two .ensures .1, c .decode-two2 .ensures .1)
+-- all that is done
+total : (a b : Work) → plusWork (counted 4) (plusWork a b) ≡ plusWork (plusWork (counted 2) a) (plusWork (counted 2) b)
+total a b = let e : 4 + (a .steps + b .steps) ≡ 2 + a .steps + (2 + b .steps) = omega arith in same-steps e
 
 returns : tie.Need-returns
 returns c =
-    let k = c .before .before in
-    let r = k .before .before in
-    let l = r .before .before .before .before .before .before .before .before in
-    let s = l .before .before .before .before .before .before .before .before .before .before in (
-      halves-laid 1 (now (s .args .rules)) (segment (now (s .args .work)) 4 4) (s .pre .0) (laid-as (left-is l) (l .decode-two .ensures .0)) (laid-as (right-is r) (r .decode-two2 .ensures .0)) (k .combine .ensures),
-      c .plus2 .ensures ∙ omega (arith, c .before .plus .ensures, below r),
-    )
+    let r = c .before .before .before .before in
+    let k = l (n r) in
+    let p = start r .pre in
+    let work = c .plus2 .ensures ∙ ap (plusWork (counted 4)) (c .before .plus .ensures) ∙ total _ _ in
+    free-laid 1 _ (now (start r .args .rules)) (v (start r)) (p .0) (p .1) (left-own (m k)) (k .decode-two .ensures) (right-own (n r)) (r .decode-two2 .ensures) work (c .before .before .combine .ensures)
 
 pub decode-four-spec : {M : Type 1} → statement M
 decode-four-spec =
@@ -167,11 +152,11 @@ decode-four-spec =
     (λ c. search needs)
     (λ c. search needs)
     (λ c. search needs)
-    g-requires
-    g-requires-2
+    (λ c κs. small (c .before .before .before .before .before .before .before .before .before .before .before .before) 0 (omega arith))
+    (λ c κs. small (c .before .before .before .before .before .before .before .before .before .before .before .before .before) 1 (omega arith))
     decode-two-requires-2
     (λ c. search needs)
     combine-requires
-    (λ c κs. omega (arith, below (c .before .before)))
-    (λ c κs. omega (arith, c .plus .ensures, below (c .before .before .before)))
+    (λ c κs. omega (arith, few (c .before .before)))
+    (λ c κs. omega (arith, ap steps-of (c .plus .ensures), few (c .before .before .before)))
     returns)

@@ -1,106 +1,100 @@
--- `sc::decode_two` meets its contract: two leaves, by the halves of proofs/Free.antt. Assumes nothing.
-use mathlib.Core.Path.{_≡_, refl, ap, ap₂, _∙_}
-use mathlib.Core.List.{[], _∷_}
-use Prim.Native.Nat.{_+_}
+-- `sc::decode_two` meets its contract: two leaves, by the halves of proofs/Free.antt.
+use mathlib.Core.Path.{_≡_, refl, sym, ap, ap₂, _∙_}
+use mathlib.Core.List.{List, [], _∷_}
+use Prim.Native.Nat.{ℕ}
+use native.Mathlib.Nat.{add-zero}
 use native.Mathlib.Omega.{arith}
 use borrow.Author.Needs.{needs}
 use denote.Ref.{now}
-use lib.IntN.{pos, natAbs}
+use lib.IntN.{ℤ, natAbs}
 use lib.ListN.{getD}
 use mir.Syntax.{w32}
-use Rattle.laws.specs.Segment.{table}
+use Rattle.laws.specs.Table.{table}
+use Rattle.laws.specs.Contracts.{segment}
+use Rattle.laws.proofs.Segment.{getD-segment}
 use Rattle.laws.proofs.Signed.{back, back-is}
-use Rattle.sc.specs.Values.{f, g, leftValues, rightValues}
-use Rattle.sc.specs.Pass.{Out, leaf, node}
-use Rattle.sc.specs.Rules.{ruleAt}
-use Rattle.sc.specs.Arrays.{rulesFrom}
-use Rattle.sc.proofs.Free.{free-leaf, laid-as, left-holds, right-holds, combine-free, halves-laid}
+use Rattle.values.specs.Values.{rightValues, leftValues, g, f}
+use Rattle.sc.proofs.Free.{free-sized, free-combine, free-laid}
 use Rattle.sc.proofs.decode_two.Statement.{statement}
 use Rattle.sc.proofs.decode_two.Tie as tie
 
-f-requires : tie.Need-f-requires
-f-requires c κs =
-    let a = back-is w32 (c .args .a) (c .fits .a) in
-    let b = back-is w32 (c .args .b) (c .fits .b) in
-    (omega (arith, ap natAbs a, c .pre .1), omega (arith, ap natAbs b, c .pre .1))
+-- the two values, as the machine reads them
+module _ (s : tie.Start) where
+  abbrev v : List ℤ
+  v = s .args .a ∷ s .args .b ∷ []
 
-leaf-requires : tie.Need-leaf-requires
-leaf-requires c κs =
-    let s = c .before .before .before .before in
-    left-holds 0 (now (s .args .rules)) [] (s .pre .0)
+  first : back w32 (s .args .a) ≡ s .args .a
+  first = back-is w32 (s .args .a) (s .fits .a)
+
+  second : back w32 (s .args .b) ≡ s .args .b
+  second = back-is w32 (s .args .b) (s .fits .b)
+
+f-requires : tie.Need-f-requires
+f-requires c κs = (omega (arith, ap natAbs (first c), c .pre .2), omega (arith, ap natAbs (second c), c .pre .2))
 
 g-requires : tie.Need-g-requires
-g-requires c κs =
-    let s = c .before .before .before .before .before in
-    let a = back-is w32 (s .args .a) (s .fits .a) in
-    let b = back-is w32 (s .args .b) (s .fits .b) in
-    omega (arith, ap natAbs a, ap natAbs b, s .pre .1)
+g-requires c κs = let s = c .before .before .before .before .before in omega (arith, ap natAbs (first s), ap natAbs (second s), s .pre .2)
 
--- the left value
-left-value : (c : tie.After-f) →
-    let s = c .before .args in
-    back w32 (c .f .result) ≡ getD (leftValues 1 (s .a ∷ s .b ∷ [])) 0 (pos 0)
-unfolding leftValues table
-left-value c =
-    let s = c .before in
-    back-is w32 (c .f .result) (record { sfits = c .f .ok }) ∙ c .f .ensures
-    ∙ ap₂ f (back-is w32 (s .args .a) (s .fits .a)) (back-is w32 (s .args .b) (s .fits .b))
+-- after the left leaf
+module _ (k : tie.After-leaf) where
+  abbrev m : tie.After-f
+  m = k .before .before .before .before
 
--- the left half, by the definition
-left-is : (c : tie.After-leaf) →
-    let k = c .before .before .before .before in
-    let s = k .before .args in
-    leaf (ruleAt (now (s .rules)) (s .base)) (back w32 (k .f .result)) ≡ node 0 [] (rulesFrom (now (s .rules)) (s .base)) (leftValues 1 (s .a ∷ s .b ∷ []))
-left-is c =
-    let k = c .before .before .before .before in
-    let s = k .before .args in
-    free-leaf (now (s .rules)) (s .base) (leftValues 1 (s .a ∷ s .b ∷ [])) (left-value k)
+  abbrev s : tie.Start
+  s = m .before
+
+  abbrev sums : List ℕ
+  sums = k .leaf .last .1 .1 .1 .1 .0
+
+  left-own : back w32 (m .f .result) ∷ [] ≡ leftValues 1 (v s)
+  unfolding leftValues table
+  left-own =
+      ap (λ (x : ℤ). x ∷ []) (back-is w32 (m .f .result) (record { sfits = m .f .ok }) ∙ m .f .ensures ∙ ap₂ f (first s) (second s))
 
 leaf-requires-2 : tie.Need-leaf-requires-2
 leaf-requires-2 c κs =
     let k = c .before .before .before .before in
-    let s = k .before .before .before .before .before in
-    right-holds 0 (now (s .args .rules)) (s .args .a ∷ s .args .b ∷ []) (s .pre .0) (laid-as (left-is k) (k .leaf .ensures .1))
+    let p = s k .pre in
+    (free-sized 0 _ (now (s k .args .rules)) (v (s k)) (p .0) (p .1) (left-own k) (k .leaf .ensures .1), omega (arith, p .1))
 
--- the right value
-right-value : (c : tie.After-g) →
-    let s = c .before .before .before .before .before .before .args in
-    let v = s .a ∷ s .b ∷ [] in
-    back w32 (c .g .result) ≡ getD (rightValues 1 v (node 0 [] (rulesFrom (now (s .rules)) (s .base)) (leftValues 1 v) .sums)) 0 (pos 0)
-unfolding rightValues table
-right-value c =
-    let s = c .before .before .before .before .before .before in
-    let a = back-is w32 (s .args .a) (s .fits .a) in
-    let b = back-is w32 (s .args .b) (s .fits .b) in
-    let first = c .before .leaf .ensures .0 ∙ ap (λ (o : Out). getD (o .sums) 0 0) (left-is (c .before)) in
-    back-is w32 (c .g .result) (record { sfits = c .g .ok }) ∙ c .g .ensures ∙ (λ t. g (a t) (b t) (first t))
+-- after the right leaf
+module _ (r : tie.After-leaf2) where
+  abbrev n : tie.After-g
+  n = r .before .before .before .before
 
--- the right half, by the definition
-right-is : (c : tie.After-leaf2) →
-    let k = c .before .before .before .before in
-    let s = k .before .before .before .before .before .before .args in
-    let v = s .a ∷ s .b ∷ [] in
-    let right = rightValues 1 v (node 0 [] (rulesFrom (now (s .rules)) (s .base)) (leftValues 1 v) .sums) in
-    leaf (ruleAt (now (s .rules)) (s .base + 1)) (back w32 (k .g .result)) ≡ node 0 [] (rulesFrom (now (s .rules)) (s .base + 1)) right
-right-is c =
-    let k = c .before .before .before .before in
-    let s = k .before .before .before .before .before .before .args in
-    free-leaf (now (s .rules)) (s .base + 1) _ (right-value k)
+  abbrev k : tie.After-leaf
+  k = n .before
+
+  right-own : back w32 (n .g .result) ∷ [] ≡ rightValues 1 (v (s k)) (segment (sums k) (s k .args .base) 1)
+  unfolding rightValues table
+  right-own =
+      let base = s k .args .base in
+      let sum = k .leaf .ensures .0 ∙ ap (λ (i : ℕ). getD (sums k) i 0) (sym (add-zero base)) ∙ sym (getD-segment (sums k) base 1 0 0 (omega arith)) in
+      ap (λ (x : ℤ). x ∷ [])
+      (back-is w32 (n .g .result) (record { sfits = n .g .ok }) ∙ n .g .ensures ∙ (λ t. g (first (s k) t) (second (s k) t) (sum t)))
 
 combine-requires : tie.Need-combine-requires
 combine-requires c κs =
     let r = c .before in
-    let k = r .before .before .before .before .before in
-    let s = k .before .before .before .before .before in
-    combine-free 0 (now (s .args .rules)) (s .args .a ∷ s .args .b ∷ []) (s .pre .0) (laid-as (left-is k) (k .leaf .ensures .1)) (laid-as (right-is r) (r .leaf2 .ensures .1))
+    let p = s (k r) .pre in
+    free-combine 0 _ (now (s (k r) .args .rules)) (v (s (k r))) (p .0) (p .1) (left-own (k r)) (k r .leaf .ensures .1) (right-own r) (r .leaf2 .ensures .1)
 
 returns : tie.Need-returns
 returns c =
     let r = c .before .before in
-    let k = r .before .before .before .before .before in
-    let s = k .before .before .before .before .before in
-    (halves-laid 0 (now (s .args .rules)) (s .args .a ∷ s .args .b ∷ []) (s .pre .0) (laid-as (left-is k) (k .leaf .ensures .1)) (laid-as (right-is r) (r .leaf2 .ensures .1)) (c .combine .ensures), refl)
+    let p = s (k r) .pre in
+    free-laid 0 _ (now (s (k r) .args .rules)) (v (s (k r))) (p .0) (p .1) (left-own (k r)) (k r .leaf .ensures .1) (right-own r) (r .leaf2 .ensures .1) refl (c .combine .ensures)
 
 pub decode-two-spec : {M : Type 1} → statement M
 decode-two-spec =
-    tie.close (tie.spec f-requires leaf-requires (λ c. search needs) (λ c. search needs) g-requires leaf-requires-2 (λ c. search needs) combine-requires returns)
+    tie.close
+    (tie.spec
+    f-requires
+    (λ c κs. let p = c .before .before .before .before .pre in (p .0, omega (arith, p .1)))
+    (λ c. search needs)
+    (λ c. search needs)
+    g-requires
+    leaf-requires-2
+    (λ c. search needs)
+    combine-requires
+    returns)

@@ -1,4 +1,4 @@
--- `sc::is_free_four` meets its contract. Assumes nothing.
+-- `sc::is_free_four` meets its contract.
 use mathlib.Core.Path.{sym, ap, _∙_}
 use mathlib.Core.Bool.{Bool, _&&_}
 use borrow.Author.Tests.{eq-eqb, ne-eqb}

@@ -1,26 +1,16 @@
--- `sc::left_values` meets its contract: it fills the half's place, value by value. Assumes nothing.
-use mathlib.Core.Path.{_≡_, refl, ap, ap₂, _∙_}
-use mathlib.Core.List.{List}
-use Prim.Native.Nat.{ℕ, _+_, _-_}
+-- `sc::left_values` meets its contract: each turn reads two of the node's own values.
+use Prim.Native.Nat.{_-_}
 use native.Mathlib.Omega.{arith}
 use borrow.Author.Needs.{needs}
 use denote.Ref.{now}
-use lib.IntN.{ℤ, pos, natAbs}
-use lib.ListN.{getD}
-use mir.Syntax.{w32}
-use Rattle.laws.proofs.Filling.{Filling, filling-none, filling-more}
-use Rattle.laws.proofs.Signed.{back-is}
-use Rattle.sc.specs.Values.{f, leftValues}
-use Rattle.sc.specs.Layers.{nodeValues}
-use Rattle.sc.proofs.Layers.{computed-none, computed-all, first-own, second-own}
+use Rattle.values.specs.Values.{leftValues}
+use Rattle.sc.specs.Contracts.{nodeValues}
+use Rattle.sc.proofs.Layers.{addable-reads, own-reads, Computing, leftAt, computing-none, left-turn, computed-all, computed-none}
 use Rattle.sc.proofs.left_values.Statement.{statement}
 use Rattle.sc.proofs.left_values.Tie as tie
 
-abbrev leftAt : List ℤ → ℕ → ℕ → ℤ
-leftAt work h j = f (getD (nodeValues work h) j (pos 0)) (getD (nodeValues work h) (h + j) (pos 0))
-
 abbrev Inv-loop : tie.InvT-loop
-Inv-loop forced h work₀ steps₀ j₀ work steps j = Filling (leftAt work₀ h) h h work₀ work j × (steps ≡ j)
+Inv-loop forced h work₀ steps₀ j₀ work steps j = Computing (leftAt (nodeValues work₀ h) h) h work₀ work steps j
 
 abbrev μ-loop : tie.MeasureT-loop
 μ-loop forced h work₀ steps₀ j₀ work steps j = h - j
@@ -32,28 +22,21 @@ returns c =
 
 f-requires : tie.Need-f-requires Inv-loop μ-loop
 f-requires c κs =
-    let s = c .before .before .before .before .before in
-    let l = c .before .before .before .loop in
-    let a = first-own (s .pre) (l .inv .0) (omega arith) in
-    let b = second-own (s .pre) (l .inv .0) (omega arith) in
-    let m = s .pre .small in
-    (omega (arith, ap natAbs a, m .at (l .j)), omega (arith, ap natAbs b, m .at (s .args .h + l .j)))
+    let p = c .before .before .before .before .before .pre in
+    let few = addable-reads (omega arith) (p .small) (own-reads p (c .before .before .before .loop .inv .filling) (omega arith)) in
+    (omega (arith, few), omega (arith, few))
 
 loop-again : tie.Need-loop-again Inv-loop μ-loop
 loop-again c =
-    let s = c .before .before .before .before .before .before in
-    let l = c .before .before .before .before .loop in
-    let a = first-own (s .pre) (l .inv .0) (omega arith) in
-    let b = second-own (s .pre) (l .inv .0) (omega arith) in
-    let value = back-is w32 (c .f .result) (record { sfits = c .f .ok }) ∙ c .f .ensures ∙ ap₂ f a b in
-    (filling-more (l .inv .0) _ _ (omega arith) refl value, omega arith)
+    let p = c .before .before .before .before .before .before .pre in
+    let inv = c .before .before .before .before .loop .inv in
+    left-turn (record { sfits = c .f .ok }) (omega arith) inv (own-reads p (inv .filling) (omega arith)) (c .f .ensures)
 
 returns-2 : tie.Need-returns-2 Inv-loop μ-loop
 unfolding leftValues
 returns-2 c =
-    let s = c .before .before .before in
-    let l = c .before .loop in
-    computed-all (c .before .before .if1 .left) (l .inv .0) (l .inv .1) (omega arith) (omega (arith, s .pre .whole, s .pre .fits))
+    let p = c .before .before .before .pre in
+    computed-all (c .before .before .if1 .left) (c .before .loop .inv) (omega arith) (omega (arith, p .whole, p .fits))
 
 pub left-values-spec : {M : Type 1} → statement M
 left-values-spec =
@@ -62,7 +45,7 @@ left-values-spec =
     Inv-loop
     μ-loop
     returns
-    (λ c. (filling-none, refl))
+    (λ c. computing-none)
     (λ c. search needs)
     (λ c. search needs)
     (λ c. search needs)

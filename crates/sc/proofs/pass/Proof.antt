@@ -1,94 +1,80 @@
--- `sc::pass` meets its contract: each need is a law of proofs/Root.antt. Assumes nothing.
-use mathlib.Core.Path.{ap₂, _∙_}
-use Prim.Native.Nat.{ℕ, _+_, _-_, _*_, _/_, _^_, _≤_}
+-- `sc::pass` meets its contract: each need is a law of proofs/Root.antt.
+use mathlib.Core.Path.{ap, ap₂, _∙_}
+use mathlib.Core.List.{List}
+use Prim.Native.Nat.{ℕ, _+_, _-_, _/_, _^_, _<_}
 use native.Mathlib.Omega.{arith}
 use borrow.Author.Needs.{needs}
 use denote.Ref.{now}
 use lib.ListN.{length}
-use lib.Pow.{pow-mono}
-use Rattle.transform.proofs.Halves.{Halving, halving}
-use Rattle.sc.proofs.Root.{pass-forced, root-at, root-half-fits, root-left-at, root-again, root-right-at, root-left-few, root-right-few, passed}
+use Rattle.arrays.specs.Claims.{longest}
+use Rattle.arrays.proofs.Sizes.{fits}
+use Rattle.transform.proofs.Halves.{halving}
+use Rattle.sc.specs.Pass.{plusWork}
+use Rattle.sc.specs.Contracts.{arrays}
+use Rattle.sc.proofs.StepsMost.{steps-of}
+use Rattle.sc.proofs.Root.{pass-forced, Rooted, root-at, root-half, root-left, root-again, root-right, root-few, passed}
 use Rattle.sc.proofs.pass.Statement.{statement}
 use Rattle.sc.proofs.pass.Tie as tie
 
--- the longest code fits the arrays
-fits : (s : tie.Start) → 2 ^ s .args .n ≤ 1024
-fits s = pow-mono (s .pre .n-most)
-
 returns : tie.Need-returns
-returns c = let s = c .before .before in pass-forced (now (s .args .rules)) (s .pre) (fits s) (c .if1 .taken)
+returns c = let s = c .before .before in pass-forced (now (s .args .rules)) (s .pre) (fits (s .pre .n-most)) (c .if1 .taken)
 
--- back from a place to the one after an earlier call
-abbrev left-done : tie.After-decode-node → tie.After-root-left-values
-left-done c = c .before .before .before .before .before
+-- at the root
+module _ (e : tie.Else1) where
+  abbrev s : tie.Start
+  s = e .before .before
 
-abbrev left-node-done : tie.After-root-right-values → tie.After-decode-node
-left-node-done c = c .before .before .before
+  abbrev rules : List ℕ
+  rules = now (s .args .rules)
 
-abbrev right-done : tie.After-decode-node2 → tie.After-root-right-values
-right-done c = c .before .before .before .before .before
-
-two : (c : tie.Else1) → let s = c .before .before .args in Halving (s .n) (length (now (s .channel))) (s .n - 1) (length (now (s .channel)) / 2)
-two c = let p = c .before .before .pre in halving (λ e. omega (arith, p .n-least)) (p .long)
+  root : let t = s .args in let size = length (now (t .channel)) in Rooted longest (t .q) (t .code .n - 1) (size / 2) (t .code) (now (t .channel)) (arrays (now (t .work)) (now (t .bits)) (now (t .sums)) (now (t .leaves)))
+  root = record { pre = s .pre; fits = fits (s .pre .n-most); halving = halving (λ z. omega (arith, s .pre .n-least)) (s .pre .long); less = e .if1 .left }
 
 left-requires : tie.Need-root-left-values-requires
-left-requires c κs =
-    let e = c .before in
-    let s = e .before .before in
-    root-at (now (s .args .rules)) (s .pre) (fits s) (two e) (e .if1 .left)
+left-requires c κs = root-at (rules (c .before)) (root (c .before))
 
 left-node-requires : tie.Need-decode-node-requires
 left-node-requires c κs =
-    let l = c .before .before .before .before in
+    let l = c .before .before .before .before .before in
     let e = l .before .before in
-    let s = e .before .before in
-    let rules = now (s .args .rules) in
-    (root-left-at rules (s .pre) (fits s) (two e) (e .if1 .left) (l .root-left-values .ensures), root-half-fits rules (s .pre) (fits s) (two e) (e .if1 .left))
+    (root-left (rules e) (root e) (l .root-left-values .ensures), root-half (rules e) (root e))
+
+-- after the left half
+module _ (k : tie.After-decode-node) where
+  abbrev l : tie.After-root-left-values
+  l = k .before .before .before .before .before .before
+
+  abbrev e : tie.Else1
+  e = l .before .before
 
 right-requires : tie.Need-root-right-values-requires
 right-requires c κs =
     let k = c .before .before in
-    let l = left-done k in
-    let e = l .before .before in
-    let s = e .before .before in
-    root-again (now (s .args .rules)) (s .pre) (fits s) (two e) (e .if1 .left) (l .root-left-values .ensures) (k .decode-node .ensures)
+    root-again (rules (e k)) (root (e k)) (l k .root-left-values .ensures) (k .decode-node .ensures)
 
 right-node-requires : tie.Need-decode-node-requires-2
 right-node-requires c κs =
-    let r = c .before .before .before .before in
-    let k = left-node-done r in
-    let l = left-done k in
-    let e = l .before .before in
-    let s = e .before .before in
-    let rules = now (s .args .rules) in
-    (root-right-at rules (s .pre) (fits s) (two e) (e .if1 .left) (l .root-left-values .ensures) (k .decode-node .ensures) (r .root-right-values .ensures), root-half-fits rules (s .pre) (fits s) (two e) (e .if1 .left))
+    let r = c .before .before .before .before .before in
+    let k = r .before .before .before in
+    (root-right (rules (e k)) (root (e k)) (l k .root-left-values .ensures) (k .decode-node .ensures) (r .root-right-values .ensures), root-half (rules (e k)) (root (e k)))
 
-few : (c : tie.After-decode-node2) →
-    let r = right-done c in
-    let k = left-node-done r in
-    let l = left-done k in
-    (l .root-left-values .result .steps + k .decode-node .result .steps ≤ 10 * 2 ^ 9) × (r .root-right-values .result .steps + c .decode-node2 .result .steps ≤ 10 * 2 ^ 9)
-few c =
-    let r = right-done c in
-    let k = left-node-done r in
-    let l = left-done k in
-    let e = l .before .before in
-    let s = e .before .before in
-    let rules = now (s .args .rules) in (
-      root-left-few rules (s .pre) (fits s) (two e) (e .if1 .left) (l .root-left-values .ensures) (k .decode-node .ensures) (r .root-right-values .ensures) (c .decode-node2 .ensures),
-      root-right-few rules (s .pre) (fits s) (two e) (e .if1 .left) (l .root-left-values .ensures) (k .decode-node .ensures) (r .root-right-values .ensures) (c .decode-node2 .ensures),
-    )
+-- after the right half
+module _ (n : tie.After-decode-node2) where
+  abbrev r : tie.After-root-right-values
+  r = n .before .before .before .before .before .before
+
+  abbrev k : tie.After-decode-node
+  k = r .before .before .before
+
+  -- the steps of each half are few
+  few : (l k .root-left-values .result .steps + k .decode-node .result .steps < 2 ^ 31) × (r .root-right-values .result .steps + n .decode-node2 .result .steps < 2 ^ 31)
+  few = root-few (rules (e k)) (root (e k)) (l k .root-left-values .ensures) (k .decode-node .ensures) (r .root-right-values .ensures) (n .decode-node2 .ensures)
 
 returns-2 : tie.Need-returns-2
 returns-2 c =
-    let m = c .before .before .before in
-    let r = right-done m in
-    let k = left-node-done r in
-    let l = left-done k in
-    let e = l .before .before in
-    let s = e .before .before in
-    let total = c .plus3 .ensures ∙ ap₂ (λ (x y : ℕ). x + y) (c .before .before .plus .ensures) (c .before .plus2 .ensures) in
-    passed (now (s .args .rules)) (s .pre) (fits s) (two e) (e .if1 .left) (l .root-left-values .ensures) (k .decode-node .ensures) (r .root-right-values .ensures) (m .decode-node2 .ensures) total
+    let n = c .before .before .before in
+    let total = c .plus3 .ensures ∙ ap₂ plusWork (c .before .before .plus .ensures) (c .before .plus2 .ensures) in
+    passed (rules (e (k n))) (root (e (k n))) (l (k n) .root-left-values .ensures) (k n .decode-node .ensures) (r n .root-right-values .ensures) (n .decode-node2 .ensures) total
 
 pub pass-spec : {M : Type 1} → statement M
 pass-spec =
@@ -103,5 +89,5 @@ pass-spec =
     right-node-requires
     (λ c κs. omega (arith, few c))
     (λ c κs. omega (arith, few (c .before)))
-    (λ c κs. omega (arith, c .before .plus .ensures, c .plus2 .ensures, few (c .before .before)))
+    (λ c κs. omega (arith, ap steps-of (c .before .plus .ensures), ap steps-of (c .plus2 .ensures), few (c .before .before)))
     returns-2)

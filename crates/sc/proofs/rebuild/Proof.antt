@@ -1,4 +1,4 @@
--- `sc::rebuild` meets its contract. Assumes nothing.
+-- `sc::rebuild` meets its contract.
 use mathlib.Core.Path.{_≡_, sym, ap, ap₂, _∙_}
 use mathlib.Core.List.{List}
 use Prim.Native.Nat.{ℕ, _^_}
@@ -6,9 +6,10 @@ use native.Mathlib.Omega.{arith}
 use borrow.Author.Needs.{needs}
 use denote.Ref.{now}
 use lib.ListN.{length}
-use Rattle.laws.specs.Segment.{segment, splice}
+use Rattle.laws.specs.Contracts.{splice, segment}
 use Rattle.laws.proofs.Segment.{length-segment, segment-splice, splice-twice}
-use Rattle.transform.specs.Transform.{transformed, BitsAt}
+use Rattle.transform.specs.Transform.{transformed}
+use Rattle.transform.specs.Contracts.{BitsAt}
 use Rattle.transform.proofs.BitsAt.{bits-at-splice}
 use Rattle.transform.proofs.Transformed.{length-transformed}
 use Rattle.sc.proofs.rebuild.Statement.{statement}
@@ -31,12 +32,12 @@ module _ (layer : ℕ) (sums : List ℕ) {room size base : ℕ} {bits sums₁ : 
 
 transform-requires : tie.Need-transform-requires
 transform-requires c κs =
-    let s = c .before .before .before in
+    let s = c .before .before .before .before in
     (s .pre .0, copied (s .args .layer) (now (s .args .sums)) (s .pre .0) (s .pre .1) (s .pre .2) (c .before .copy .ensures))
 
 returns : tie.Need-returns
 returns c =
-    let s = c .before .before .before .before in
+    let s = c .before .before .before .before .before in
     rebuilt (s .args .layer) (now (s .args .sums)) (s .pre .0) (s .pre .1) (s .pre .2) (c .before .before .copy .ensures) (c .transform .ensures)
 
 pub rebuild-spec : {M : Type 1} → statement M

@@ -1,26 +1,16 @@
--- `sc::root_left_values` meets its contract: it fills the half's place, value by value. Assumes nothing.
-use mathlib.Core.Path.{_≡_, refl, ap, ap₂, _∙_}
-use mathlib.Core.List.{List}
-use Prim.Native.Nat.{ℕ, _+_, _-_}
+-- `sc::root_left_values` meets its contract: each turn reads two of the channel's values.
+use Prim.Native.Nat.{_-_}
 use native.Mathlib.Omega.{arith}
 use borrow.Author.Needs.{needs}
 use denote.Ref.{now}
-use lib.IntN.{ℤ, pos, natAbs}
-use lib.ListN.{getD}
-use mir.Syntax.{w32}
-use Rattle.laws.proofs.Filling.{Filling, filling-none, filling-more}
-use Rattle.laws.proofs.Signed.{back-is}
-use Rattle.sc.specs.Values.{f, leftValues}
-use Rattle.sc.specs.Layers.{channelValues}
-use Rattle.sc.proofs.Layers.{computed-none, computed-all, channel-own}
+use Rattle.values.specs.Values.{leftValues}
+use Rattle.channel.specs.Channel.{channelValues}
+use Rattle.sc.proofs.Layers.{Reads, addable-reads, channel-reads, Computing, leftAt, computing-none, left-turn, computed-all, computed-none}
 use Rattle.sc.proofs.root_left_values.Statement.{statement}
 use Rattle.sc.proofs.root_left_values.Tie as tie
 
-abbrev leftAt : List ℕ → ℕ → ℕ → ℤ
-leftAt channel h j = f (getD (channelValues channel) j (pos 0)) (getD (channelValues channel) (h + j) (pos 0))
-
 abbrev Inv-loop : tie.InvT-loop
-Inv-loop forced channel h work₀ steps₀ j₀ work steps j = Filling (leftAt channel h) h h work₀ work j × (steps ≡ j)
+Inv-loop forced channel h work₀ steps₀ j₀ work steps j = Computing (leftAt (channelValues channel) h) h work₀ work steps j
 
 abbrev μ-loop : tie.MeasureT-loop
 μ-loop forced channel h work₀ steps₀ j₀ work steps j = h - j
@@ -30,31 +20,28 @@ returns c =
     let s = c .before .before .args in
     computed-none (leftValues (s .h) (channelValues (now (s .channel)))) (c .if1 .taken)
 
+-- what a turn reads
+module _ (c : tie.After-channel-value2 Inv-loop μ-loop) where
+  abbrev s : tie.Start Inv-loop μ-loop
+  s = c .before .before .before .before .before .before .before .before
+
+  abbrev l : tie.At-loop Inv-loop μ-loop
+  l = c .before .before .before .before .before
+
+  reads : Reads (channelValues (now (s .args .channel))) (s .args .h) (l .loop .j) (c .before .before .channel-value .result) (c .channel-value2 .result)
+  reads = channel-reads (now (s .args .channel)) (s .args .h) (l .loop .j) (s .pre .small) (c .before .before .channel-value .ensures) (c .channel-value2 .ensures)
+
 f-requires : tie.Need-f-requires Inv-loop μ-loop
-f-requires c κs =
-    let s = c .before .before .before .before .before .before .before .before in
-    let l = c .before .before .before .before .before .loop in
-    let m = s .pre .small in
-    let a = channel-own (now (s .args .channel)) m (l .j) (c .before .before .channel-value .ensures) in
-    let b = channel-own (now (s .args .channel)) m (s .args .h + l .j) (c .channel-value2 .ensures) in
-    (omega (arith, ap natAbs a, m .at (l .j)), omega (arith, ap natAbs b, m .at (s .args .h + l .j)))
+f-requires c κs = let few = addable-reads (omega arith) (s c .pre .small) (reads c) in (omega (arith, few), omega (arith, few))
 
 loop-again : tie.Need-loop-again Inv-loop μ-loop
-loop-again c =
-    let s = c .before .before .before .before .before .before .before .before .before in
-    let l = c .before .before .before .before .before .before .loop in
-    let m = s .pre .small in
-    let a = channel-own (now (s .args .channel)) m (l .j) (c .before .before .before .channel-value .ensures) in
-    let b = channel-own (now (s .args .channel)) m (s .args .h + l .j) (c .before .channel-value2 .ensures) in
-    let value = back-is w32 (c .f .result) (record { sfits = c .f .ok }) ∙ c .f .ensures ∙ ap₂ f a b in
-    (filling-more (l .inv .0) _ _ (omega arith) refl value, omega arith)
+loop-again c = left-turn (record { sfits = c .f .ok }) (omega arith) (l (c .before) .loop .inv) (reads (c .before)) (c .f .ensures)
 
 returns-2 : tie.Need-returns-2 Inv-loop μ-loop
 unfolding leftValues
 returns-2 c =
-    let s = c .before .before .before .before in
-    let l = c .before .loop in
-    computed-all (c .before .before .if1 .left) (l .inv .0) (l .inv .1) (omega arith) (omega (arith, s .pre .whole, s .pre .fits))
+    let p = c .before .before .before .before .pre in
+    computed-all (c .before .before .if1 .left) (c .before .loop .inv) (omega arith) (omega (arith, p .whole, p .fits))
 
 pub root-left-values-spec : {M : Type 1} → statement M
 root-left-values-spec =
@@ -63,7 +50,7 @@ root-left-values-spec =
     Inv-loop
     μ-loop
     returns
-    (λ c. (filling-none, refl))
+    (λ c. computing-none)
     (λ c. search needs)
     (λ c κs. search needs)
     (λ c. search needs)

@@ -1,58 +1,46 @@
--- `sc::root_right_values` meets its contract: it fills the half's place, value by value. Assumes nothing.
-use mathlib.Core.Path.{_≡_, refl, sym, ap, _∙_}
-use mathlib.Core.List.{List}
-use Prim.Native.Nat.{ℕ, _+_, _-_}
+-- `sc::root_right_values` meets its contract: each turn reads two of the channel's values and a sum.
+use mathlib.Core.Path.{sym}
+use Prim.Native.Nat.{_-_}
 use native.Mathlib.Omega.{arith}
 use borrow.Author.Needs.{needs}
 use denote.Ref.{now}
-use lib.IntN.{ℤ, pos, natAbs}
-use lib.ListN.{getD}
 use lib.Seq.{getD-take}
-use mir.Syntax.{w32}
-use Rattle.laws.specs.Segment.{segment}
-use Rattle.laws.proofs.Filling.{Filling, filling-none, filling-more}
-use Rattle.laws.proofs.Signed.{back-is}
-use Rattle.sc.specs.Values.{g, rightValues}
-use Rattle.sc.specs.Layers.{channelValues}
-use Rattle.sc.proofs.Layers.{computed, channel-own}
+use Rattle.laws.specs.Contracts.{segment}
+use Rattle.values.specs.Values.{rightValues}
+use Rattle.channel.specs.Channel.{channelValues}
+use Rattle.sc.proofs.Layers.{Reads, addable-reads, channel-reads, Computing, rightAt, computing-none, right-turn, computed}
 use Rattle.sc.proofs.root_right_values.Statement.{statement}
 use Rattle.sc.proofs.root_right_values.Tie as tie
 
-abbrev rightAt : List ℕ → ℕ → List ℕ → ℕ → ℤ
-rightAt channel h sums j = g (getD (channelValues channel) j (pos 0)) (getD (channelValues channel) (h + j) (pos 0)) (getD (segment sums 0 h) j 0)
-
 abbrev Inv-loop : tie.InvT-loop
-Inv-loop channel h sums work₀ steps₀ j₀ work steps j = Filling (rightAt channel h sums) h h work₀ work j × (steps ≡ j)
+Inv-loop channel h sums work₀ steps₀ j₀ work steps j = Computing (rightAt (channelValues channel) (segment sums 0 h) h) h work₀ work steps j
 
 abbrev μ-loop : tie.MeasureT-loop
 μ-loop channel h sums work₀ steps₀ j₀ work steps j = h - j
 
+-- what a turn reads
+module _ (c : tie.After-channel-value2 Inv-loop μ-loop) where
+  abbrev s : tie.Start Inv-loop μ-loop
+  s = c .before .before .before .before .before .before .before
+
+  abbrev l : tie.At-loop Inv-loop μ-loop
+  l = c .before .before .before .before .before
+
+  reads : Reads (channelValues (now (s .args .channel))) (s .args .h) (l .loop .j) (c .before .before .channel-value .result) (c .channel-value2 .result)
+  reads = channel-reads (now (s .args .channel)) (s .args .h) (l .loop .j) (s .pre .small) (c .before .before .channel-value .ensures) (c .channel-value2 .ensures)
+
 g-requires : tie.Need-g-requires Inv-loop μ-loop
-g-requires c κs =
-    let s = c .before .before .before .before .before .before .before .before in
-    let l = c .before .before .before .before .before .before .loop in
-    let m = s .pre .small in
-    let a = channel-own (now (s .args .channel)) m (l .j) (c .before .before .before .channel-value .ensures) in
-    let b = channel-own (now (s .args .channel)) m (s .args .h + l .j) (c .before .channel-value2 .ensures) in
-    omega (arith, ap natAbs a, m .at (l .j), ap natAbs b, m .at (s .args .h + l .j))
+g-requires c κs = addable-reads (omega arith) (s (c .before) .pre .small) (reads (c .before))
 
 loop-again : tie.Need-loop-again Inv-loop μ-loop
 loop-again c =
-    let s = c .before .before .before .before .before .before .before .before .before in
-    let l = c .before .before .before .before .before .before .before .loop in
-    let m = s .pre .small in
-    let a = channel-own (now (s .args .channel)) m (l .j) (c .before .before .before .before .channel-value .ensures) in
-    let b = channel-own (now (s .args .channel)) m (s .args .h + l .j) (c .before .before .channel-value2 .ensures) in
-    let bit = getD-take (s .args .h) (now (s .args .sums)) (l .j) 0 (omega arith) in
-    let value = back-is w32 (c .g .result) (record { sfits = c .g .ok }) ∙ c .g .ensures ∙ (λ t. g (a t) (b t) (sym bit t)) in
-    (filling-more (l .inv .0) _ _ (omega arith) refl value, omega arith)
+    let t = s (c .before .before) .args in
+    let at = l (c .before .before) .loop in
+    right-turn (record { sfits = c .g .ok }) (omega arith) (segment (now (t .sums)) 0 (t .h)) (at .inv) (reads (c .before .before)) (sym (getD-take (t .h) (now (t .sums)) (at .j) 0 (omega arith))) (c .g .ensures)
 
 returns : tie.Need-returns Inv-loop μ-loop
 unfolding rightValues
-returns c =
-    let s = c .before .before .before in
-    let l = c .before .loop in
-    computed (l .inv .0) (l .inv .1) (omega arith) (omega (arith, s .pre .whole, s .pre .fits))
+returns c = let p = c .before .before .before .pre in computed (c .before .loop .inv) (omega arith) (omega (arith, p .whole, p .fits))
 
 pub root-right-values-spec : {M : Type 1} → statement M
 root-right-values-spec =
@@ -60,7 +48,7 @@ root-right-values-spec =
     (tie.spec
     Inv-loop
     μ-loop
-    (λ c. (filling-none, refl))
+    (λ c. computing-none)
     (λ c. search needs)
     (λ c κs. search needs)
     (λ c. search needs)

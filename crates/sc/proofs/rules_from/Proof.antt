@@ -1,4 +1,4 @@
--- `sc::rules_from` meets its contract: a bit of the mask is the rule's byte. Assumes nothing.
+-- `sc::rules_from` meets its contract: a bit of the mask is the rule's byte.
 use mathlib.Core.Path.{_≡_, refl, sym, ap, _∙_}
 use mathlib.Core.Bool.{cond}
 use mathlib.Core.List.{List}
@@ -9,14 +9,16 @@ use denote.Ref.{now}
 use lib.Dec.{eqb}
 use lib.ListN.{length, getD, take}
 use lib.Seq.{getD-take}
-use Rattle.laws.specs.Segment.{table, splice}
+use Rattle.laws.specs.Table.{table}
+use Rattle.laws.specs.Contracts.{splice}
 use Rattle.laws.proofs.Table.{length-table, getD-table}
 use Rattle.laws.proofs.Segment.{segment-splice}
 use Rattle.laws.proofs.Filling.{Filling, filling-none, filling-more, filling-done}
 use Rattle.bits.specs.Mask.{maskBit}
 use Rattle.bits.proofs.Bitwise.{bit-lt}
-use Rattle.sc.specs.Values.{frozen, usual}
-use Rattle.sc.specs.Rules.{ruleOf, maskRule, Ruled}
+use Rattle.values.specs.Values.{frozen, usual, maskRule}
+use Rattle.sc.specs.Contracts.{Ruled}
+use Rattle.values.specs.Contracts.{ruleOf}
 use Rattle.sc.proofs.rules_from.Statement.{statement}
 use Rattle.sc.proofs.rules_from.Tie as tie
 

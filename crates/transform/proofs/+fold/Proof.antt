@@ -1,4 +1,4 @@
--- `transform::fold` meets its contract, half by half. The measure is the layer. Assumes nothing.
+-- `transform::fold` meets its contract, half by half. The measure is the layer.
 use mathlib.Core.Path.{refl}
 use Prim.Native.Nat.{ℕ, _<_}
 use native.Mathlib.Omega.{arith}

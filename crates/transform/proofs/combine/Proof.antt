@@ -1,7 +1,7 @@
--- `transform::combine` meets its contract: of bits, the exclusive-or is theirs. Assumes nothing.
+-- `transform::combine` meets its contract: of bits, the exclusive-or is theirs.
 use mathlib.Core.Path.{ap, _∙_}
 use denote.Ref.{now}
-use Rattle.laws.specs.Segment.{splice}
+use Rattle.laws.specs.Contracts.{splice}
 use Rattle.transform.proofs.BitsAt.{left-half, right-half}
 use Rattle.transform.proofs.Folded.{xorBytes-bits}
 use Rattle.transform.proofs.combine.Statement.{statement}

@@ -1,8 +1,8 @@
--- `transform::transform` meets its contract, by the recursive form of the transform. Assumes nothing.
+-- `transform::transform` meets its contract, by the recursive form of the transform.
 use mathlib.Core.Path.{ap, _∙_}
 use native.Mathlib.Omega.{arith}
 use denote.Ref.{now}
-use Rattle.laws.specs.Segment.{splice}
+use Rattle.laws.specs.Contracts.{splice}
 use Rattle.laws.proofs.Segment.{length-segment}
 use Rattle.transform.proofs.Folded.{folded-bits}
 use Rattle.transform.proofs.transform.Statement.{statement}

@@ -1,4 +1,4 @@
--- `transform::transform_byte` meets its contract: all 256 bytes are computed. Assumes nothing.
+-- `transform::transform_byte` meets its contract: all 256 bytes are computed.
 use mathlib.Core.Path.{_≡_, refl, subst}
 use mathlib.Core.Bool.{Bool, true, false, _&&_, and-eq-true-iff}
 use Prim.Native.Nat.{ℕ, zero, suc, _*_, _%_, _<_}
@@ -8,7 +8,7 @@ use lib.Bits.{bitXor, bitAnd}
 use lib.Dec.{eqb, ltb}
 use Rattle.bits.specs.Bit.{number}
 use Rattle.transform.specs.Transform.{covers, parity}
-use Rattle.transform.specs.Folded.{transformedByte}
+use Rattle.transform.specs.Contracts.{transformedByte}
 use Rattle.transform.proofs.transform_byte.Statement.{statement}
 use Rattle.transform.proofs.transform_byte.Tie as tie
 

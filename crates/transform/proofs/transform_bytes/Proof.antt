@@ -1,11 +1,11 @@
--- `transform::transform_bytes` meets its contract: it fills the array, byte by byte. Assumes nothing.
+-- `transform::transform_bytes` meets its contract: it fills the array, byte by byte.
 use mathlib.Core.Path.{ap, _∙_}
 use Prim.Native.Nat.{_-_}
 use native.Mathlib.Omega.{arith}
 use borrow.Author.Needs.{needs}
 use lib.ListN.{getD}
 use Rattle.laws.proofs.Filling.{Filling, filling-none, filling-more, filling-past, filling-done}
-use Rattle.transform.specs.Folded.{transformedByte}
+use Rattle.transform.specs.Contracts.{transformedByte}
 use Rattle.transform.proofs.transform_bytes.Statement.{statement}
 use Rattle.transform.proofs.transform_bytes.Tie as tie
 

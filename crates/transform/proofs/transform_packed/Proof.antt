@@ -1,16 +1,17 @@
--- `transform::transform_packed` meets its contract: each byte, then all of them folded. Assumes nothing.
+-- `transform::transform_packed` meets its contract: each byte, then all of them folded.
 use mathlib.Core.Path.{_≡_, sym, ap, ap₂, _∙_}
 use mathlib.Core.List.{List}
 use Prim.Native.Nat.{ℕ, _+_, _*_, _^_, _≤_}
 use native.Mathlib.Nat.{zero-add}
 use native.Mathlib.Omega.{arith}
 use lib.ListN.{length, getD}
-use Rattle.laws.specs.Segment.{table, segment, splice}
+use Rattle.laws.specs.Table.{table}
+use Rattle.laws.specs.Contracts.{splice, segment}
 use Rattle.laws.proofs.Segment.{getD-segment, segment-splice, splice-twice, length-splice}
 use Rattle.laws.proofs.Table.{length-table, table-ext}
 use Rattle.bits.specs.Packing.{packed, unpacked}
 use Rattle.transform.specs.Transform.{transformed}
-use Rattle.transform.specs.Folded.{folded, transformedByte, BytesAt}
+use Rattle.transform.specs.Contracts.{BytesAt, transformedByte, folded}
 use Rattle.transform.proofs.Folded.{length-folded}
 use Rattle.transform.proofs.Packed.{folded-packed}
 use Rattle.transform.proofs.transform_packed.Statement.{statement}

@@ -1,4 +1,4 @@
--- `transform::xor_halves` meets its contract: it fills the first half with the exclusive-or of both halves. Assumes nothing.
+-- `transform::xor_halves` meets its contract: it fills the first half with the exclusive-or of both halves.
 use mathlib.Core.Path.{_≡_, sym, ap₂, _∙_}
 use mathlib.Core.List.{List}
 use Prim.Native.Nat.{ℕ, _+_, _-_, _≤_}
@@ -7,10 +7,10 @@ use borrow.Author.Needs.{needs}
 use denote.Ref.{now}
 use lib.Bits.{bitXor}
 use lib.ListN.{getD}
-use Rattle.laws.specs.Segment.{segment}
+use Rattle.laws.specs.Contracts.{segment}
 use Rattle.laws.proofs.Segment.{getD-segment}
 use Rattle.laws.proofs.Filling.{Filling, filling-none, filling-more, filling-past, filling-done}
-use Rattle.transform.specs.Folded.{xorBytes}
+use Rattle.transform.specs.Contracts.{xorBytes}
 use Rattle.transform.proofs.xor_halves.Statement.{statement}
 use Rattle.transform.proofs.xor_halves.Tie as tie
 

@@ -1,10 +1,10 @@
--- `trial::clear_bits` meets its contract: it fills the entries from `at` on, bit by bit. Assumes nothing.
+-- `trial::clear_bits` meets its contract: it fills the entries from `at` on, bit by bit.
 use mathlib.Core.Path.{refl, ap, _∙_}
 use Prim.Native.Nat.{_-_}
 use native.Mathlib.Omega.{arith}
 use borrow.Author.Needs.{needs}
 use denote.Ref.{now}
-use Rattle.laws.specs.Segment.{splice}
+use Rattle.laws.specs.Contracts.{splice}
 use Rattle.laws.proofs.Table.{table-replicate}
 use Rattle.laws.proofs.Filling.{Filling, filling-none, filling-more, filling-done}
 use Rattle.trial.proofs.clear_bits.Statement.{statement}

@@ -1,4 +1,4 @@
--- `trial::first_from` meets its contract. The invariant: no index passed is an information index. Assumes nothing.
+-- `trial::first_from` meets its contract. The invariant: no index passed is an information index.
 use mathlib.Core.Path.{_≡_, sym, ap, _∙_, subst}
 use mathlib.Core.Bool.{Bool, false}
 use mathlib.Core.List.{List}
@@ -12,7 +12,7 @@ use lib.Dec.{eqb}
 use lib.ListN.{length}
 use Rattle.laws.proofs.First.{first-is}
 use Rattle.bits.specs.Mask.{maskBit}
-use Rattle.trial.specs.Trial.{firstFrom}
+use Rattle.trial.specs.Contracts.{firstFrom}
 use Rattle.trial.proofs.first_from.Statement.{statement}
 use Rattle.trial.proofs.first_from.Tie as tie
 

@@ -1,62 +1,49 @@
--- `trial::flip_trial` meets its contract. Assumes nothing.
-use mathlib.Core.Path.{_≡_, refl, sym, ap, _∙_, subst}
-use mathlib.Core.Bool.{Bool}
-use Prim.Native.Nat.{ℕ}
+-- `trial::flip_trial` meets its contract: under a mask and with trial 1's bits, the later trial is that of the definition.
+use mathlib.Core.Path.{_≡_, sym, ap, _∙_, subst}
+use Prim.Native.Nat.{ℕ, _≤_}
+use mathlib.Core.List.{[], _∷_}
 use native.Mathlib.Omega.{arith}
 use borrow.Author.Needs.{needs}
 use denote.Ref.{now}
-use lib.Pow.{pow-mono}
-use Rattle.bits.proofs.Lists.{bits-nil}
-use Rattle.sc.specs.Pass.{Out}
-use Rattle.sc.specs.Layers.{channelValues}
-use Rattle.sc.specs.Arrays.{Arrays}
-use Rattle.trial.specs.Work.{Tried, laterBy}
-use Rattle.trial.proofs.Passes.{full-trial}
+use Rattle.arrays.specs.Claims.{longest}
+use Rattle.arrays.proofs.Sizes.{fits}
+use Rattle.code.specs.Code.{codeLength}
+use Rattle.trial.specs.Trial.{restartAt}
+use Rattle.trial.specs.Contracts.{PlainRules}
+use Rattle.trial.proofs.Restartable.{restartable}
+use Rattle.trial.proofs.Passes.{later-pre, post-from}
+use Rattle.trial.proofs.Rules.{plain-again}
 use Rattle.trial.proofs.flip_trial.Statement.{statement}
 use Rattle.trial.proofs.flip_trial.Tie as tie
 
--- a trial is the other where their definitions are equal
-tried-as : {room n count : ℕ} {o o′ : Out} {a : Arrays} → o ≡ o′ → Tried room n o a count → Tried room n o′ a count
-tried-as {room} {n} {count} {a = a} e t = subst (λ (x : Out). Tried room n x a count) e t
+restart-index-requires : tie.Need-restart-index-requires
+restart-index-requires c κs =
+    let s = c .before .before in
+    let coded = s .pre .1 in
+    (omega (arith, coded .mask-size, fits (coded .n-most)), omega (arith, coded .mask-size, s .pre .2 .below 0 (omega arith)))
 
--- the trial by the kind of later trials
-abbrev by : tie.Start → Bool → Out
-by s restart = laterBy restart (now (s .args .mask)) (s .args .n) (channelValues (now (s .args .channel))) (s .args .i)
+-- where the trial resumes
+module _ (c : tie.After-restart-index) where
+  abbrev s : tie.Start
+  s = c .before .before .before
+
+  q-is : c .restart-index .result ≡ restartAt (s .args .restart) (now (s .args .mask)) (codeLength (s .args .code)) (s .args .i)
+  q-is = c .restart-index .ensures ∙ ap (λ (size : ℕ). restartAt (s .args .restart) (now (s .args .mask)) size (s .args .i)) (s .pre .1 .mask-size)
+
+  q-most : c .restart-index .result ≤ codeLength (s .args .code)
+  q-most = subst (λ (k : ℕ). k ≤ codeLength (s .args .code)) (sym q-is) (restartable (s .pre .2) (s .args .restart) .most)
+
+later-trial-requires : tie.Need-later-trial-requires
+later-trial-requires c κs =
+    let r = c .before .before .before .before .before .before in
+    (s r .pre .0, later-pre (s r .pre .4) (s r .pre .2) (q-most r))
 
 returns : tie.Need-returns
 returns c =
-    let t = c .before .before .before .before .before .before in
-    (tried-as (ap (by (t .before .before .before)) (sym (t .if1 .taken))) (c .restarted-trial .ensures), refl)
-
-full-trial-requires : tie.Need-full-trial-requires
-full-trial-requires c κs =
-    let s = c .before .before .before .before .before .before .before .before in
-    let p = s .pre .0 in (
-      record {
-        n-least = p .n-least;
-        n-most = p .n-most;
-        q-most = omega arith;
-        long = p .long;
-        small = p .small;
-        bits = bits-nil;
-        whole = p .whole;
-      },
-      omega (arith, s .pre .1 .below, pow-mono (p .n-most)),
-      p .plain .whole,
-    )
-
-returns-2 : tie.Need-returns-2
-returns-2 c =
-    let e = c .before .before .before .before .before .before in
-    let s = e .before .before .before in
-    let t = c .full-trial .ensures in
-    (tried-as (full-trial (s .args .n) (s .args .i) (now (s .args .channel)) (now (s .args .rules)) (s .pre .0 .plain) ∙ ap (by s) (sym (e .if1 .left))) (t .0), t .1)
+    let r = c .before .before .before .before .before .before .before in
+    let p = s r .pre in
+    let t = c .later-trial .ensures in
+    (post-from (p .3) (p .4) (s r .args .i ∷ []) (q-is r) (q-most r) (t .0), subst (PlainRules longest (now (s r .args .mask)) (s r .args .code)) (sym (t .1)) (plain-again (p .3) (p .2) (fits (p .1 .n-most))))
 
 pub flip-trial-spec : {M : Type 1} → statement M
-flip-trial-spec =
-    tie.close
-    (tie.spec
-    (λ c κs. search needs)
-    returns
-    full-trial-requires
-    returns-2)
+flip-trial-spec = tie.close (tie.spec restart-index-requires (λ c. search needs) later-trial-requires returns)

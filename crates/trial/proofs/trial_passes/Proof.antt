@@ -1,11 +1,11 @@
--- `trial::trial_passes` meets its contract: the message that was taken out is what the check goes by. Assumes nothing.
+-- `trial::trial_passes` meets its contract: the message that was taken out is what the check goes by.
 use mathlib.Core.Path.{_≡_, sym, ap, _∙_}
-use Prim.Native.Nat.{ℕ, _+_, _^_}
+use Prim.Native.Nat.{ℕ}
 use borrow.Author.Needs.{needs}
 use denote.Ref.{now}
 use lib.ListN.{length, take}
 use lib.Pow.{pow-pos}
-use Rattle.bits.specs.Bit.{bitsOf}
+use Rattle.code.specs.Code.{codeLength, informationCount, divisor, startBits}
 use Rattle.crc.specs.Check.{passes}
 use Rattle.trial.specs.Trial.{messageIn}
 use Rattle.trial.proofs.Message.{length-message, message-at}
@@ -18,9 +18,9 @@ module _ (c : tie.After-take-out) where
   s = c .before .before .before .before .before
 
   abbrev size : ℕ
-  size = s .args .code .k + s .args .code .r
+  size = informationCount (s .args .code)
 
-  taken-is : take size (c .take-out .last .1 .1 .0) ≡ messageIn (now (s .args .mask)) (s .args .code .n) (take (2 ^ s .args .code .n) (now (s .args .bits)))
+  taken-is : take size (c .take-out .last .1 .1 .0) ≡ messageIn (now (s .args .mask)) (s .args .code) (take (codeLength (s .args .code)) (now (s .args .bits)))
   taken-is = message-at (s .pre .0) (now (s .args .bits)) (now (s .args .message)) _ (s .pre .2) (c .take-out .ensures)
 
   taken-length : length (take size (c .take-out .last .1 .1 .0)) ≡ size
@@ -36,7 +36,7 @@ returns : tie.Need-returns
 returns c =
     let t = c .before .before .before .before .before .before in
     let a = s t .args in
-    (c .passes .ensures ∙ ap (passes (bitsOf (a .code .r) (a .code .polynomial)) (bitsOf (a .code .r) 0) (a .code .k)) (taken-is t), taken-is t)
+    (c .passes .ensures ∙ ap (passes (divisor (a .code)) (startBits (a .code)) (a .code .k)) (taken-is t), taken-is t)
 
 pub trial-passes-spec : {M : Type 1} → statement M
 trial-passes-spec =

@@ -1,0 +1,14 @@
+-- What the theorems of this crate state of its definitions.
+use mathlib.Core.List.{List}
+use Prim.Native.Nat.{ℕ, zero, suc, _+_, _<_}
+use lib.Count.{ones}
+use lib.ListN.{getD}
+
+-- the counts of ones in the first m bytes, added up: the same number at m = length mask (`byteCounts-is` of proofs/Mask.antt)
+unfoldable pub byteCounts : List ℕ → ℕ → ℕ
+byteCounts mask zero = 0
+byteCounts mask (suc m) = byteCounts mask m + ones (getD mask m 0)
+
+-- each element is 0 or 1 (past the end `getD` gives 0)
+pub record Bits (xs : List ℕ) : Type 0 where
+  pub at : (i : ℕ) → getD xs i 0 < 2

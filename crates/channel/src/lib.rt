@@ -1,0 +1,46 @@
+// Channel values: bytes in two's complement, their range, and refusals 12 and 13.
+use code::Code;
+use refusal::Judgement;
+use refusal::Refusal;
+ghost use mathlib.Core.Path.{_≡_};
+ghost use Prim.Native.Nat.{_<_, _≤_};
+ghost use Rattle.refusal.specs.Judge.{judge};
+ghost use Rattle.arrays.specs.Sizes.{deepest};
+ghost use Rattle.channel.specs.Channel.{channelValue, firstOutside, channelRefusals};
+
+// A channel byte in two's complement.
+pub fn channel_value(byte: u8) -> i32
+    ensures { λ r. ⌜ r ≡ channelValue byte ⌝ }
+{
+    let x = byte as i32;
+    if byte < 128 { x } else { x - 256 }
+}
+
+// The first index of a channel value outside −31..31, or the channel's length.
+pub fn first_outside(channel: &[u8]) -> usize
+    ensures { λ r. ⌜ r ≡ firstOutside (now (channel .entry)) ⌝ }
+{
+    let mut i = 0;
+    while i < channel.len() {
+        if 31 < values::magnitude(channel_value(channel[i])) {
+            return i;
+        }
+        i += 1;
+    }
+    i
+}
+
+// Refusals 12 and 13.
+pub fn judge_channel(code: Code, channel: &[u8]) -> Judgement
+    requires { ⌜ code .n ≤ deepest ⌝ }
+    ensures { λ j. ⌜ j ≡ judge (channelRefusals code (now (channel .entry))) ⌝ }
+{
+    if channel.len() != 1usize << code.n {
+        return Judgement::Refused(Refusal::Alone(12));
+    }
+    let index = first_outside(channel);
+    if index < channel.len() {
+        return Judgement::Refused(Refusal::At { refusal: 13, index });
+    }
+    Judgement::Fine
+}

@@ -1,0 +1,21 @@
+-- Document 01, "Code description": the numbers of a code. Its n, r, polynomial and k are fields of `Code`.
+use mathlib.Core.List.{List}
+use Prim.Native.Nat.{ℕ, _+_, _^_}
+use Rattle.bits.specs.Bit.{bitsOf}
+use Rattle.code.specs.declared.Code.{Code}
+
+-- N = 2^n
+abbrev pub codeLength : Code → ℕ
+codeLength c = 2 ^ c .n
+
+-- K, the number of information indices: k is K - r
+abbrev pub informationCount : Code → ℕ
+informationCount c = c .k + c .r
+
+-- the check polynomial without z^r, which is understood: bit i of its field is the coefficient of z^i
+abbrev pub divisor : Code → List ℕ
+divisor c = bitsOf (c .r) (c .polynomial)
+
+-- the r coefficients with which the check starts
+abbrev pub startBits : Code → List ℕ
+startBits c = bitsOf (c .r) 0

@@ -1,0 +1,11 @@
+-- Contracts of this crate's own functions. Nothing here need be believed.
+use mathlib.Core.List.{List}
+use Prim.Native.Nat.{ℕ, _≤_}
+use lib.ListN.{length}
+use Rattle.arrays.specs.Claims.{longestBytes}
+use Rattle.bits.specs.Claims.{Bits}
+
+-- a message to be placed by a mask
+pub record PlacePre (mask message : List ℕ) : Type 0 where
+  pub short : length mask ≤ longestBytes
+  pub bits : Bits message

@@ -1,0 +1,57 @@
+-- What the exports for tests promise. Nothing here need be believed.
+use Prim.Native.Nat.{ℕ, _+_, _*_, _^_}
+use mathlib.Core.Bool.{Bool, true, _&&_, cond}
+use mathlib.Core.List.{List, [], _∷_}
+use lib.Dec.{ltb, eqb}
+use lib.ListN.{length, set}
+use lib.Ieee.{Float}
+use Rattle.refusal.specs.declared.Refusal.{Refusal}
+use Rattle.refusal.specs.declared.Refusal.the-variants.{Alone, At}
+use Rattle.refusal.specs.Judge.{numberOf}
+use Rattle.bits.specs.Packing.{bytesFor, packed, unpacked}
+use Rattle.bits.specs.Mask.{maskBit, onesIn}
+use Rattle.code.specs.declared.Description.{Description}
+use Rattle.code.specs.declared.Description.the-variants.{Accepted, Refused}
+use Rattle.quantiser.specs.declared.Quantised.{Quantised}
+use Rattle.quantiser.specs.declared.Quantised.the-variants.{Done, Refused}
+use Rattle.quantiser.specs.Level.{plusZero}
+
+-- a refusal's index, or 0
+abbrev pub indexOf : Refusal → ℕ
+indexOf (Alone i) = 0
+indexOf (At i index) = index
+
+-- bits 0-7 the refusal or 0, 8-15 n, 16-23 r, 24-39 the polynomial, 40-63 k
+abbrev pub descriptionNumber : Description → ℕ
+descriptionNumber (Accepted c) = c .n * 2 ^ 8 + c .r * 2 ^ 16 + c .polynomial * 2 ^ 24 + c .k * 2 ^ 40
+descriptionNumber (Refused x) = numberOf x
+
+-- whether each number is 0 or 1
+abbrev pub allBits : List ℕ → Bool
+allBits [] = true
+allBits (x ∷ xs) = ltb x 2 && allBits xs
+
+-- 0 with the packed bits; 1 with the output as it was for other numbers than bits, or an output of the wrong length
+abbrev pub packing : List ℕ → List ℕ → ℕ × List ℕ
+packing bits bytes = cond (allBits bits && eqb (length bytes) (bytesFor (length bits))) (0, packed bits) (1, bytes)
+
+-- 0 with the bits; 1 with the output as it was where it has room for more bits than there are
+abbrev pub unpacking : List ℕ → List ℕ → ℕ × List ℕ
+unpacking bytes bits = cond (ltb (8 * length bytes) (length bits)) (1, bits) (0, unpacked bytes (length bits))
+
+-- the bit at an index of a mask, or 2 past its end
+abbrev pub bitAt : List ℕ → ℕ → ℕ
+bitAt mask i = cond (ltb i (8 * length mask)) (maskBit mask i) 2
+
+-- how many ones a mask has, or the largest number where it is longer than 65,536 bytes
+abbrev pub onesAnswer : List ℕ → ℕ
+onesAnswer mask = cond (ltb 65536 (length mask)) 0xffff_ffff_ffff_ffff (onesIn mask)
+
+-- the peak, or positive zero for a refusal; at 0 the refusal or 0, at 1 the clipped count, the index or 0
+abbrev pub probeAnswer : Quantised → List ℕ → Float × List ℕ
+probeAnswer (Done s) numbers = (s .peak, set (set numbers 0 0) 1 (s .clipped))
+probeAnswer (Refused x) numbers = (plusZero, set (set numbers 0 (numberOf x)) 1 (indexOf x))
+
+-- the same with the output bytes
+abbrev pub probeAnswerBy : Quantised × List ℕ → List ℕ → (Float × List ℕ) × List ℕ
+probeAnswerBy answer numbers = (probeAnswer (answer .0) numbers, answer .1)

@@ -1,0 +1,5 @@
+pub mod Bounds
+pub mod Favours
+pub mod Lengths
+pub mod Rules
+pub mod Signs

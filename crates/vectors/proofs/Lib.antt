@@ -1,0 +1,6 @@
+pub mod Descriptions
+pub mod Decoding
+pub mod Encoding
+pub mod Receive
+pub mod Resume
+pub mod Starred

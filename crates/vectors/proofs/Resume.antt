@@ -1,0 +1,34 @@
+-- The starred rows of document 01 on resume, by computation.
+use mathlib.Core.Path.{_≡_, refl}
+use mathlib.Core.List.{List, [], _∷_}
+use Prim.Native.Nat.{ℕ}
+use lib.ListN.{replicate}
+use Rattle.laws.specs.First.{firstWhere}
+use Rattle.laws.specs.Table.{table}
+use Rattle.refusal.specs.declared.Refusal.the-variants.{At}
+use Rattle.refusal.specs.Judge.{judge, refusedOr}
+use Rattle.bits.specs.Mask.{onesBelow}
+use Rattle.code.specs.Description.{describe}
+use Rattle.vectors.proofs.Descriptions.{starredD, starredV}
+use Rattle.transform.specs.Transform.{covers, parity, transformed, xors}
+use Rattle.values.specs.Values.{f, g, leftValues, rightValues}
+use Rattle.channel.specs.Channel.{channelValue}
+use Rattle.sc.specs.Pass.{node}
+use Rattle.resume.specs.declared.Resumed.the-variants.{Done, Refused}
+use Rattle.resume.specs.Resume.{resumedBy, resumed}
+
+-- an output of eight bytes
+abbrev output : List ℕ
+output = replicate 8 0x77
+
+-- V with a prefix of six zeros gives eight zero bits in 8 steps; 31 is allowed at index 7, and 32 or -32 there is refused
+abbrev pub StarredResume : Type 0
+StarredResume =
+    (resumed (starredD 0xE8) (starredV 2) (replicate 6 0) output ≡ (Done 8, replicate 8 0))
+    × (resumed (starredD 0xE8) (starredV 31) (replicate 8 0) output ≡ (Done 0, replicate 8 0))
+    × (resumed (starredD 0xE8) (starredV 32) [] output ≡ (Refused (At 13 7), output))
+    × (resumed (starredD 0xE8) (starredV 0xE0) [] output ≡ (Refused (At 13 7), output))
+
+pub starred-resume : StarredResume
+unfolding judge refusedOr table onesBelow describe covers parity transformed xors channelValue f g leftValues rightValues node firstWhere resumedBy resumed
+starred-resume = (refl, refl, refl, refl)

@@ -1,0 +1,21 @@
+//! The sizes of document 01: n lies in `LAYERS`, and the others follow from the largest n.
+
+use std::ops::RangeInclusive;
+
+/// The layers of a code, n.
+pub const LAYERS: RangeInclusive<usize> = 3..=10;
+
+/// The largest n.
+pub const DEEPEST: usize = *LAYERS.end();
+
+/// The longest code, N.
+pub const LONGEST: usize = 1 << DEEPEST;
+
+/// Its bits, packed: the bytes of the longest mask and of the longest codeword.
+pub const LONGEST_BYTES: usize = LONGEST / 8;
+
+/// The steps of one pass.
+pub const MOST_STEPS: usize = DEEPEST * LONGEST;
+
+/// The trials of one call.
+pub const MOST_TRIALS: usize = LONGEST + 1;

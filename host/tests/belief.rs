@@ -1,0 +1,84 @@
+//! What must be believed stands apart: no public promise and no main theorem cites a definition of
+//! a `Claims.antt` or a `Contracts.antt`, and README.md gives the number of lines.
+
+use std::fs;
+
+use host::belief::{Cited, Crates};
+use host::files::repository;
+
+/// The public operations, each with its crate.
+const OPERATIONS: [(&str, &str); 6] = [
+    ("code", "read_description"),
+    ("encoder", "encode"),
+    ("resume", "resume"),
+    ("flip", "decode_full"),
+    ("flip", "decode_restarted"),
+    ("quantiser", "quantise"),
+];
+
+/// What `receive` prints, and the statements of the main theorems.
+const DEFINITIONS: [(&str, &str); 5] = [
+    ("records", "responded"),
+    ("lines", "cutLine"),
+    ("lines", "endLine"),
+    ("demands", "Demand3"),
+    ("demands", "NoiselessDecoding"),
+];
+
+/// One sitting.
+const MOST_LINES: usize = 480;
+
+fn crates() -> Crates {
+    Crates::read(&repository().join("crates")).expect("the crates")
+}
+
+/// All that promises and main theorems cite.
+fn cited(crates: &Crates) -> Cited {
+    let mut cited = Cited::default();
+    for (of, name) in OPERATIONS {
+        crates.cite_function(of, name, &mut cited);
+    }
+    let exports = crates.exports("polar");
+    assert!(!exports.is_empty());
+    for name in exports {
+        crates.cite_function("polar", &name, &mut cited);
+    }
+    for (of, name) in DEFINITIONS {
+        match crates.definition(of, name) {
+            Some(definition) => crates.cite("this test", definition, &mut cited),
+            None => cited.faults.push(format!("{of}: {name} is not found")),
+        }
+    }
+    cited
+}
+
+#[test]
+fn promises_cite_only_what_is_to_be_believed() {
+    let faults = cited(&crates()).faults;
+    assert!(faults.is_empty(), "\n{}\n", faults.join("\n"));
+}
+
+/// Not wrong, but more to read: definitions that promises and main theorems do without.
+#[test]
+fn definitions_that_no_promise_needs() {
+    let crates = crates();
+    for name in crates.others(&cited(&crates).names) {
+        println!("no promise needs {name}");
+    }
+}
+
+#[test]
+fn one_sitting_is_enough() {
+    let lines = crates().lines();
+    println!("{lines} lines of definitions");
+    assert!(lines <= MOST_LINES, "{lines} lines of definitions");
+}
+
+#[test]
+fn the_readme_gives_the_number_of_lines() {
+    let text = fs::read_to_string(repository().join("README.md")).expect("README.md");
+    let words: Vec<&str> = text.split_whitespace().collect();
+    let lines = crates().lines();
+    let sentence = format!("What must be believed is {lines} lines of definitions");
+    assert!(words.join(" ").contains(&sentence), "no `{sentence}`");
+}

@@ -1,0 +1,172 @@
+//! The largest n stands in one place of each language, and what follows from it is named and not
+//! spelt out.
+
+use std::fs;
+use std::path::Path;
+
+use host::description::LONGEST_DESCRIPTION;
+use host::files::repository;
+use host::sizes::{DEEPEST, LAYERS, LONGEST};
+
+/// The largest n, the longest code, its mask, its steps and trials, as they could be spelt out.
+const SPELT: [&str; 13] = [
+    "3 10", "3, 10", "≤ 10", "..=10", "10 * 2 ^", "2 ^ 9", "2 ^ 10", "128", "1023", "1024", "1025",
+    "10240", "10496000",
+];
+
+/// Lines that may say so: where their path starts, and what they have.
+const ALLOWED: [(&str, &str); 16] = [
+    // the one place of each language, and this test
+    ("crates/arrays/src/lib.rt", ""),
+    ("crates/arrays/specs/Sizes.antt", ""),
+    ("host/src/sizes.rs", ""),
+    ("host/tests/sizes.rs", ""),
+    // bytes in two's complement, and bytes whose highest bit is set or clear
+    ("crates/channel/", "128"),
+    ("crates/quantiser/proofs/", "128"),
+    ("crates/bits/proofs/packed_byte/", "byte < 128"),
+    ("crates/placing/proofs/placed_byte/", "byte < 128"),
+    ("host/src/channel.rs", "128"),
+    ("host/tests/", "127, 128"),
+    ("host/tests/", "[2, 3, 128,"),
+    // other codes and other things
+    ("host/src/simulation.rs", "k: 128"),
+    ("host/tests/simulation.rs", "nearest(&rows, 128, "),
+    ("host/src/stack.rs", "KIB: usize = 1024"),
+    ("host/src/streams.rs", "128"),
+    ("host/src/streams.rs", "Random::new(1024)"),
+];
+
+/// A line without the marks that may stand between digits.
+fn plain(line: &str) -> String {
+    let chars: Vec<char> = line.chars().collect();
+    let is_digit = |index: usize| chars.get(index).is_some_and(char::is_ascii_digit);
+    let is_mark = |index: usize| {
+        index > 0 && "_,".contains(chars[index]) && is_digit(index - 1) && is_digit(index + 1)
+    };
+    let kept = (0..chars.len()).filter(|&index| !is_mark(index));
+    kept.map(|index| chars[index]).collect()
+}
+
+/// Whether a line has a text that is no part of a longer word or number.
+fn has(line: &str, text: &str) -> bool {
+    let is_part = |c: char| c.is_alphanumeric() || c == '_';
+    line.match_indices(text).any(|(start, _)| {
+        let mut after = line[start + text.len()..].chars();
+        let next = after.next().unwrap_or(' ');
+        let is_float = next == '.' && after.next().is_some_and(|c| c.is_ascii_digit());
+        !line[..start].ends_with(is_part) && !is_part(next) && !is_float
+    })
+}
+
+/// What a line spells out, if its file may not.
+fn spelt(path: &str, line: &str) -> Option<&'static str> {
+    let allows = |(start, text): &(&str, &str)| path.starts_with(start) && line.contains(text);
+    let line_is_allowed = ALLOWED.iter().any(allows);
+    let plain = plain(line);
+    let found = SPELT.into_iter().find(|text| has(&plain, text));
+    found.filter(|_| !line_is_allowed)
+}
+
+/// The files below a folder whose names have one of these ends, as paths from the repository.
+fn files(folder: &str, ends: &[&str]) -> Vec<String> {
+    let mut files = Vec::new();
+    for entry in fs::read_dir(repository().join(folder)).expect("a folder") {
+        let entry = entry.expect("an entry");
+        let path = format!("{folder}/{}", entry.file_name().to_string_lossy());
+        if entry.file_type().expect("a type").is_dir() {
+            files.extend(self::files(&path, ends));
+        } else if Path::new(&path)
+            .extension()
+            .is_some_and(|of| ends.iter().any(|end| of == *end))
+        {
+            files.push(path);
+        }
+    }
+    files
+}
+
+fn text(path: &str) -> String {
+    fs::read_to_string(repository().join(path)).unwrap_or_else(|_| panic!("no {path}"))
+}
+
+#[test]
+fn sizes_are_named_and_not_spelt_out() {
+    let mut paths = files("crates", &["rt", "antt"]);
+    for folder in ["src", "tests", "plain", "bench"] {
+        paths.extend(files(&format!("host/{folder}"), &["rs", "c", "h"]));
+    }
+    let mut found = Vec::new();
+    for path in paths {
+        for (index, line) in text(&path).lines().enumerate() {
+            if let Some(spelt) = spelt(&path, line) {
+                found.push(format!(
+                    "{path}:{} spells `{spelt}`: {}",
+                    index + 1,
+                    line.trim()
+                ));
+            }
+        }
+    }
+    assert!(
+        found.is_empty(),
+        "name these as crates/arrays or host/src/sizes.rs do, or allow them in host/tests/sizes.rs \
+         where they mean something else:\n{}",
+        found.join("\n")
+    );
+}
+
+#[test]
+fn the_largest_n_is_the_same_everywhere() {
+    let with_comma = format!("{},{:03}", LONGEST / 1000, LONGEST % 1000);
+    let least = LAYERS.start();
+    let said = [
+        (
+            "crates/arrays/src/lib.rt",
+            format!("DEEPEST: u32 = {DEEPEST};"),
+        ),
+        (
+            "crates/arrays/specs/Sizes.antt",
+            format!("deepest = {DEEPEST}\n"),
+        ),
+        ("host/plain/src/lib.rs", format!("DEEPEST: u8 = {DEEPEST};")),
+        (
+            "host/bench/plain/code.h",
+            format!("#define DEEPEST {DEEPEST}\n"),
+        ),
+        ("include/polar.h", format!("n outside {least}..{DEEPEST} ")),
+        ("include/polar.h", format!("at most {with_comma};")),
+        (
+            "include/polar.h",
+            format!("at most {LONGEST_DESCRIPTION} bytes"),
+        ),
+        ("README.md", format!("n lies outside {least}..{DEEPEST} ")),
+    ];
+    for (path, words) in said {
+        assert!(text(path).contains(&words), "{path} does not say `{words}`");
+    }
+}
+
+#[test]
+fn what_is_spelt_is_found() {
+    for line in [
+        "length mask ≤ 128",
+        "[0; 1_024]",
+        "at most 1,024 bits",
+        "inside n 3 10",
+    ] {
+        assert!(spelt("crates/sc/proofs/A.antt", line).is_some(), "{line}");
+    }
+    for line in [
+        "≤ 102",
+        "1024.0",
+        "x1024",
+        "1 << 20",
+        "between(3, 7)",
+        "13 10",
+    ] {
+        assert_eq!(spelt("crates/sc/proofs/A.antt", line), None, "{line}");
+    }
+    assert_eq!(spelt("crates/channel/src/lib.rt", "byte < 128"), None);
+    assert_eq!(spelt("crates/channel/src/lib.rt", "n ≤ 10"), Some("≤ 10"));
+}
