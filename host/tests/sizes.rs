@@ -23,7 +23,7 @@ const ALLOWED: [(&str, &str); 16] = [
     ("host/tests/sizes.rs", ""),
     // bytes in two's complement, and bytes whose highest bit is set or clear
     ("crates/channel/", "128"),
-    ("crates/quantiser/proofs/", "128"),
+    ("crates/level/proofs/", "128"),
     ("crates/bits/proofs/packed_byte/", "byte < 128"),
     ("crates/placing/proofs/placed_byte/", "byte < 128"),
     ("host/src/channel.rs", "128"),

@@ -11,19 +11,19 @@ use Rattle.code.specs.declared.Description.the-variants.{Accepted as Coding}
 use Rattle.code.specs.Description.{maskOf, describe}
 use Rattle.code.proofs.Facts.{described}
 use Rattle.channel.specs.Channel.{channelValues}
-use Rattle.sc.specs.Pass.{Out}
+use Rattle.tree.specs.Node.{Out}
 use Rattle.trial.specs.Trial.{messageIn, trialPasses}
-use Rattle.flip.specs.declared.Plan.{Plan}
-use Rattle.flip.specs.declared.Decoded.{Decoded}
-use Rattle.flip.specs.declared.Decoded.the-variants.{Accepted, Failed}
-use Rattle.flip.specs.Trials.{flipOrder, trials, Verdict, passed, failed, run}
-use Rattle.flip.specs.Decode.{answerOf, decodedBy, decodedWith}
-use Rattle.flip.specs.WellFormed.{WellFormed}
+use Rattle.run.specs.declared.Plan.{Plan}
+use Rattle.run.specs.declared.Decoded.{Decoded}
+use Rattle.run.specs.declared.Decoded.the-variants.{Accepted, Failed}
+use Rattle.run.specs.Trials.{flipOrder, trials, Verdict, passed, failed, run, answerOf}
+use Rattle.run.specs.WellFormed.{WellFormed}
+use Rattle.run.proofs.FlipOrder.{length-order}
+use Rattle.flip.specs.Decode.{decodedBy, decodedWith}
+use Rattle.flip.proofs.WellFormed.{answer-well-formed, decoded-by}
 use Rattle.demands.specs.Claims.{PassedAt, AllFailed, Ends}
-use Rattle.flip.proofs.FlipOrder.{length-order}
 use Rattle.demands.proofs.Trials.{length-trials}
 use Rattle.demands.proofs.Run.{run-ends}
-use Rattle.flip.proofs.WellFormed.{answer-well-formed, decoded-by}
 
 -- A decoder under an accepted description, by any plan: `decodedFull` and `decodedRestarted` are two such.
 module _ (plan : Plan) (d : List ℕ) (c : Code) (channel output : List ℕ) (code : describe d ≡ Coding c) where

@@ -15,19 +15,19 @@ use Rattle.code.specs.Code.{codeLength}
 use Rattle.code.specs.Description.{maskOf, describe}
 use Rattle.code.proofs.Facts.{described}
 use Rattle.channel.specs.Channel.{channelValues}
-use Rattle.sc.specs.Pass.{Out}
+use Rattle.tree.specs.Node.{Out}
 use Rattle.trial.specs.declared.Restart.{Restart}
 use Rattle.trial.specs.Trial.{messageIn, trialPasses}
-use Rattle.flip.specs.declared.Decoded.the-variants.{Accepted, Failed}
-use Rattle.flip.specs.Trials.{flipOrder, trials, Verdict, passed, failed, run}
-use Rattle.flip.specs.Decode.{answerOf, planOf, decodedWith}
-use Rattle.flip.specs.WellFormed.{WellFormed}
+use Rattle.run.specs.declared.Decoded.the-variants.{Accepted, Failed}
+use Rattle.run.specs.Trials.{flipOrder, trials, Verdict, passed, failed, run, answerOf}
+use Rattle.run.specs.WellFormed.{WellFormed}
+use Rattle.run.proofs.FlipOrder.{length-order}
+use Rattle.flip.specs.Decode.{planOf, decodedWith}
+use Rattle.flip.proofs.WellFormed.{well-formed-answer, decoded-by}
 use Rattle.demands.specs.Demand3.{flippedIn}
 use Rattle.demands.specs.Claims.{stepsOf, Ends, SameButSteps, skippedBy, Compare}
-use Rattle.flip.proofs.FlipOrder.{length-order}
 use Rattle.demands.proofs.Trials.{length-trials, take-trials, same-trials, steps-trials}
 use Rattle.demands.proofs.Run.{run-ends, run-same}
-use Rattle.flip.proofs.WellFormed.{well-formed-answer, decoded-by}
 
 -- one restart
 module _ (restart : Restart) (d : List ℕ) (c : Code) (channel : List ℕ) (limit : ℕ) (output : List ℕ)

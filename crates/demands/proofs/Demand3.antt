@@ -6,7 +6,7 @@ use native.Mathlib.Omega.{arith}
 use Rattle.code.specs.declared.Code.{Code}
 use Rattle.code.specs.Description.{maskOf}
 use Rattle.channel.specs.Channel.{channelValues}
-use Rattle.sc.proofs.Steps.{skipped-none}
+use Rattle.tree.proofs.Steps.{skipped-none}
 use Rattle.trial.specs.declared.Restart.the-variants.{Root, After}
 use Rattle.demands.specs.Demand3.{flippedIn, skippedOver, Demand3}
 use Rattle.demands.specs.Claims.{skippedBy}

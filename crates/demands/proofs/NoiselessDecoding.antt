@@ -33,17 +33,18 @@ use Rattle.encoder.specs.declared.Encoded.the-variants.{Done}
 use Rattle.encoder.specs.Encode.{messageOf, codeword, encoded}
 use Rattle.encoder.proofs.Message.{length-message, bits-message}
 use Rattle.encoder.proofs.Codeword.{unpacked-codeword, EncodedFrom, encoded-from}
-use Rattle.sc.proofs.Steps.{steps-whole}
-use Rattle.sc.proofs.Noiseless.{Signs, Carries, noiseless}
+use Rattle.tree.proofs.Steps.{steps-whole}
+use Rattle.tree.proofs.Noiseless.{Signs, Carries, noiseless}
 use Rattle.trial.specs.declared.Restart.{Restart}
 use Rattle.trial.specs.declared.Restart.the-variants.{Root, After}
 use Rattle.trial.specs.Trial.{firstTrial, messageIn, trialPasses}
-use Rattle.flip.specs.declared.Decoded.the-variants.{Accepted}
-use Rattle.flip.specs.Decode.{answerOf, planOf, decodedWith}
-use Rattle.flip.specs.WellFormed.{WellFormed}
+use Rattle.run.specs.declared.Decoded.the-variants.{Accepted}
+use Rattle.run.specs.Trials.{answerOf}
+use Rattle.run.specs.WellFormed.{WellFormed}
+use Rattle.flip.specs.Decode.{planOf, decodedWith}
+use Rattle.flip.proofs.WellFormed.{well-formed-answer, decoded-by}
 use Rattle.demands.specs.Noiseless.{Received, NoiselessDecoding}
 use Rattle.demands.proofs.Run.{run-first}
-use Rattle.flip.proofs.WellFormed.{well-formed-answer, decoded-by}
 
 -- an index carries the bit that is placed at it
 carries : (mask message : List ℕ) (size i : ℕ) → i < size → Carries (maskRule mask i) (getD (placed mask message size) i 0)

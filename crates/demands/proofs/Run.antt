@@ -8,8 +8,8 @@ use native.Mathlib.Numerals.{add-one}
 use native.Mathlib.Omega.{arith}
 use lib.ListN.{length, getD, length-map}
 use Rattle.laws.proofs.Indices.{lt-cases}
-use Rattle.sc.specs.Pass.{Out}
-use Rattle.flip.specs.Trials.{Verdict, passed, failed, run}
+use Rattle.tree.specs.Node.{Out}
+use Rattle.run.specs.Trials.{Verdict, passed, failed, run}
 use Rattle.demands.specs.Claims.{bitsOfEach, bitsOfTrial, PassedAt, Ends, SameButSteps}
 
 -- ---- one run

@@ -16,10 +16,10 @@ use Rattle.code.specs.declared.Description.the-variants.{Accepted as Coding, Re
 use Rattle.code.specs.Description.{describe}
 use Rattle.code.proofs.Facts.{described}
 use Rattle.trial.specs.declared.Restart.{Restart}
-use Rattle.flip.specs.declared.Decoded.{Decoded}
-use Rattle.flip.specs.declared.Decoded.the-variants.{Accepted, Failed, Refused}
+use Rattle.run.specs.declared.Decoded.{Decoded}
+use Rattle.run.specs.declared.Decoded.the-variants.{Accepted, Failed, Refused}
 use Rattle.flip.specs.Decode.{decodingRefusals, planOf, decodedWith}
-use Rattle.flip.specs.WellFormed.{WellFormed}
+use Rattle.run.specs.WellFormed.{WellFormed}
 use Rattle.flip.proofs.WellFormed.{fine-well-formed, description-refused, code-refused}
 use Rattle.demands.proofs.Compare.{compare}
 

@@ -9,19 +9,19 @@ use lib.Seq.{getD-take, take-take}
 use Rattle.code.specs.declared.Code.{Code}
 use Rattle.code.specs.Code.{codeLength}
 use Rattle.values.specs.Values.{maskRule}
-use Rattle.sc.specs.Pass.{Out}
-use Rattle.sc.proofs.Steps.{steps-whole}
+use Rattle.tree.specs.Node.{Out}
+use Rattle.tree.proofs.Steps.{steps-whole}
 use Rattle.trial.specs.declared.Restart.{Restart}
 use Rattle.trial.specs.Trial.{firstTrial, laterTrial}
 use Rattle.trial.specs.Claims.{Flips}
 use Rattle.trial.proofs.Restartable.{restartable}
 use Rattle.trial.proofs.Agree.{same-bits, steps-from}
-use Rattle.flip.specs.declared.Plan.{Plan}
-use Rattle.flip.specs.Trials.{flipOrder, trials}
+use Rattle.run.specs.declared.Plan.{Plan}
+use Rattle.run.specs.Trials.{flipOrder, trials}
+use Rattle.run.proofs.FlipOrder.{order-flips}
 use Rattle.flip.specs.Decode.{planOf}
 use Rattle.demands.specs.Demand3.{flippedIn}
 use Rattle.demands.specs.Claims.{bitsOfEach, stepsOf, skippedBy}
-use Rattle.flip.proofs.FlipOrder.{order-flips}
 
 take-map : {A B : Type 0} (f : A → B) (m : ℕ) (xs : List A) → take m (map f xs) ≡ map f (take m xs)
 take-map f zero xs = refl

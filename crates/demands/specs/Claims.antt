@@ -9,12 +9,12 @@ use Rattle.code.specs.declared.Code.{Code}
 use Rattle.code.specs.Code.{codeLength}
 use Rattle.code.specs.Description.{maskOf}
 use Rattle.channel.specs.Channel.{channelValues}
-use Rattle.sc.specs.Pass.{Out}
-use Rattle.sc.specs.Skipped.{skipped}
+use Rattle.tree.specs.Node.{Out}
+use Rattle.tree.specs.Skipped.{skipped}
 use Rattle.trial.specs.declared.Restart.{Restart}
 use Rattle.trial.specs.Trial.{restartAt}
-use Rattle.flip.specs.declared.Decoded.the-variants.{Accepted, Failed}
-use Rattle.flip.specs.Trials.{Verdict, passed, failed}
+use Rattle.run.specs.declared.Decoded.the-variants.{Accepted, Failed}
+use Rattle.run.specs.Trials.{Verdict, passed, failed}
 use Rattle.flip.specs.Decode.{planOf, decodedWith}
 use Rattle.demands.specs.Demand3.{flippedIn}
 

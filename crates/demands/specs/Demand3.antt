@@ -10,11 +10,11 @@ use Rattle.code.specs.declared.Description.the-variants.{Accepted as Coding}
 use Rattle.code.specs.Code.{codeLength}
 use Rattle.code.specs.Description.{maskOf, describe}
 use Rattle.channel.specs.Channel.{channelValues}
-use Rattle.sc.specs.Skipped.{skipped}
+use Rattle.tree.specs.Skipped.{skipped}
 use Rattle.trial.specs.Trial.{resumeAt}
-use Rattle.flip.specs.declared.Decoded.the-variants.{Accepted, Failed}
-use Rattle.flip.specs.Trials.{flipOrder}
-use Rattle.flip.specs.WellFormed.{WellFormed}
+use Rattle.run.specs.declared.Decoded.the-variants.{Accepted, Failed}
+use Rattle.run.specs.Trials.{flipOrder}
+use Rattle.run.specs.WellFormed.{WellFormed}
 use Rattle.flip.specs.Decode.{decodedFull, decodedRestarted}
 
 -- the flipped indices of the trials made after the first

@@ -14,8 +14,8 @@ use Rattle.values.specs.Values.{hard}
 use Rattle.channel.specs.Channel.{channelValue}
 use Rattle.encoder.specs.declared.Encoded.the-variants.{Done}
 use Rattle.encoder.specs.Encode.{encoded}
-use Rattle.flip.specs.declared.Decoded.the-variants.{Accepted}
-use Rattle.flip.specs.WellFormed.{WellFormed}
+use Rattle.run.specs.declared.Decoded.the-variants.{Accepted}
+use Rattle.run.specs.WellFormed.{WellFormed}
 use Rattle.flip.specs.Decode.{decodedFull, decodedRestarted}
 
 -- `size` channel values with the signs of the bits of a packed codeword, and none of them zero

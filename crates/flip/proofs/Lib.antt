@@ -1,4 +1,1 @@
-pub mod FlipOrder
 pub mod WellFormed
-pub mod LoopInvariant
-pub mod LoopStep

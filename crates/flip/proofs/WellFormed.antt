@@ -19,12 +19,12 @@ use Rattle.code.specs.Description.{maskOf, describe, onDescription}
 use Rattle.channel.specs.Channel.{channelValues, channelRefusals}
 use Rattle.channel.proofs.Judge.{channel-fine, fine-channel}
 use Rattle.trial.specs.Trial.{trialPasses}
-use Rattle.flip.specs.declared.Plan.{Plan}
-use Rattle.flip.specs.declared.Decoded.{Decoded}
-use Rattle.flip.specs.declared.Decoded.the-variants.{Accepted, Failed, Refused}
-use Rattle.flip.specs.Trials.{trials, Verdict, run}
-use Rattle.flip.specs.Decode.{runRefusals, decodingRefusals, answerOf, decodedBy, decodedWith}
-use Rattle.flip.specs.WellFormed.{WellFormed}
+use Rattle.run.specs.declared.Plan.{Plan}
+use Rattle.run.specs.declared.Decoded.{Decoded}
+use Rattle.run.specs.declared.Decoded.the-variants.{Accepted, Failed, Refused}
+use Rattle.run.specs.Trials.{trials, Verdict, run, answerOf}
+use Rattle.flip.specs.Decode.{runRefusals, decodingRefusals, decodedBy, decodedWith}
+use Rattle.run.specs.WellFormed.{WellFormed}
 
 module _ (plan : Plan) (c : Code) (channel output : List ℕ) where
   pub well-formed-fine : WellFormed c channel (plan .limit) output → judge (decodingRefusals plan c channel output) ≡ Fine

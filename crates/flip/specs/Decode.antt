@@ -2,22 +2,22 @@
 use mathlib.Core.Bool.{Bool}
 use mathlib.Core.List.{List, [], _∷_, _++_}
 use Prim.Native.Nat.{ℕ, _+_}
-use lib.ListN.{length, take}
+use lib.ListN.{length}
 use Rattle.refusal.specs.declared.Refusal.{Refusal}
 use Rattle.refusal.specs.declared.Refusal.the-variants.{Alone}
 use Rattle.refusal.specs.Judge.{differs, outside, judge, refusedOr}
-use Rattle.bits.specs.Packing.{bytesFor, packed}
+use Rattle.bits.specs.Packing.{bytesFor}
 use Rattle.code.specs.declared.Code.{Code}
 use Rattle.code.specs.Code.{informationCount}
 use Rattle.code.specs.Description.{maskOf, describe, onDescription}
 use Rattle.channel.specs.Channel.{channelValues, channelRefusals}
 use Rattle.trial.specs.declared.Restart.{Restart}
 use Rattle.trial.specs.declared.Restart.the-variants.{Root, After}
-use Rattle.trial.specs.Trial.{messageIn, trialPasses}
-use Rattle.flip.specs.declared.Plan.{Plan}
-use Rattle.flip.specs.declared.Decoded.{Decoded}
-use Rattle.flip.specs.declared.Decoded.the-variants.{Accepted, Failed, Refused}
-use Rattle.flip.specs.Trials.{trials, Verdict, passed, failed, run}
+use Rattle.trial.specs.Trial.{trialPasses}
+use Rattle.run.specs.declared.Plan.{Plan}
+use Rattle.run.specs.declared.Decoded.{Decoded}
+use Rattle.run.specs.declared.Decoded.the-variants.{Refused}
+use Rattle.run.specs.Trials.{trials, run, answerOf}
 
 -- 14 the trial limit is outside 1..K + 1; 15 the output is not of the packed payload's size
 abbrev pub runRefusals : Plan → Code → List ℕ → List (Bool × Refusal)
@@ -29,11 +29,6 @@ runRefusals plan c output =
 -- refusals 12 to 15, each test beside its refusal
 abbrev pub decodingRefusals : Plan → Code → List ℕ → List ℕ → List (Bool × Refusal)
 decodingRefusals plan c channel output = channelRefusals c channel ++ runRefusals plan c output
-
--- acceptance writes the packed payload; refusal 16 carries the trials made and writes nothing
-abbrev pub answerOf : List ℕ → Code → List ℕ → Verdict → Decoded × List ℕ
-answerOf mask c output (passed trial steps bits) = (Accepted trial steps, packed (take (c .k) (messageIn mask c bits)))
-answerOf mask c output (failed made steps) = (Failed made steps, output)
 
 -- the answer and the bytes that the output holds afterwards, for a code: a refusal writes nothing
 unfoldable pub decodedBy : Plan → List ℕ → Code → List ℕ → List ℕ → Decoded × List ℕ

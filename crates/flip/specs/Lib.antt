@@ -1,4 +1,1 @@
-pub mod Trials
 pub mod Decode
-pub mod WellFormed
-pub mod Contracts

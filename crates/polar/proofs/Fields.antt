@@ -1,18 +1,8 @@
--- The parts of a number do not overlap.
-use native.Mathlib.Omega.{arith}
-use Rattle.polar.specs.Number.{Parts}
-use Rattle.polar.specs.Contracts.{Fitting}
-use Rattle.polar.specs.Claims.{ReadBack, Read}
+-- Every answer of every export is read back from its number.
 use Rattle.trial.specs.declared.Restart.the-variants.{Root, After}
+use Rattle.number.proofs.Fields.{number-fields}
+use Rattle.polar.specs.Claims.{ReadBack}
 use Rattle.polar.proofs.Fitting.{encoded-fits, resumed-fits, decoded-fits}
-
-pub number-fields : (p : Parts) → Fitting p → Read p
-number-fields p f = record {
-  fits = omega (arith, f .refusal-fits, f .value-fits, f .steps-fits);
-  refusal-is = omega (arith, f .refusal-fits);
-  value-is = omega (arith, f .refusal-fits, f .value-fits);
-  steps-is = omega (arith, f .refusal-fits, f .value-fits);
-}
 
 pub read-back : ReadBack
 read-back = (

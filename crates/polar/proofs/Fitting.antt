@@ -1,5 +1,5 @@
 -- Each part of an answer fits its place in the number.
-use mathlib.Core.Path.{_≡_, refl, sym, subst}
+use mathlib.Core.Path.{_≡_, refl}
 use mathlib.Core.Bool.{Bool, true, false}
 use mathlib.Core.List.{List}
 use Prim.Native.Nat.{ℕ, _^_, _≤_, _<_}
@@ -27,32 +27,28 @@ use Rattle.code.proofs.Facts.{described}
 use Rattle.values.specs.Values.{maskRule}
 use Rattle.channel.specs.Channel.{channelValues, firstOutside}
 use Rattle.encoder.specs.Encode.{encodingRefusals, encodedBy, encoded}
-use Rattle.sc.proofs.StepsMost.{steps-most}
+use Rattle.tree.proofs.StepsMost.{steps-most}
 use Rattle.resume.specs.Resume.{firstBad, resumingRefusals, resumedBy, resumed}
-use Rattle.flip.specs.declared.Decoded.{Decoded}
-use Rattle.flip.specs.declared.Plan.{Plan}
 use Rattle.trial.specs.declared.Restart.{Restart}
 use Rattle.trial.specs.Trial.{trialPasses}
-use Rattle.flip.specs.Trials.{trials, Verdict, passed, failed, run}
-use Rattle.flip.specs.Decode.{decodingRefusals, answerOf, planOf, decodedBy, decodedWith}
+use Rattle.run.specs.declared.Decoded.{Decoded}
+use Rattle.run.specs.declared.Plan.{Plan}
+use Rattle.run.specs.Trials.{trials, Verdict, passed, failed, run, answerOf}
+use Rattle.flip.specs.Decode.{decodingRefusals, planOf, decodedBy, decodedWith}
 use Rattle.demands.proofs.StepBounds.{Bounded, decoded-bounded}
-use Rattle.polar.specs.Number.{Parts, parts, refusalParts, encodedParts, resumedParts, decodedParts}
-use Rattle.polar.specs.Contracts.{Fitting}
+use Rattle.number.specs.Number.{Parts, parts, refusalParts, encodedParts, resumedParts, decodedParts}
+use Rattle.number.specs.Contracts.{Fitting}
 
 -- an answer beside the output's bytes
 abbrev pub Fits : {A : Type 0} → (A → Parts) → A × List ℕ → Type 0
 Fits partsOf answer = Fitting (partsOf (answer .0))
-
--- the parts of its case, once a match has told it
-pub case-fits : {A : Type 0} (partsOf : A → Parts) {a b : A} {bytes : List ℕ} {defined : A × List ℕ} → Fits partsOf defined → (a, bytes) ≡ defined → a ≡ b → Fitting (partsOf b)
-case-fits {A} partsOf f promise told = subst (λ (x : A). Fitting (partsOf x)) told (subst (Fits partsOf) (sym promise) f)
 
 fitting : {refusal value steps : ℕ} → refusal < 2 ^ 8 → value < 2 ^ 24 → steps < 2 ^ 32 → Fitting (parts refusal value steps)
 fitting r v s = record { refusal-fits = r; value-fits = v; steps-fits = s }
 
 -- ---- the refusals of a list of tests
 
-abbrev pub RefusalFits : Refusal → Type 0
+abbrev RefusalFits : Refusal → Type 0
 RefusalFits x = Fitting (refusalParts x)
 
 alone : {i : ℕ} → i < 2 ^ 8 → RefusalFits (Alone i)

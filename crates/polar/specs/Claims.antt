@@ -1,34 +1,13 @@
 -- What the theorems of this crate state of its definitions.
-use Prim.Native.Nat.{ℕ, _%_, _^_, _/_, _<_}
-use mathlib.Core.Path.{_≡_}
+use Prim.Native.Nat.{ℕ}
 use mathlib.Core.List.{List}
-use Rattle.polar.specs.Number.{Parts, number, encodedParts, resumedParts, decodedParts}
 use Rattle.encoder.specs.Encode.{encoded}
 use Rattle.resume.specs.Resume.{resumed}
 use Rattle.flip.specs.Decode.{decodedFull, decodedRestarted}
+use Rattle.number.specs.Number.{encodedParts, resumedParts, decodedParts}
+use Rattle.number.specs.Claims.{Read}
 
--- bits 0-7, 8-31 and 32-63 of a number, as POLAR_REFUSAL, POLAR_VALUE and POLAR_STEPS of include/polar.h take them
-abbrev pub refusalIn : ℕ → ℕ
-refusalIn x = x % 2 ^ 8
-
-abbrev pub valueIn : ℕ → ℕ
-valueIn x = x / 2 ^ 8 % 2 ^ 24
-
-abbrev pub stepsIn : ℕ → ℕ
-stepsIn x = x / 2 ^ 32
-
--- x is a 64-bit number with these parts
-pub record Fields (p : Parts) (x : ℕ) : Type 0 where
-  pub fits : x < 2 ^ 64
-  pub refusal-is : refusalIn x ≡ p .refusal
-  pub value-is : valueIn x ≡ p .value
-  pub steps-is : stepsIn x ≡ p .steps
-
--- the number of these parts gives them back
-abbrev pub Read : Parts → Type 0
-Read p = Fields p (number p)
-
--- the number of every answer of every export does: `read-back` of proofs/Fields.antt
+-- the number of every answer of every export gives its parts back: `read-back` of proofs/Fields.antt
 abbrev pub ReadBack : Type 0
 ReadBack =
     ((d payload output : List ℕ) → Read (encodedParts (encoded d payload output .0)))

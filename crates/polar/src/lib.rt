@@ -1,43 +1,18 @@
 // The codec for host firmware in C; include/polar.h has the prototypes.
-use encoder::Encoded;
-use flip::Decoded;
-use refusal::Refusal;
-use resume::Resumed;
+use number::decoded_answer;
+use number::encoded_answer;
+use number::resumed_answer;
 ghost use mathlib.Core.Path.{_≡_};
-ghost use Prim.Native.Nat.{_<_, _^_};
 ghost use Rattle.encoder.specs.Encode.{encoded};
 ghost use Rattle.resume.specs.Resume.{resumed};
 ghost use Rattle.flip.specs.Decode.{decodedFull, decodedRestarted};
-ghost use Rattle.polar.specs.Number.{parts, number, numbered, refusalParts, encodedParts, resumedParts, decodedParts};
-ghost use Rattle.polar.specs.Contracts.{Fitting};
-
-// The number that comes back: refusal, then trial or index, then steps.
-fn answer(refusal: u8, value: u64, steps: u64) -> u64
-    requires { ⌜ number (parts refusal value steps) < 2 ^ 64 ⌝ }
-    ensures { λ x. ⌜ x ≡ number (parts refusal value steps) ⌝ }
-{
-    refusal as u64 + value * 0x100 + steps * 0x1_0000_0000
-}
-
-// The number of a refusal.
-fn refusal_answer(refused: Refusal) -> u64
-    requires { ⌜ Fitting (refusalParts refused) ⌝ }
-    ensures { λ x. ⌜ x ≡ number (refusalParts refused) ⌝ }
-{
-    match refused {
-        Refusal::Alone(i) => answer(i, 0, 0),
-        Refusal::At { refusal, index } => answer(refusal, index as u64, 0),
-    }
-}
+ghost use Rattle.number.specs.Number.{numbered, encodedParts, resumedParts, decodedParts};
 
 #[no_mangle]
 pub extern "C" fn polar_encode(description: &[u8], payload: &[u8], codeword: &mut [u8]) -> u64
     ensures { λ x. ⌜ (x, now (codeword .exit)) ≡ numbered encodedParts (encoded (now (description .entry)) (now (payload .entry)) (now (codeword .entry))) ⌝ }
 {
-    match encoder::encode(description, payload, codeword) {
-        Encoded::Done => answer(0, 0, 0),
-        Encoded::Refused(x) => refusal_answer(x),
-    }
+    encoded_answer(encoder::encode(description, payload, codeword))
 }
 
 #[no_mangle]
@@ -49,22 +24,7 @@ pub extern "C" fn polar_resume(
 ) -> u64
     ensures { λ x. ⌜ (x, now (bits .exit)) ≡ numbered resumedParts (resumed (now (description .entry)) (now (channel .entry)) (now (prefix .entry)) (now (bits .entry))) ⌝ }
 {
-    match resume::resume(description, channel, prefix, bits) {
-        Resumed::Done { steps } => answer(0, 0, steps as u64),
-        Resumed::Refused(x) => refusal_answer(x),
-    }
-}
-
-// The number of a decoder's answer.
-fn decoded_answer(decoded: Decoded) -> u64
-    requires { ⌜ Fitting (decodedParts decoded) ⌝ }
-    ensures { λ x. ⌜ x ≡ number (decodedParts decoded) ⌝ }
-{
-    match decoded {
-        Decoded::Accepted { trial, steps } => answer(0, trial as u64, steps as u64),
-        Decoded::Failed { trials, steps } => answer(16, trials as u64, steps as u64),
-        Decoded::Refused(x) => refusal_answer(x),
-    }
+    resumed_answer(resume::resume(description, channel, prefix, bits))
 }
 
 #[no_mangle]

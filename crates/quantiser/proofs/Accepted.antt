@@ -12,16 +12,16 @@ use Rattle.refusal.specs.declared.Judgement.{Judgement}
 use Rattle.refusal.specs.declared.Judgement.the-variants.{Fine, Refused as Refusing}
 use Rattle.refusal.specs.Judge.{judge, refusedOr}
 use Rattle.channel.specs.Channel.{channelValue, byteOf}
+use Rattle.level.specs.Level.{plusZero, magnitude, level}
+use Rattle.level.proofs.Levels.{channel-byte, level-le}
 use Rattle.quantiser.specs.declared.Summary.{Summary}
 use Rattle.quantiser.specs.declared.Quantised.{Quantised}
 use Rattle.quantiser.specs.declared.Quantised.the-variants.{Done, Refused}
-use Rattle.quantiser.specs.Level.{plusZero, magnitude, level}
 use Rattle.quantiser.specs.Quantise.{product, peakOf, clippedOf, bytes, quantisingRefusals, accepted, quantised}
 use Rattle.quantiser.specs.Claims.{WellFormed}
 use Rattle.quantiser.proofs.Numbers.{admitted-number}
 use Rattle.quantiser.proofs.WellFormed.{fine-well-formed}
 use Rattle.quantiser.proofs.Totals.{Under, peak-above, peak-reached}
-use Rattle.quantiser.proofs.Levels.{channel-byte, level-le}
 
 -- the peak of n products: positive zero for none, else one of the magnitudes, and none exceeds it
 pub record Peak (p : ℕ → Float) (n : ℕ) (peak : Float) : Type 0 where

@@ -6,9 +6,9 @@ use lib.Ieee.{Float, binary32, ofBits, mul, lt, isNan}
 use Rattle.laws.specs.First.{firstWhere}
 use Rattle.laws.specs.Table.{table}
 use Rattle.refusal.specs.Judge.{judge, refusedOr}
+use Rattle.level.specs.Level.{magnitude, quarters, whole, level, isClipped}
 use Rattle.quantiser.specs.declared.Quantised.{Quantised}
 use Rattle.quantiser.specs.declared.Quantised.the-variants.{Done}
-use Rattle.quantiser.specs.Level.{magnitude, quarters, whole, level, isClipped}
 use Rattle.quantiser.specs.Quantise.{larger, peakOf, clippedOf, validScale, quantised}
 
 -- 0.125, −0.125, 0.375, 7.8125 and 7.875

@@ -1,3 +1,2 @@
-pub mod Level
 pub mod Quantise
 pub mod Claims

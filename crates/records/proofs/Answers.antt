@@ -4,10 +4,10 @@ use mathlib.Core.List.{List}
 use Prim.Native.Nat.{ℕ, _≤_}
 use native.Mathlib.Omega.{arith}
 use lib.ListN.{length, take}
-use Rattle.records.specs.declared.Response.{Response}
-use Rattle.records.specs.Contracts.{RespondPost}
 use Rattle.lines.specs.Contracts.{PutPost}
 use Rattle.lines.proofs.Putting.{length-put, take-put}
+use Rattle.records.specs.declared.Response.{Response}
+use Rattle.records.specs.Contracts.{RespondPost}
 
 abbrev response : ℕ → ℕ → Response
 response line held = record { line = line; held = held }

@@ -1,13 +1,11 @@
--- Contracts of this crate's own functions. Nothing here need be believed.
+-- What only contracts below the public operations cite. Nothing here need be believed.
 use mathlib.Core.Path.{_≡_}
 use mathlib.Core.List.{List}
 use Prim.Native.Nat.{ℕ, _≤_}
 use lib.ListN.{length, take}
-use Rattle.records.specs.declared.Response.{Response}
 use Rattle.code.specs.Description.{word}
+use Rattle.records.specs.declared.Response.{Response}
 use Rattle.records.specs.declared.Header.{Header}
-use Rattle.flip.specs.declared.Decoded.{Decoded}
-use Rattle.records.specs.Respond.{answerLine}
 
 -- what `respond` asks: a record with its header, as much held as its buffer has, and room for the longest description and line
 pub record RespondPre (longest line-size : ℕ) (held : List ℕ) (size : ℕ) (bytes line : List ℕ) : Type 0 where
@@ -25,7 +23,3 @@ pub record RespondPost (answer : List ℕ × List ℕ) (line held : List ℕ) (r
 -- a record starts with its length, counting itself, then its kind
 abbrev pub headerOf : List ℕ → Header
 headerOf bytes = record { length = word bytes 0; kind = word bytes 2 }
-
--- the line of a decoder's answer and of the output that it left
-abbrev pub lineOfAnswer : Decoded × List ℕ → List ℕ
-lineOfAnswer answer = answerLine (answer .0) (answer .1)

@@ -20,11 +20,12 @@ use Rattle.code.specs.Code.{codeLength}
 use Rattle.values.specs.Values.{maskRule}
 use Rattle.channel.specs.Channel.{channelValues}
 use Rattle.channel.proofs.Outside.{all-inside}
-use Rattle.sc.specs.declared.Work.{Work}
-use Rattle.sc.specs.Pass.{Out, node}
-use Rattle.sc.specs.Contracts.{Ruled, ruleAt, Arrays, arrays, PassPre, passOf, PassPost}
-use Rattle.sc.proofs.Node.{length-bits}
-use Rattle.sc.proofs.Restart.{rules-below}
+use Rattle.tree.specs.declared.Work.{Work}
+use Rattle.tree.specs.Node.{Out, node}
+use Rattle.tree.proofs.Node.{length-bits}
+use Rattle.tree.proofs.Restart.{rules-below}
+use Rattle.node.specs.Contracts.{ruleAt, Arrays, arrays}
+use Rattle.sc.specs.Contracts.{Ruled, PassPre, passOf, PassPost}
 use Rattle.resume.specs.Resume.{badBit, firstBad, resumePass}
 use Rattle.resume.specs.Contracts.{ResumePre}
 

@@ -14,7 +14,7 @@ use Rattle.code.specs.Code.{codeLength}
 use Rattle.code.specs.Description.{maskOf, describe, onDescription}
 use Rattle.values.specs.Values.{maskRule}
 use Rattle.channel.specs.Channel.{channelValues, channelRefusals}
-use Rattle.sc.specs.Pass.{Out, node}
+use Rattle.tree.specs.Node.{Out, node}
 use Rattle.resume.specs.declared.Resumed.{Resumed}
 use Rattle.resume.specs.declared.Resumed.the-variants.{Done, Refused}
 

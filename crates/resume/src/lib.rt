@@ -4,7 +4,7 @@ use code::Code;
 use code::Description;
 use refusal::Judgement;
 use refusal::Refusal;
-use sc::Work;
+use tree::Work;
 ghost use mathlib.Core.Path.{_≡_};
 ghost use Prim.Native.Nat.{_*_, _≤_};
 ghost use lib.ListN.{length};

@@ -10,6 +10,8 @@ use lib.IntN.{ℤ}
 use lib.ListN.{length, take, drop}
 use Rattle.laws.specs.Contracts.{splice, segment}
 use Rattle.laws.proofs.Segment.{drop-past, segment-splice}
+use Rattle.arrays.specs.Sizes.{deepest}
+use Rattle.arrays.proofs.Sizes.{fits, steps-fit, loudest}
 use Rattle.bits.specs.Claims.{Bits}
 use Rattle.bits.proofs.Lists.{bits-take, bits-drop}
 use Rattle.transform.specs.Transform.{xors}
@@ -19,16 +21,17 @@ use Rattle.values.specs.Values.{rightValues, leftValues}
 use Rattle.values.specs.Claims.{Within}
 use Rattle.values.proofs.Lengths.{length-right, length-left}
 use Rattle.values.proofs.Bounds.{within-more, within-right, within-left}
-use Rattle.arrays.specs.Sizes.{deepest}
-use Rattle.arrays.proofs.Sizes.{fits, steps-fit, loudest}
-use Rattle.sc.specs.declared.Work.{Work}
-use Rattle.sc.specs.Pass.{plusWork}
-use Rattle.sc.specs.Claims.{most}
-use Rattle.sc.specs.Contracts.{ValuesPost, computedUnless, ValuesPre, nodeValues, addable, Arrays, arrays, resultsOf, Whole, forcedBits, nodeOf, Placed, NodePre, NodePost}
-use Rattle.sc.proofs.Bounds.{most-below}
-use Rattle.sc.proofs.Layers.{computed-whole, computed-kept}
-use Rattle.sc.proofs.StepsMost.{steps-of, left-most}
-use Rattle.sc.proofs.Halves as by-halves
+use Rattle.tree.specs.declared.Work.{Work}
+use Rattle.tree.specs.Node.{plusWork}
+use Rattle.tree.specs.Claims.{most}
+use Rattle.tree.specs.Contracts.{computedUnless}
+use Rattle.tree.proofs.Bounds.{most-below}
+use Rattle.tree.proofs.StepsMost.{steps-of, left-most}
+use Rattle.halves.specs.Contracts.{ValuesPost, ValuesPre, nodeValues, addable}
+use Rattle.halves.proofs.Layers.{computed-whole, computed-kept}
+use Rattle.node.specs.Contracts.{Arrays, arrays, resultsOf, Whole, forcedBits, nodeOf, Placed}
+use Rattle.node.proofs.Halves as by-halves
+use Rattle.sc.specs.Contracts.{NodePre, NodePost}
 
 -- ---- two halves
 

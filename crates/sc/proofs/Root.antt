@@ -11,18 +11,21 @@ use lib.Pow.{pow-pos}
 use lib.Seq.{take-take, length-take-le}
 use Rattle.laws.specs.Contracts.{splice, segment}
 use Rattle.laws.proofs.Segment.{splice-nil, splice-segment}
+use Rattle.arrays.specs.Sizes.{deepest}
 use Rattle.bits.specs.Claims.{Bits}
-use Rattle.transform.proofs.Halves.{Halving}
-use Rattle.values.specs.Values.{Rule, rightValues, leftValues}
 use Rattle.code.specs.declared.Code.{Code}
 use Rattle.code.specs.Code.{codeLength}
-use Rattle.sc.specs.declared.Work.{Work}
-use Rattle.sc.specs.Pass.{workOf, plusWork, Out, node}
-use Rattle.sc.specs.Contracts.{ruleAt, RootPre, computedUnless, ValuesPost, Arrays, arrays, forcedBits, NodePre, nodeOf, NodePost, PassPre, passOf, PassPost}
-use Rattle.channel.specs.Channel.{channelValues}
-use Rattle.arrays.specs.Sizes.{deepest}
-use Rattle.sc.proofs.Node.{node-forced}
+use Rattle.transform.proofs.Halves.{Halving}
+use Rattle.values.specs.Values.{Rule, rightValues, leftValues}
 use Rattle.values.proofs.Bounds.{within-more}
+use Rattle.channel.specs.Channel.{channelValues}
+use Rattle.tree.specs.declared.Work.{Work}
+use Rattle.tree.specs.Node.{workOf, plusWork, Out, node}
+use Rattle.tree.specs.Contracts.{computedUnless}
+use Rattle.tree.proofs.Node.{node-forced}
+use Rattle.halves.specs.Contracts.{RootPre, ValuesPost}
+use Rattle.node.specs.Contracts.{ruleAt, Arrays, arrays, forcedBits, nodeOf}
+use Rattle.sc.specs.Contracts.{NodePre, NodePost, PassPre, passOf, PassPost}
 use Rattle.sc.proofs.Recursion.{left-at, whole₂, whole₄, right-at, placed, left-few, right-few}
 
 module _ {room q : ℕ} {c : Code} {channel : List ℕ} {a : Arrays} (rules : List ℕ) (p : PassPre room c q channel a) (fits : codeLength c ≤ room) where

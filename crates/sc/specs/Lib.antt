@@ -1,4 +1,1 @@
-pub mod Pass
-pub mod Skipped
-pub mod Claims
 pub mod Contracts

@@ -13,12 +13,12 @@ use Rattle.bits.specs.Mask.{maskBit}
 use Rattle.code.specs.declared.Code.{Code}
 use Rattle.code.specs.Code.{codeLength}
 use Rattle.values.specs.Values.{maskRule}
-use Rattle.sc.specs.Skipped.{skipped}
-use Rattle.sc.proofs.Node.{Short, length-bits}
-use Rattle.sc.proofs.Causality.{bits-before, leaf-at}
-use Rattle.sc.proofs.Restart.{restart-bits, restart-leaves}
-use Rattle.sc.proofs.RestartFlip.{begins-flipped}
-use Rattle.sc.proofs.Steps.{steps-and-skipped, skipped-mono}
+use Rattle.tree.specs.Skipped.{skipped}
+use Rattle.tree.proofs.Node.{Short, length-bits}
+use Rattle.tree.proofs.Causality.{bits-before, leaf-at}
+use Rattle.tree.proofs.Restart.{restart-bits, restart-leaves}
+use Rattle.tree.proofs.RestartFlip.{begins-flipped}
+use Rattle.tree.proofs.Steps.{steps-and-skipped, skipped-mono}
 use Rattle.trial.specs.Trial.{firstTrial, flipRule, lowest, forcedPrefix, trialFrom}
 use Rattle.trial.specs.Claims.{Flips, Restartable, leafAt}
 use Rattle.trial.proofs.Flips.{lowest-usual, lowest-opposite, rule-before, rule-zero}

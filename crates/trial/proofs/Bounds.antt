@@ -7,8 +7,8 @@ use Rattle.bits.proofs.Lists.{bits-nil}
 use Rattle.code.specs.declared.Code.{Code}
 use Rattle.code.specs.Code.{codeLength}
 use Rattle.values.specs.Values.{maskRule}
-use Rattle.sc.proofs.StepsMost.{steps-most}
-use Rattle.sc.proofs.Sums.{bits-bits}
+use Rattle.tree.proofs.StepsMost.{steps-most}
+use Rattle.tree.proofs.Sums.{bits-bits}
 use Rattle.trial.specs.Trial.{firstTrial, flipRule, lowest, forcedPrefix, trialFrom}
 use Rattle.trial.proofs.Prefix.{bits-forced}
 

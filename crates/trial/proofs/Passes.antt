@@ -14,11 +14,12 @@ use Rattle.code.specs.declared.Code.{Code}
 use Rattle.code.specs.Code.{codeLength}
 use Rattle.values.specs.Values.{Rule, opposite, maskRule}
 use Rattle.channel.specs.Channel.{channelValues}
-use Rattle.sc.specs.declared.Work.{Work}
-use Rattle.sc.specs.Pass.{Out, node}
-use Rattle.sc.specs.Contracts.{Ruled, ruleAt, Arrays, arrays, Whole, PassPre, passOf, PassPost}
-use Rattle.sc.proofs.Node.{length-bits, length-leaves}
-use Rattle.sc.proofs.Restart.{rules-below}
+use Rattle.tree.specs.declared.Work.{Work}
+use Rattle.tree.specs.Node.{Out, node}
+use Rattle.tree.proofs.Node.{length-bits, length-leaves}
+use Rattle.tree.proofs.Restart.{rules-below}
+use Rattle.node.specs.Contracts.{ruleAt, Arrays, arrays, Whole}
+use Rattle.sc.specs.Contracts.{Ruled, PassPre, passOf, PassPost}
 use Rattle.trial.specs.Trial.{firstTrial, member, flipRule, lowest, forcedPrefix, trialFrom}
 use Rattle.trial.specs.Claims.{Flips}
 use Rattle.trial.specs.Contracts.{Below, setAll, trialBy, PlainRules, TrialPre, LaterTrialPre, FirstBits, TrialPost, FirstTrialPost}

@@ -7,7 +7,7 @@ use lib.ListN.{length, getD, take, replicate, length-append, length-take, length
 use lib.Seq.{take-all, take-take, take-append-le, getD-take}
 use Rattle.bits.specs.Claims.{Bits}
 use Rattle.bits.proofs.Lists.{bits-nil, bits-cons, bits-append, bits-take}
-use Rattle.sc.proofs.RestartFlip.{flipped, length-flipped}
+use Rattle.tree.proofs.RestartFlip.{flipped, length-flipped}
 use Rattle.trial.specs.Trial.{forcedPrefix}
 
 module _ (b : List ℕ) (i q : ℕ) where

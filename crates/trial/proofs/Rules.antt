@@ -13,7 +13,7 @@ use Rattle.code.specs.Code.{codeLength}
 use Rattle.values.specs.Values.{usual, opposite, maskRule}
 use Rattle.values.specs.Contracts.{ruleOf}
 use Rattle.values.proofs.Rules.{rule-usual}
-use Rattle.sc.specs.Contracts.{ruleAt}
+use Rattle.node.specs.Contracts.{ruleAt}
 use Rattle.trial.specs.Trial.{member}
 use Rattle.trial.specs.Claims.{Flips}
 use Rattle.trial.specs.Contracts.{Below, setAll, PlainRules}

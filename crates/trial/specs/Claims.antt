@@ -8,7 +8,7 @@ use lib.Dec.{ltb}
 use lib.IntN.{ℤ, pos}
 use lib.ListN.{length, getD}
 use Rattle.bits.specs.Mask.{maskBit}
-use Rattle.sc.specs.Pass.{Out}
+use Rattle.tree.specs.Node.{Out}
 use Rattle.trial.specs.Trial.{lowest}
 
 -- q, the first information index above i, or N, here `size`: no information index lies between, and q is one or `size`. `resume-at` of
@@ -26,7 +26,8 @@ pub record Flips (mask : List ℕ) (size : ℕ) (is : List ℕ) : Type 0 where
   pub information : (a : ℕ) → a < length is → maskBit mask (getD is a 0) ≡ 1
   pub ascending : (a b : ℕ) → a < b → b < length is → getD is a 0 < getD is b 0
 
--- where a trial with these flips may resume (`restartable` of proofs/Restartable.antt says that both restarts do): at its lowest flipped index or below, or past it while only frozen indices lie between
+-- where a trial with these flips may resume: at its lowest flipped index or below, or past it while only frozen indices lie between.
+-- `restartable` of proofs/Restartable.antt says that both restarts do.
 pub record Restartable (mask : List ℕ) (size : ℕ) (is : List ℕ) (q : ℕ) : Type 0 where
   pub most : q ≤ size
   pub between : (j : ℕ) → lowest is < j → j < q → maskBit mask j ≡ 0

@@ -1,4 +1,4 @@
--- Contracts of this crate's own functions. Nothing here need be believed.
+-- What only contracts below the public operations cite. Nothing here need be believed.
 use mathlib.Core.Path.{_≡_}
 use mathlib.Core.Bool.{cond}
 use mathlib.Core.List.{List, [], _∷_}
@@ -7,19 +7,20 @@ use lib.IntN.{ℤ}
 use lib.ListN.{length, getD, take, set}
 use lib.Dec.{eqb}
 use Rattle.laws.specs.Contracts.{segment}
-use Rattle.bits.specs.Claims.{Bits}
+use Rattle.laws.specs.First.{firstWhere}
 use Rattle.arrays.specs.Sizes.{deepest}
+use Rattle.bits.specs.Claims.{Bits}
+use Rattle.bits.specs.Mask.{maskBit}
 use Rattle.code.specs.declared.Code.{Code}
 use Rattle.code.specs.Code.{codeLength}
 use Rattle.values.specs.Values.{opposite, maskRule}
 use Rattle.values.specs.Claims.{Within}
 use Rattle.channel.specs.Channel.{channelValues}
-use Rattle.sc.specs.declared.Work.{Work}
-use Rattle.sc.specs.Pass.{Out, node}
-use Rattle.sc.specs.Contracts.{ruleAt, Ruled, Arrays, Whole}
+use Rattle.tree.specs.declared.Work.{Work}
+use Rattle.tree.specs.Node.{Out, node}
+use Rattle.node.specs.Contracts.{ruleAt, Arrays, Whole}
+use Rattle.sc.specs.Contracts.{Ruled}
 use Rattle.trial.specs.Trial.{firstTrial, member, lowest, forcedPrefix}
-use Rattle.laws.specs.First.{firstWhere}
-use Rattle.bits.specs.Mask.{maskBit}
 
 -- the rule of each index of a plain pass, in an array of `room` entries
 pub record PlainRules (room : ℕ) (mask : List ℕ) (c : Code) (rules : List ℕ) : Type 0 where

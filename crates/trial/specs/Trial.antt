@@ -12,7 +12,7 @@ use Rattle.code.specs.Code.{codeLength, divisor, startBits}
 use Rattle.crc.specs.Check.{passes}
 use Rattle.placing.specs.Place.{taken}
 use Rattle.values.specs.Values.{Rule, opposite, maskRule}
-use Rattle.sc.specs.Pass.{Out, node}
+use Rattle.tree.specs.Node.{Out, node}
 use Rattle.trial.specs.declared.Restart.{Restart}
 use Rattle.trial.specs.declared.Restart.the-variants.{Root, After}
 

@@ -1,15 +1,16 @@
 -- Magnitudes: left values are no larger than the node's own, right values at most twice as large.
 use mathlib.Core.Path.{_≡_, refl}
 use mathlib.Core.Bool.{Bool, true, false, cond}
-use Prim.Native.Nat.{ℕ, min, _+_, _≤_, zero, suc}
+use Prim.Native.Nat.{ℕ, min, _+_, _^_, _<_, _≤_, zero, suc}
 use lib.Dec.{eqb}
 use lib.IntN.{ℤ, pos, negℤ, natAbs, _+ℤ_, _-ℤ_}
 use native.Mathlib.Omega.{arith}
 use lib.ListN.{getD}
 use mathlib.Core.List.{List}
-use Rattle.laws.proofs.Signed.{abs-neg, abs-add, abs-minus}
-use Rattle.values.specs.Values.{f, hard, g, leftValues, rightValues}
+use mir.Syntax.{w32}
 use Rattle.laws.specs.Table.{table}
+use Rattle.laws.proofs.Signed.{abs-neg, abs-add, abs-minus, back, back-small}
+use Rattle.values.specs.Values.{f, hard, g, leftValues, rightValues}
 use Rattle.values.specs.Claims.{Within}
 
 pub abs-f : (a b : ℤ) → natAbs (f a b) ≡ min (natAbs a) (natAbs b)
@@ -48,3 +49,7 @@ within-right h {v} sums p =
 
 pub within-more : {m n : ℕ} {xs : List ℤ} → m ≤ n → Within m xs → Within n xs
 within-more l p = record { at = λ k. omega (arith, p .at k) }
+
+-- a small value, as the machine reads it back
+pub back-within : {m : ℕ} {v : List ℤ} → Within m v → m < 2 ^ 31 → (k : ℕ) → back w32 (getD v k (pos 0)) ≡ getD v k (pos 0)
+back-within {m} {v} p l k = back-small w32 (getD v k (pos 0)) (omega (arith, p .at k))

@@ -1,4 +1,4 @@
--- Contracts of this crate's own functions. Nothing here need be believed.
+-- What only contracts below the public operations cite. Nothing here need be believed.
 use mathlib.Core.Bool.{cond}
 use Prim.Native.Nat.{ℕ}
 use lib.Dec.{eqb}

@@ -10,18 +10,18 @@ use Rattle.bits.specs.Bit.{number}
 use Rattle.bits.specs.Mask.{onesBelow}
 use Rattle.bits.specs.Packing.{packed}
 use Rattle.code.specs.Description.{maskOf, describe}
-use Rattle.vectors.proofs.Descriptions.{starredD, starredCode, starredV}
 use Rattle.crc.specs.Check.{checkOf}
 use Rattle.transform.specs.Transform.{covers, parity, transformed, xors}
 use Rattle.placing.specs.Place.{taken}
 use Rattle.values.specs.Values.{f, g, leftValues, rightValues}
 use Rattle.channel.specs.Channel.{channelValue, channelValues}
-use Rattle.sc.specs.Pass.{node}
+use Rattle.tree.specs.Node.{node}
 use Rattle.order.specs.Order.{information, insert, ordered}
-use Rattle.flip.specs.declared.Decoded.{Decoded}
-use Rattle.flip.specs.declared.Decoded.the-variants.{Accepted, Failed, Refused}
-use Rattle.flip.specs.Trials.{flipOrder, run}
+use Rattle.run.specs.declared.Decoded.{Decoded}
+use Rattle.run.specs.declared.Decoded.the-variants.{Accepted, Failed, Refused}
+use Rattle.run.specs.Trials.{flipOrder, run}
 use Rattle.flip.specs.Decode.{decodedBy, decodedWith, decodedFull, decodedRestarted}
+use Rattle.vectors.proofs.Descriptions.{starredD, starredCode, starredV}
 
 -- 4, −4, 4, −4, −4, 4, −4, 4
 abbrev noiselessA0 : List ℕ

@@ -9,19 +9,20 @@ use Rattle.bits.specs.Bit.{number}
 use Rattle.bits.specs.Mask.{onesBelow}
 use Rattle.bits.specs.Packing.{packed}
 use Rattle.code.specs.Description.{describe}
-use Rattle.vectors.proofs.Descriptions.{starredD, starredV}
 use Rattle.crc.specs.Check.{checkOf}
 use Rattle.transform.specs.Transform.{covers, parity, transformed, xors}
 use Rattle.placing.specs.Place.{taken}
 use Rattle.values.specs.Values.{rightValues, leftValues, g, f}
 use Rattle.channel.specs.Channel.{channelValue}
-use Rattle.sc.specs.Pass.{node}
+use Rattle.tree.specs.Node.{node}
 use Rattle.order.specs.Order.{information, insert, ordered}
-use Rattle.flip.specs.Trials.{run}
+use Rattle.run.specs.Trials.{run}
 use Rattle.flip.specs.Decode.{decodedBy, decodedWith}
 use Rattle.lines.specs.Text.{text}
 use Rattle.lines.specs.Line.{decimalIn}
-use Rattle.records.specs.Respond.{descriptionResponse, decodingLine, channelLine, responded}
+use Rattle.records.specs.Respond.{descriptionResponse, responded}
+use Rattle.frames.specs.Frame.{decodingLine, channelLine}
+use Rattle.vectors.proofs.Descriptions.{starredD, starredV}
 
 -- V as a channel record, with trial limit T
 abbrev channelV : ℕ → List ℕ

@@ -1,6 +1,6 @@
 -- The starred rows of document 01 on resume, by computation.
 use mathlib.Core.Path.{_≡_, refl}
-use mathlib.Core.List.{List, [], _∷_}
+use mathlib.Core.List.{List, []}
 use Prim.Native.Nat.{ℕ}
 use lib.ListN.{replicate}
 use Rattle.laws.specs.First.{firstWhere}
@@ -9,13 +9,13 @@ use Rattle.refusal.specs.declared.Refusal.the-variants.{At}
 use Rattle.refusal.specs.Judge.{judge, refusedOr}
 use Rattle.bits.specs.Mask.{onesBelow}
 use Rattle.code.specs.Description.{describe}
-use Rattle.vectors.proofs.Descriptions.{starredD, starredV}
 use Rattle.transform.specs.Transform.{covers, parity, transformed, xors}
 use Rattle.values.specs.Values.{f, g, leftValues, rightValues}
 use Rattle.channel.specs.Channel.{channelValue}
-use Rattle.sc.specs.Pass.{node}
+use Rattle.tree.specs.Node.{node}
 use Rattle.resume.specs.declared.Resumed.the-variants.{Done, Refused}
 use Rattle.resume.specs.Resume.{resumedBy, resumed}
+use Rattle.vectors.proofs.Descriptions.{starredD, starredV}
 
 -- an output of eight bytes
 abbrev output : List ℕ

@@ -1,9 +1,9 @@
 -- The starred rows of document 01, "Vectors at the edges", as one theorem.
 use Prim.Native.Nat.{ℕ}
-use Rattle.vectors.proofs.Descriptions.{StarredDescriptions, starred-descriptions}
 use Rattle.crc.proofs.Published.{StarredCheck, lone-one}
+use Rattle.tree.proofs.Steps.{StarredSkipped, skipped-starred}
+use Rattle.vectors.proofs.Descriptions.{StarredDescriptions, starred-descriptions}
 use Rattle.vectors.proofs.Encoding.{StarredEncoding, starred-encoding}
-use Rattle.sc.proofs.Steps.{StarredSkipped, skipped-starred}
 use Rattle.vectors.proofs.Resume.{StarredResume, starred-resume}
 use Rattle.vectors.proofs.Decoding.{StarredDecoding, starred-decoding}
 

@@ -4,7 +4,7 @@ use native.Mathlib.Omega.{arith}
 use borrow.Author.Needs.{needs}
 use denote.Ref.{now}
 use Rattle.arrays.proofs.Sizes.{fits}
-use Rattle.flip.specs.WellFormed.{WellFormed}
+use Rattle.run.specs.WellFormed.{WellFormed}
 use Rattle.flip.proofs.WellFormed.{fine-well-formed, well-formed-answer, refused-answer}
 use Rattle.flip.proofs.decode_by.Statement.{statement}
 use Rattle.flip.proofs.decode_by.Tie as tie

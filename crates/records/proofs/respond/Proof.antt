@@ -10,9 +10,10 @@ use lib.Dec.{eqb}
 use lib.ListN.{take}
 use lib.Seq.{length-take-le}
 use Rattle.code.specs.Description.{word}
-use Rattle.records.specs.declared.Header.{Header}
 use Rattle.lines.specs.Line.{skipLine}
-use Rattle.records.specs.Respond.{descriptionResponse, channelLine, responded}
+use Rattle.frames.specs.Frame.{channelLine}
+use Rattle.records.specs.declared.Header.{Header}
+use Rattle.records.specs.Respond.{descriptionResponse, responded}
 use Rattle.records.proofs.Answers.{answers-line, answers-as}
 use Rattle.records.proofs.respond.Statement.{statement}
 use Rattle.records.proofs.respond.Tie as tie

@@ -16,8 +16,8 @@ use Rattle.code.specs.Description.{describe, onDescription}
 use Rattle.code.specs.Claims.{Described}
 use Rattle.code.proofs.Facts.{described}
 use Rattle.lines.specs.Line.{codeLine, noLine}
-use Rattle.records.specs.Respond.{descriptionResponse}
 use Rattle.lines.proofs.Putting.{length-put, take-put}
+use Rattle.records.specs.Respond.{descriptionResponse}
 use Rattle.records.proofs.Answers.{answers-line, answers-as}
 use Rattle.records.proofs.Room.{description-most}
 use Rattle.records.proofs.respond_description.Statement.{statement}

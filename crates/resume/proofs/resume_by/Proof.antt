@@ -5,8 +5,8 @@ use Prim.Native.Nat.{ℕ}
 use borrow.Author.Needs.{needs}
 use denote.Ref.{now}
 use Rattle.refusal.proofs.Judge.{refused-by}
-use Rattle.sc.specs.declared.Work.{Work}
-use Rattle.sc.specs.Pass.{Out}
+use Rattle.tree.specs.declared.Work.{Work}
+use Rattle.tree.specs.Node.{Out}
 use Rattle.resume.specs.declared.Resumed.the-variants.{Done, Refused}
 use Rattle.resume.specs.Resume.{resumePass, resumedBy}
 use Rattle.resume.specs.Claims.{WellFormed}

@@ -12,29 +12,28 @@ use lib.ListN.{getD}
 use mir.Syntax.{w32}
 use Rattle.laws.specs.Contracts.{segment}
 use Rattle.laws.proofs.Signed.{back-is}
-use Rattle.values.specs.Claims.{Within}
 use Rattle.arrays.specs.Sizes.{deepest}
 use Rattle.arrays.specs.Claims.{longest}
 use Rattle.transform.proofs.Halves.{halving}
-use Rattle.sc.specs.Pass.{plusWork}
-use Rattle.sc.specs.Claims.{most}
-use Rattle.sc.specs.Contracts.{arrays}
-use Rattle.sc.proofs.StepsMost.{steps-of}
-use Rattle.sc.proofs.Halves.{sized-of}
-use Rattle.sc.proofs.Ending.{forced-bits, forced-worked}
-use Rattle.sc.proofs.Free.{is-free, one-value, by-value}
+use Rattle.transform.proofs.combine.Reads as combine-reads
+use Rattle.values.specs.Claims.{Within}
+use Rattle.tree.specs.Node.{plusWork}
+use Rattle.tree.specs.Claims.{most}
+use Rattle.tree.proofs.StepsMost.{steps-of}
+use Rattle.tree.proofs.Work.plus.Reads as plus-reads
+use Rattle.halves.proofs.left_values.Reads as left-values-reads
+use Rattle.halves.proofs.right_values.Reads as right-values-reads
+use Rattle.node.specs.Contracts.{arrays}
+use Rattle.node.proofs.Halves.{sized-of}
+use Rattle.node.proofs.decode_four.Reads as decode-four-reads
+use Rattle.node.proofs.leaf.Reads as leaf-reads
+use Rattle.node.proofs.rebuild.Reads as rebuild-reads
+use Rattle.sc.proofs.Ending.{forced-bits, forced-worked, is-free, one-value, by-value}
 use Rattle.sc.proofs.Recursion.{Inner, inner-at, inner-half, inner-left, inner-again, inner-right, inner-few, inner-combine, inner-worked}
 use Rattle.sc.proofs.decode_node.Reads as node
 use Rattle.sc.proofs.decode_node.Kinds as kinds
 use Rattle.sc.proofs.+decode_node.Lts-decode_node as lts
-use Rattle.sc.proofs.Work.plus.Reads as plus-reads
 use Rattle.sc.proofs.is_free_four.Reads as is-free-four-reads
-use Rattle.sc.proofs.decode_four.Reads as decode-four-reads
-use Rattle.sc.proofs.leaf.Reads as leaf-reads
-use Rattle.sc.proofs.left_values.Reads as left-values-reads
-use Rattle.sc.proofs.rebuild.Reads as rebuild-reads
-use Rattle.sc.proofs.right_values.Reads as right-values-reads
-use Rattle.transform.proofs.combine.Reads as combine-reads
 use Rattle.sc.proofs.+decode_node.{statement}
 use Rattle.sc.proofs.+decode_node.Tie.{close}
 

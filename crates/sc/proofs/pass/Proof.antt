@@ -9,9 +9,9 @@ use lib.ListN.{length}
 use Rattle.arrays.specs.Claims.{longest}
 use Rattle.arrays.proofs.Sizes.{fits}
 use Rattle.transform.proofs.Halves.{halving}
-use Rattle.sc.specs.Pass.{plusWork}
-use Rattle.sc.specs.Contracts.{arrays}
-use Rattle.sc.proofs.StepsMost.{steps-of}
+use Rattle.tree.specs.Node.{plusWork}
+use Rattle.tree.proofs.StepsMost.{steps-of}
+use Rattle.node.specs.Contracts.{arrays}
 use Rattle.sc.proofs.Root.{pass-forced, Rooted, root-at, root-half, root-left, root-again, root-right, root-few, passed}
 use Rattle.sc.proofs.pass.Statement.{statement}
 use Rattle.sc.proofs.pass.Tie as tie

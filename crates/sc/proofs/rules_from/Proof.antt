@@ -17,8 +17,8 @@ use Rattle.laws.proofs.Filling.{Filling, filling-none, filling-more, filling-do
 use Rattle.bits.specs.Mask.{maskBit}
 use Rattle.bits.proofs.Bitwise.{bit-lt}
 use Rattle.values.specs.Values.{frozen, usual, maskRule}
-use Rattle.sc.specs.Contracts.{Ruled}
 use Rattle.values.specs.Contracts.{ruleOf}
+use Rattle.sc.specs.Contracts.{Ruled}
 use Rattle.sc.proofs.rules_from.Statement.{statement}
 use Rattle.sc.proofs.rules_from.Tie as tie
 

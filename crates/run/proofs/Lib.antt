@@ -1,0 +1,3 @@
+pub mod FlipOrder
+pub mod LoopInvariant
+pub mod LoopStep

@@ -1,0 +1,41 @@
+-- `run::later_trials` meets its contract: no trial is left where the limit is 1, and else the keys are those of trial 1's leaf values.
+use mathlib.Core.Path.{refl, sym, ap}
+use native.Mathlib.Omega.{arith}
+use borrow.Author.Needs.{needs}
+use denote.Ref.{now}
+use Rattle.arrays.proofs.Sizes.{steps-fit}
+use Rattle.order.proofs.Keys.{keys-made}
+use Rattle.run.specs.Trials.{answerOf}
+use Rattle.run.proofs.LoopInvariant.{loop-starts, loop-ends}
+use Rattle.run.proofs.LoopStep.{order-long, keys-pre}
+use Rattle.run.proofs.later_trials.Statement.{statement}
+use Rattle.run.proofs.later_trials.Tie as tie
+
+returns : tie.Need-returns
+returns c =
+    let s = c .before .before .before .before .before .before in
+    let x = s .args in
+    let on = s .pre .0 in
+    ap (answerOf (now (x .mask)) (x .code) (now (x .output)))
+    (sym (loop-ends (loop-starts (on .well-formed .limit-least) (steps-fit (on .coded .n-most) (s .pre .1 .start-most))) (order-long on) (omega (arith, c .if1 .taken))))
+
+flip-trials-requires : tie.Need-flip-trials-requires
+flip-trials-requires c κs =
+    let m = c .before .before .before .before .before .before .before .before in
+    let p = m .before .before .before .before .before .before .before .before .pre in (
+      p .0,
+      p .1,
+      keys-made (keys-pre (p .0) (p .2)) (p .0 .coded .mask-size) (p .2 .values) (m .make-keys .ensures),
+      record { work = p .3; bits = refl; sums = p .4; leaves = refl },
+    )
+
+pub later-trials-spec : {M : Type 1} → statement M
+later-trials-spec =
+    tie.close
+    (tie.spec
+    returns
+    (λ c κs. let p = c .before .before .before .before .before .before .before .pre in keys-pre (p .0) (p .2))
+    flip-trials-requires
+    (λ c. search needs)
+    (λ c. search needs)
+    (λ c. search needs))

@@ -1,0 +1,145 @@
+-- `run::run_trials` meets its contract: trial 1 passes, or the run goes on with the later trials.
+use mathlib.Core.Path.{_≡_, sym, ap, _∙_}
+use mathlib.Core.Bool.{Bool}
+use mathlib.Core.List.{List}
+use Prim.Native.Nat.{ℕ, _+_, _≤_}
+use native.Mathlib.Nat.{zero-add}
+use native.Mathlib.Omega.{arith}
+use borrow.Author.Needs.{needs}
+use denote.Ref.{now}
+use lib.IntN.{ℤ}
+use lib.ListN.{length, drop}
+use Rattle.arrays.proofs.Sizes.{fits}
+use Rattle.bits.proofs.Lists.{bits-nil}
+use Rattle.code.specs.Code.{codeLength}
+use Rattle.channel.specs.Channel.{channelValues}
+use Rattle.tree.specs.declared.Work.{Work}
+use Rattle.tree.specs.Node.{Out}
+use Rattle.trial.specs.Trial.{firstTrial, trialPasses}
+use Rattle.trial.proofs.Bounds.{first-bits, first-steps}
+use Rattle.run.specs.Trials.{trials, passed, run, answerOf}
+use Rattle.run.proofs.LoopInvariant.{run-passes, run-fails}
+use Rattle.run.proofs.LoopStep.{values-small, payload-bits, accepted}
+use Rattle.run.proofs.run_trials.Statement.{statement}
+use Rattle.run.proofs.run_trials.Tie as tie
+
+first-trial-requires : tie.Need-first-trial-requires
+first-trial-requires c κs =
+    let p = c .before .before .before .before .before .before .before .before .before .pre in (
+      record {
+        n-least = omega (arith, p .0 .coded .n-least);
+        n-most = p .0 .coded .n-most;
+        q-most = omega arith;
+        long = p .0 .well-formed .channel-size;
+        small = values-small (p .0);
+        bits = bits-nil;
+        whole = record { work = p .1 .work-whole; bits = p .1 .first-whole; sums = p .1 .sums-whole; leaves = p .1 .values-whole };
+      },
+      p .0 .coded .mask-size,
+      p .1 .rules-whole,
+    )
+
+-- trial 1
+module _ (c : tie.After-first-trial) where
+  abbrev s : tie.Start
+  s = c .before .before .before .before .before .before .before .before .before .before
+
+  abbrev mask : List ℕ
+  mask = now (s .args .mask)
+
+  abbrev v : List ℤ
+  v = channelValues (now (s .args .channel))
+
+  abbrev o : Out
+  o = firstTrial mask (s .args .code) v
+
+  abbrev ok : List ℕ → Bool
+  ok = trialPasses mask (s .args .code)
+
+  abbrev rest : List Out
+  rest = drop 1 (trials (s .args .plan) mask (s .args .code) v)
+
+  -- the steps, counted from none
+  counted : c .first-trial .result .steps ≡ 0 + o .work .steps
+  counted = ap (λ (w : Work). w .steps) (c .first-trial .ensures .work) ∙ sym (zero-add (o .work .steps))
+
+trial-passes-requires : tie.Need-trial-passes-requires
+trial-passes-requires c κs =
+    let f = c .before .before in
+    let p = s f .pre in
+    (p .0 .coded, omega (arith, f .first-trial .ensures .bits .whole, fits (p .0 .coded .n-most)), p .1 .message-size)
+
+-- its check
+module _ (c : tie.After-trial-passes) where
+  abbrev f : tie.After-first-trial
+  f = c .before .before .before
+
+  ok-is : c .trial-passes .result ≡ ok f (o f .bits)
+  ok-is = c .trial-passes .ensures .0 ∙ ap (ok f) (f .first-trial .ensures .bits .bits)
+
+  message-long : codeLength (s f .args .code) ≤ length (c .trial-passes .last .1 .1 .1 .0)
+  message-long = omega (arith, c .trial-passes .kept .1 .1 .1 .0, s f .pre .1 .message-size)
+
+accept-requires : tie.Need-accept-requires
+accept-requires c κs =
+    let p = c .before .before .before .before .before in
+    let on = s (f p) .pre .0 in (
+      omega (arith, message-long p, on .coded .K-most),
+      payload-bits (on .coded) _ _ (f p .first-trial .ensures .bits .bits) (p .trial-passes .ensures .1) (first-bits (mask (f p)) (s (f p) .args .code) (v (f p))),
+      on .well-formed .output-size,
+    )
+
+returns : tie.Need-returns
+returns c =
+    let d = c .before .before in
+    let t = d .before .before .before in
+    let p = t .before .before .before in
+    let x = s (f p) .args in
+    let e = d .accept .ensures in
+    accepted (s (f p) .pre .0 .coded) _ _ (f p .first-trial .ensures .bits .bits) (p .trial-passes .ensures .1) (now (x .output)) (e .0) (e .1)
+    ∙ ap (answerOf (mask (f p)) (x .code) (now (x .output)))
+    (ap (λ (steps : ℕ). passed 1 steps (o (f p) .bits)) (counted (f p))
+    ∙ sym (run-passes (ok (f p)) 0 0 (o (f p)) (rest (f p)) (sym (ok-is p) ∙ t .if1 .taken)))
+
+later-trials-requires : tie.Need-later-trials-requires
+later-trials-requires c κs =
+    let p = c .before .before .before .before .before .before .before .before .before .before in
+    let x = s (f p) in
+    let t = f p .first-trial .ensures in (
+      x .pre .0,
+      record {
+        start-most = omega (arith, counted (f p), first-steps (mask (f p)) (x .args .code) (v (f p)));
+        first-bits = t .bits;
+        plain = t .plain;
+        message-size = message-long p;
+      },
+      t .leaves,
+      t .whole .work,
+      t .whole .sums,
+    )
+
+returns-2 : tie.Need-returns-2
+returns-2 c =
+    let l = c .before .before .before .before in
+    let e = l .before .before .before .before .before .before .before .before in
+    let p = e .before .before .before in
+    let x = s (f p) .args in
+    l .later-trials .ensures
+    ∙ ap (answerOf (mask (f p)) (x .code) (now (x .output)))
+    (ap (λ (steps : ℕ). run (ok (f p)) 1 steps (rest (f p))) (counted (f p))
+    ∙ sym (run-fails (ok (f p)) 0 0 (o (f p)) (rest (f p)) (sym (ok-is p) ∙ e .if1 .left)))
+
+pub run-trials-spec : {M : Type 1} → statement M
+run-trials-spec =
+    tie.close
+    (tie.spec
+    first-trial-requires
+    trial-passes-requires
+    accept-requires
+    (λ c. search needs)
+    (λ c. search needs)
+    returns
+    later-trials-requires
+    (λ c. search needs)
+    (λ c. search needs)
+    returns-2)

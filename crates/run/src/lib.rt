@@ -1,0 +1,202 @@
+// The run of trials of flip decoding.
+use arrays::BitArray;
+use arrays::RuleArray;
+use arrays::SIZE;
+use arrays::ValueArray;
+use code::Code;
+use refusal::Refusal;
+use trial::Restart;
+ghost use mathlib.Core.Path.{_≡_};
+ghost use Prim.Native.Nat.{_≤_};
+ghost use lib.ListN.{length, take};
+ghost use Rattle.bits.specs.Claims.{Bits};
+ghost use Rattle.bits.specs.Packing.{bytesFor, packed};
+ghost use Rattle.node.specs.Contracts.{arrays, Whole};
+ghost use Rattle.trial.specs.Contracts.{FirstLeaves};
+ghost use Rattle.run.specs.Contracts.{RunPre, RoomsPre, LaterTrialsPre, FirstKeys, answerBy, answerFrom};
+
+// How a frame is decoded: where later trials resume, and how many trials may be made, trial 1 included.
+pub struct Plan {
+    pub restart: Restart,
+    pub limit: u32,
+}
+
+// What a decoder answers: the trial that passed and the steps of all trials made; all trials failed (refusal 16), with their
+// number and steps; or another refusal.
+pub enum Decoded {
+    Accepted { trial: u32, steps: u32 },
+    Failed { trials: u32, steps: u32 },
+    Refused(Refusal),
+}
+
+// Acceptance writes the packed payload, the first k bits of a message.
+fn accept(k: usize, trial: u32, steps: u32, message: &[u8], output: &mut [u8]) -> Decoded
+    requires { ⌜ (k ≤ length (now message)) × Bits (take k (now message)) × (length (now output) ≡ bytesFor k) ⌝ }
+    ensures { λ a. ⌜ (a ≡ Decoded.Accepted trial steps) × (now (output .exit) ≡ packed (take k (now (message .entry)))) ⌝ }
+{
+    bits::pack(&message[..k], output);
+    Decoded::Accepted { trial, steps }
+}
+
+// The trials after the first, which took `start` steps and failed, until one passes or the limit is reached. `keys` order the indices.
+fn flip_trials(
+    plan: Plan,
+    mask: &[u8],
+    code: Code,
+    channel: &[u8],
+    start: u32,
+    first: &BitArray,
+    keys: &ValueArray,
+    rules: &mut RuleArray,
+    work: &mut ValueArray,
+    bits: &mut BitArray,
+    sums: &mut BitArray,
+    leaves: &mut ValueArray,
+    message: &mut [u8],
+    output: &mut [u8],
+) -> Decoded
+    requires { do ⌜ RunPre plan (now mask) code (now channel) (now output) × LaterTrialsPre (← ⟦SIZE⟧) (now mask) code (now channel) start (now first) (now rules) (now message) × FirstKeys (now mask) code (now channel) (now keys) × Whole (← ⟦SIZE⟧) (arrays (now work) (now bits) (now sums) (now leaves)) ⌝ }
+    ensures { λ a. ⌜ (a, now (output .exit)) ≡ answerFrom plan (now (mask .entry)) code (now (channel .entry)) start (now (output .entry)) ⌝ }
+{
+    let restart = plan.restart;
+    let limit = plan.limit;
+    let size = channel.len();
+    let mut made: u32 = 1;
+    let mut steps = start;
+    let mut key: i32 = -1;
+    while made < limit {
+        key = order::next_key(size, keys, key);
+        let i = order::index_of(key);
+        let done = trial::flip_trial(
+            restart,
+            mask,
+            code,
+            i,
+            channel,
+            first,
+            rules,
+            work,
+            bits,
+            sums,
+            leaves,
+        );
+        made += 1;
+        steps += done.steps;
+        if trial::trial_passes(mask, code, bits, message) {
+            return accept(code.k, made, steps, message, output);
+        }
+    }
+    Decoded::Failed {
+        trials: made,
+        steps,
+    }
+}
+
+// The same: the leaf values of trial 1 become keys, in their place. Bits and leaf values of later trials have arrays of their own, filled
+// only where there is a later trial: each restart begins with trial 1's bits.
+fn later_trials(
+    plan: Plan,
+    mask: &[u8],
+    code: Code,
+    channel: &[u8],
+    start: u32,
+    first: &BitArray,
+    values: &mut ValueArray,
+    rules: &mut RuleArray,
+    work: &mut ValueArray,
+    sums: &mut BitArray,
+    message: &mut [u8],
+    output: &mut [u8],
+) -> Decoded
+    requires { do ⌜ RunPre plan (now mask) code (now channel) (now output) × LaterTrialsPre (← ⟦SIZE⟧) (now mask) code (now channel) start (now first) (now rules) (now message) × FirstLeaves (← ⟦SIZE⟧) (now mask) code (now channel) (now values) × (length (now work) ≡ (← ⟦SIZE⟧)) × (length (now sums) ≡ (← ⟦SIZE⟧)) ⌝ }
+    ensures { λ a. ⌜ (a, now (output .exit)) ≡ answerFrom plan (now (mask .entry)) code (now (channel .entry)) start (now (output .entry)) ⌝ }
+{
+    if plan.limit == 1 {
+        return Decoded::Failed {
+            trials: 1,
+            steps: start,
+        };
+    }
+    let mut bits = [0u8; SIZE];
+    let mut leaves = [0i32; SIZE];
+    order::make_keys(mask, values);
+    flip_trials(
+        plan,
+        mask,
+        code,
+        channel,
+        start,
+        first,
+        values,
+        rules,
+        work,
+        &mut bits,
+        sums,
+        &mut leaves,
+        message,
+        output,
+    )
+}
+
+// All trials, until one passes or the limit is reached. Trial 1's bits and leaf values are put in `first` and `values`.
+fn run_trials(
+    plan: Plan,
+    mask: &[u8],
+    code: Code,
+    channel: &[u8],
+    first: &mut BitArray,
+    values: &mut ValueArray,
+    rules: &mut RuleArray,
+    work: &mut ValueArray,
+    sums: &mut BitArray,
+    message: &mut [u8],
+    output: &mut [u8],
+) -> Decoded
+    requires { do ⌜ RunPre plan (now mask) code (now channel) (now output) × RoomsPre (← ⟦SIZE⟧) code (now first) (now values) (now rules) (now work) (now sums) (now message) ⌝ }
+    ensures { λ a. ⌜ (a, now (output .exit)) ≡ answerBy plan (now (mask .entry)) code (now (channel .entry)) (now (output .entry)) ⌝ }
+{
+    let done = trial::first_trial(mask, code, channel, first, values, rules, work, sums);
+    if trial::trial_passes(mask, code, first, message) {
+        return accept(code.k, 1, done.steps, message, output);
+    }
+    later_trials(
+        plan,
+        mask,
+        code,
+        channel,
+        done.steps,
+        first,
+        values,
+        rules,
+        work,
+        sums,
+        message,
+        output,
+    )
+}
+
+// Fills the working arrays and runs the trials.
+pub fn decode_in(plan: Plan, mask: &[u8], code: Code, channel: &[u8], output: &mut [u8]) -> Decoded
+    requires { ⌜ RunPre plan (now mask) code (now channel) (now output) ⌝ }
+    ensures { λ a. ⌜ (a, now (output .exit)) ≡ answerBy plan (now (mask .entry)) code (now (channel .entry)) (now (output .entry)) ⌝ }
+{
+    let mut first = [0u8; SIZE];
+    let mut values = [0i32; SIZE];
+    let mut rules = [0u8; SIZE];
+    let mut work = [0i32; SIZE];
+    let mut sums = [0u8; SIZE];
+    let mut message = [0u8; SIZE];
+    run_trials(
+        plan,
+        mask,
+        code,
+        channel,
+        &mut first,
+        &mut values,
+        &mut rules,
+        &mut work,
+        &mut sums,
+        &mut message,
+        output,
+    )
+}

@@ -1,0 +1,11 @@
+pub mod Node
+pub mod Bounds
+pub mod StepsMost
+pub mod Sums
+pub mod Steps
+pub mod Decisions
+pub mod Causality
+pub mod Restart
+pub mod RestartFlip
+pub mod Noiseless
+pub mod Leaves

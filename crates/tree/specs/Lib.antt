@@ -1,0 +1,4 @@
+pub mod Node
+pub mod Skipped
+pub mod Claims
+pub mod Contracts
