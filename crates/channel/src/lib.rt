@@ -3,7 +3,7 @@ use code::Code;
 use refusal::Judgement;
 use refusal::Refusal;
 ghost use mathlib.Core.Path.{_≡_};
-ghost use Prim.Native.Nat.{_<_, _≤_};
+ghost use Prim.Native.Nat.{_≤_};
 ghost use Rattle.refusal.specs.Judge.{judge};
 ghost use Rattle.arrays.specs.Sizes.{deepest};
 ghost use Rattle.channel.specs.Channel.{channelValue, firstOutside, channelRefusals};

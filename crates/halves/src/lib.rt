@@ -6,7 +6,7 @@ use channel::channel_value;
 use tree::Work;
 use values::f;
 use values::g;
-ghost use Prim.Native.Nat.{_+_, _*_, _<_, _≤_};
+ghost use Prim.Native.Nat.{_+_, _≤_};
 ghost use Rattle.laws.specs.Contracts.{segment};
 ghost use Rattle.values.specs.Values.{rightValues, leftValues};
 ghost use Rattle.channel.specs.Channel.{channelValues};

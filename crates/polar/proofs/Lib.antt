@@ -1,4 +1,3 @@
 pub mod Answers
 pub mod Fitting
 pub mod Fields
-pub mod Quantised

@@ -3,3 +3,4 @@ pub mod Totals
 pub mod WellFormed
 pub mod Accepted
 pub mod Rows
+pub mod InRange
