@@ -1,2 +1,7 @@
-pub mod Answers
-pub mod Room
+pub mod Whole
+pub mod Split
+pub mod Printed
+pub mod Looks
+pub mod Output
+pub mod Steps
+pub mod Program

@@ -1,25 +1,95 @@
 -- What only contracts below the public operations cite. Nothing here need be believed.
 use mathlib.Core.Path.{_≡_}
-use mathlib.Core.List.{List}
-use Prim.Native.Nat.{ℕ, _≤_}
+use mathlib.Core.Bool.{cond}
+use mathlib.Core.List.{List, [], _++_}
+use Prim.Native.Nat.{ℕ, _+_, _-_, _≤_, _<_}
+use lib.Dec.{ltb, eqb}
 use lib.ListN.{length, take}
 use Rattle.code.specs.Description.{word}
-use Rattle.records.specs.declared.Response.{Response}
-use Rattle.records.specs.declared.Header.{Header}
+use Rattle.response.specs.Respond.{responded}
+use Rattle.records.specs.declared.Ahead.{Ahead}
+use Rattle.records.specs.declared.Ahead.the-variants.{Whole, Missing, Short}
+use Rattle.records.specs.declared.Stream.{Stream}
+use Rattle.records.specs.Stream.{printedFrom}
 
--- what `respond` asks: a record with its header, as much held as its buffer has, and room for the longest description and line
-pub record RespondPre (longest line-size : ℕ) (held : List ℕ) (size : ℕ) (bytes line : List ℕ) : Type 0 where
+-- a stream of which nothing has been read
+abbrev pub starting : Stream
+starting = record { there = 0; wanted = 4; held = 0; count = 0; waiting = 0; ready = 0 }
+
+-- what the bytes of a record that are there say
+abbrev pub aheadOf : List ℕ → Ahead
+aheadOf bytes =
+    cond (ltb (length bytes) 4) (Missing (4 - length bytes))
+    (cond (ltb (word bytes 0) 4) Short (cond (ltb (length bytes) (word bytes 0)) (Missing (word bytes 0 - length bytes)) Whole))
+
+-- what is missing has room in the longest record
+abbrev pub Fits : List ℕ → Ahead → Type 0
+Fits bytes Whole = Unit
+Fits bytes (Missing n) = length bytes + n ≤ 65535
+Fits bytes Short = Unit
+
+-- how much is written of what waits in an output of `size` bytes: all or nothing, and what is left leaves room
+pub record ReadyPost (room waiting size ready : ℕ) : Type 0 where
+  pub most : ready ≤ waiting
+  pub splits : (output : List ℕ) → take ready output ++ take (waiting - ready) output ≡ take waiting output
+  pub leaves : room ≤ size → waiting - ready + room ≤ size
+
+-- what `respond_to` asks
+pub record RespondToPre (longest room : ℕ) (s : Stream) (bytes held output : List ℕ) : Type 0 where
   pub header : 4 ≤ length bytes
-  pub size-most : size ≤ length held
+  pub held-most : s .held ≤ length held
   pub held-room : longest ≤ length held
-  pub line-room : line-size ≤ length line
+  pub output-room : s .waiting + room ≤ length output
+  pub count-most : s .count < 18446744073709551615
 
--- what it answers: where the line ends and how much is held, in the buffers as they are afterwards
-pub record RespondPost (answer : List ℕ × List ℕ) (line held : List ℕ) (response : Response) : Type 0 where
-  pub line-fits : response .line ≤ length line
-  pub held-fits : response .held ≤ length held
-  pub answer-is : (take (response .line) line, take (response .held) held) ≡ answer
+-- what it answers: the record's line behind what waited, and what is held, in the buffers as they are afterwards
+pub record RespondToPost (room : ℕ) (s : Stream) (bytes held output held′ output′ : List ℕ) (s′ : Stream) : Type 0 where
+  pub there-is : s′ .there ≡ 0
+  pub wanted-is : s′ .wanted ≡ 4
+  pub count-is : s′ .count ≡ s .count + 1
+  pub held-most : s′ .held ≤ length held′
+  pub held-is : take (s′ .held) held′ ≡ responded (take (s .held) held) bytes .1
+  pub ready-most : s′ .ready ≤ length output′
+  pub output-room : s′ .waiting + room ≤ length output′
+  pub lines-are : take (s′ .ready) output′ ++ take (s′ .waiting) output′ ≡ take (s .waiting) output ++ responded (take (s .held) held) bytes .0
 
--- a record starts with its length, counting itself, then its kind
-abbrev pub headerOf : List ℕ → Header
-headerOf bytes = record { length = word bytes 0; kind = word bytes 2 }
+-- the stream is over: `text` is written behind what waited
+pub record EndPost (s : Stream) (text output output′ : List ℕ) (s′ : Stream) : Type 0 where
+  pub there-is : s′ .there ≡ 0
+  pub wanted-is : s′ .wanted ≡ 0
+  pub held-is : s′ .held ≡ s .held
+  pub count-is : s′ .count ≡ s .count
+  pub waiting-is : s′ .waiting ≡ 0
+  pub same-size : length output′ ≡ length output
+  pub ready-most : s′ .ready ≤ length output′
+  pub lines-are : take (s′ .ready) output′ ≡ take (s .waiting) output ++ text
+
+-- between two reads: `partial` is there of a record
+pub record Between (room : ℕ) (s : Stream) (partial held output : List ℕ) : Type 0 where
+  pub there-is : length partial ≡ s .there
+  pub wanted-is : 0 < s .wanted → aheadOf partial ≡ Missing (s .wanted)
+  pub wanted-fits : s .there + s .wanted ≤ 65535
+  pub held-most : s .held ≤ length held
+  pub output-room : s .waiting + room ≤ length output
+
+-- what is yet to be printed where `partial` is there of a record and `rest` is not read
+abbrev pub yetPrinted : Stream → List ℕ → List ℕ → List ℕ → List ℕ → List ℕ
+yetPrinted s partial held output rest = take (s .waiting) output ++ printedFrom (take (s .held) held) (s .count) (partial ++ rest)
+
+-- what `advance` asks: `got` bytes have been read behind those that were there
+pub record AdvancePre (longest room : ℕ) (s : Stream) (got : ℕ) (bytes held output : List ℕ) : Type 0 where
+  pub between : Between room s (take (s .there) bytes) held output
+  pub going : 0 < s .wanted
+  pub got-most : got ≤ s .wanted
+  pub bytes-room : s .there + got ≤ length bytes
+  pub held-room : longest ≤ length held
+  pub count-most : s .count < 18446744073709551615
+
+-- What it answers. Where no byte was read the stream is over. Whatever `rest` of the input is not read, and none is left where no byte was
+-- read: what was yet to be printed is what is written now, and then what is yet to be printed, which is nothing where the stream is over.
+pub record AdvancePost (room : ℕ) (s : Stream) (got : ℕ) (bytes held output held′ output′ : List ℕ) (s′ : Stream) : Type 0 where
+  pub between : Between room s′ (take (s′ .there) bytes) held′ output′
+  pub ready-most : s′ .ready ≤ length output′
+  pub count-most : s′ .count ≤ s .count + 1
+  pub ends : got ≡ 0 → s′ .wanted ≡ 0
+  pub prints : (rest : List ℕ) → (got ≡ 0 → rest ≡ []) → yetPrinted s (take (s .there + got) bytes) held output rest ≡ take (s′ .ready) output′ ++ cond (eqb (s′ .wanted) 0) [] (yetPrinted s′ (take (s′ .there) bytes) held′ output′ rest)

@@ -1,2 +1,3 @@
-pub mod Respond
+pub mod Stream
+pub mod Claims
 pub mod Contracts

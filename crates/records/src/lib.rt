@@ -1,75 +1,157 @@
-// What `receive` does with one record: the line that it prints, and the description that it holds.
-use code::Description;
+// What `receive` prints for a stream of records: how many bytes it reads next, what they say, and when its output is written. The program only
+// reads and writes.
 use code::LONGEST;
-use frames::put_channel;
-use frames::put_refusal;
 use lines::LINE;
 ghost use mathlib.Core.Path.{_≡_};
-ghost use Prim.Native.Nat.{_≤_, _<_};
-ghost use lib.ListN.{length, take};
-ghost use Rattle.records.specs.Contracts.{RespondPre, RespondPost, headerOf};
-ghost use Rattle.records.specs.Respond.{descriptionResponse, responded};
+ghost use mathlib.Core.List.{_++_};
+ghost use Prim.Native.Nat.{_+_, _≤_};
+ghost use lib.ListN.{length};
+ghost use Rattle.lines.specs.Line.{cutLine, endLine};
+ghost use Rattle.records.specs.Stream.{ending};
+ghost use Rattle.records.specs.Contracts.{starting, aheadOf, Fits, ReadyPost, RespondToPre, RespondToPost, EndPost, AdvancePre, AdvancePost};
 
-// A record's length in bytes, counting its header, and its kind.
-pub struct Header {
-    pub length: usize,
-    pub kind: u32,
-}
+// The longest record.
+pub const RECORD: usize = 65535;
 
-// What a record does: how long its line is, and how long the description that is held afterwards, 0 where none is.
-pub struct Response {
-    pub line: usize,
+// Room for what one step prints: a record's line, or `cut` and `end`.
+pub const ROOM: usize = 2 * LINE;
+
+// Lines are collected before they are written.
+pub const OUTPUT: usize = 16384;
+
+// Where a stream is. The first `there` bytes of a record have been read, and at most `wanted` are read next, behind them; none where the
+// stream is over. The first `held` bytes of their buffer are the description that is held. `count` records were whole. The first `ready`
+// bytes of the output are to be written now; after that its first `waiting` bytes are lines that wait.
+pub struct Stream {
+    pub there: usize,
+    pub wanted: usize,
     pub held: usize,
+    pub count: u64,
+    pub waiting: usize,
+    pub ready: usize,
 }
 
-// Length and kind at the start of a record. Both are words of 16 bits.
-pub fn read_header(bytes: &[u8]) -> Header
-    requires { ⌜ 4 ≤ length (now bytes) ⌝ }
-    ensures { λ h. ⌜ (h ≡ headerOf (now (bytes .entry))) × (h .length < 65536) ⌝ }
-{
-    Header {
-        length: code::read_word(bytes, 0) as usize,
-        kind: code::read_word(bytes, 2),
-    }
+// What the bytes of a record that are there say: it is whole, so many bytes are missing, or its length is below 4.
+pub enum Ahead {
+    Whole,
+    Missing(usize),
+    Short,
 }
 
-// A description: it is held where it is accepted.
-fn respond_description(held: &mut [u8], size: usize, bytes: &[u8], line: &mut [u8]) -> Response
-    requires { do ⌜ RespondPre (← ⟦LONGEST⟧) (← ⟦LINE⟧) (now held) size (now bytes) (now line) ⌝ }
-    ensures { λ a. ⌜ RespondPost (descriptionResponse (take size (now (held .entry))) (now (bytes .entry))) (now (line .exit)) (now (held .exit)) a ⌝ }
+// A stream of which nothing has been read.
+pub fn start() -> Stream
+    ensures { λ s. ⌜ s ≡ starting ⌝ }
 {
-    match code::read_description(bytes) {
-        Description::Accepted(code) => Response {
-            held: lines::put_bytes(held, 0, bytes),
-            line: lines::put_code(line, 1u64 << code.n, code.k as u64, code.r as u64),
-        },
-        Description::Refused(x) => Response {
-            held: size,
-            line: put_refusal(line, x),
-        },
+    Stream {
+        there: 0,
+        wanted: 4,
+        held: 0,
+        count: 0,
+        waiting: 0,
+        ready: 0,
     }
 }
 
-// What a whole record does: its line is put at the start of `line`. The first `size` bytes of `held` are the description that is held;
-// nothing is held at the start, when `size` is 0.
-pub fn respond(held: &mut [u8], size: usize, bytes: &[u8], line: &mut [u8]) -> Response
-    requires { do ⌜ RespondPre (← ⟦LONGEST⟧) (← ⟦LINE⟧) (now held) size (now bytes) (now line) ⌝ }
-    ensures { λ a. ⌜ RespondPost (responded (take size (now (held .entry))) (now (bytes .entry))) (now (line .exit)) (now (held .exit)) a ⌝ }
+fn ahead_of(bytes: &[u8]) -> Ahead
+    ensures { λ a. ⌜ (a ≡ aheadOf (now (bytes .entry))) × Fits (now (bytes .entry)) a ⌝ }
 {
-    let kind = read_header(bytes).kind;
-    if kind == 1 {
-        return respond_description(held, size, bytes, line);
+    let there = bytes.len();
+    if there < 4 {
+        return Ahead::Missing(4 - there);
     }
-    if kind == 2 {
-        let end = put_channel(line, &held[..size], bytes);
-        return Response {
-            held: size,
-            line: end,
-        };
+    let size = response::read_header(bytes).length;
+    if size < 4 {
+        return Ahead::Short;
     }
-    let end = lines::put_line(line, b"skip", kind as u64);
-    Response {
-        held: size,
-        line: end,
+    if there < size {
+        return Ahead::Missing(size - there);
+    }
+    Ahead::Whole
+}
+
+// How much is written of what waits: all of it, where the next step may not fit behind it.
+fn ready_of(waiting: usize, size: usize) -> usize
+    requires { ⌜ waiting ≤ size ⌝ }
+    ensures { λ ready. do ⌜ ReadyPost (← ⟦ROOM⟧ .entry) waiting size ready ⌝ }
+{
+    if size - waiting < ROOM { waiting } else { 0 }
+}
+
+// Responds to a whole record.
+fn respond_to(stream: Stream, bytes: &[u8], held: &mut [u8], output: &mut [u8]) -> Stream
+    requires { do ⌜ RespondToPre (← ⟦LONGEST⟧) (← ⟦ROOM⟧) stream (now bytes) (now held) (now output) ⌝ }
+    ensures { λ s. do ⌜ RespondToPost (← ⟦ROOM⟧ .entry) stream (now (bytes .entry)) (now (held .entry)) (now (output .entry)) (now (held .exit)) (now (output .exit)) s ⌝ }
+{
+    let before = stream.waiting;
+    let response = response::respond(held, stream.held, bytes, &mut output[before..]);
+    let waiting = before + response.line;
+    let ready = ready_of(waiting, output.len());
+    Stream {
+        there: 0,
+        wanted: 4,
+        held: response.held,
+        count: stream.count + 1,
+        waiting: waiting - ready,
+        ready,
+    }
+}
+
+// Ends a stream with `end`, and all is written.
+fn finish(stream: Stream, output: &mut [u8]) -> Stream
+    requires { do ⌜ stream .waiting + (← ⟦LINE⟧) ≤ length (now output) ⌝ }
+    ensures { λ s. ⌜ EndPost stream (endLine (stream .count)) (now (output .entry)) (now (output .exit)) s ⌝ }
+{
+    let waiting = stream.waiting;
+    let end = lines::put_end(&mut output[waiting..], stream.count);
+    Stream {
+        there: 0,
+        wanted: 0,
+        held: stream.held,
+        count: stream.count,
+        waiting: 0,
+        ready: waiting + end,
+    }
+}
+
+// Ends a stream with `cut` and `end`.
+fn cut(stream: Stream, output: &mut [u8]) -> Stream
+    requires { do ⌜ stream .waiting + (← ⟦ROOM⟧) ≤ length (now output) ⌝ }
+    ensures { λ s. ⌜ EndPost stream (cutLine ++ endLine (stream .count)) (now (output .entry)) (now (output .exit)) s ⌝ }
+{
+    let waiting = stream.waiting;
+    let end = lines::put_cut(&mut output[waiting..]);
+    let mut after = stream;
+    after.waiting = waiting + end;
+    finish(after, output)
+}
+
+// Goes on after `got` bytes have been read behind those that were there; none is read only where the input is at its end.
+pub fn advance(
+    stream: Stream,
+    got: usize,
+    bytes: &[u8],
+    held: &mut [u8],
+    output: &mut [u8],
+) -> Stream
+    requires { do ⌜ AdvancePre (← ⟦LONGEST⟧) (← ⟦ROOM⟧) stream got (now bytes) (now held) (now output) ⌝ }
+    ensures { λ s. do ⌜ AdvancePost (← ⟦ROOM⟧ .entry) stream got (now (bytes .entry)) (now (held .entry)) (now (output .entry)) (now (held .exit)) (now (output .exit)) s ⌝ }
+{
+    let there = stream.there + got;
+    match ahead_of(&bytes[..there]) {
+        Ahead::Whole => respond_to(stream, &bytes[..there], held, output),
+        Ahead::Short => cut(stream, output),
+        Ahead::Missing(missing) => {
+            if there == 0 {
+                return finish(stream, output);
+            }
+            if got == 0 {
+                return cut(stream, output);
+            }
+            let mut after = stream;
+            after.there = there;
+            after.wanted = missing;
+            after.ready = 0;
+            after
+        }
     }
 }

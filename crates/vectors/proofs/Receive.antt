@@ -20,7 +20,7 @@ use Rattle.run.specs.Trials.{run}
 use Rattle.flip.specs.Decode.{decodedBy, decodedWith}
 use Rattle.lines.specs.Text.{text}
 use Rattle.lines.specs.Line.{decimalIn}
-use Rattle.records.specs.Respond.{descriptionResponse, responded}
+use Rattle.response.specs.Respond.{descriptionResponse, responded}
 use Rattle.frames.specs.Frame.{decodingLine, channelLine}
 use Rattle.vectors.proofs.Descriptions.{starredD, starredV}
 

@@ -1,4 +1,4 @@
--- `records::respond` meets its contract: past each test that fails, the answer is that of the kinds that are left.
+-- `response::respond` meets its contract: past each test that fails, the answer is that of the kinds that are left.
 use mathlib.Core.Path.{_≡_, sym, ap, _∙_}
 use mathlib.Core.Bool.{Bool, cond}
 use mathlib.Core.List.{List}
@@ -12,11 +12,11 @@ use lib.Seq.{length-take-le}
 use Rattle.code.specs.Description.{word}
 use Rattle.lines.specs.Line.{skipLine}
 use Rattle.frames.specs.Frame.{channelLine}
-use Rattle.records.specs.declared.Header.{Header}
-use Rattle.records.specs.Respond.{descriptionResponse, responded}
-use Rattle.records.proofs.Answers.{answers-line, answers-as}
-use Rattle.records.proofs.respond.Statement.{statement}
-use Rattle.records.proofs.respond.Tie as tie
+use Rattle.response.specs.declared.Header.{Header}
+use Rattle.response.specs.Respond.{descriptionResponse, responded}
+use Rattle.response.proofs.Answers.{answers-line, answers-as}
+use Rattle.response.proofs.respond.Statement.{statement}
+use Rattle.response.proofs.respond.Tie as tie
 
 -- the answer by what the tests of kind 1 and of kind 2 say
 abbrev by-2 : List ℕ → List ℕ → Bool → List ℕ × List ℕ

@@ -1,4 +1,4 @@
--- `records::respond_description` meets its contract: the definition goes by what the description says.
+-- `response::respond_description` meets its contract: the definition goes by what the description says.
 use mathlib.Core.Path.{_≡_, sym, ap, ap₂, _∙_}
 use mathlib.Core.List.{List}
 use Prim.Native.Nat.{ℕ}
@@ -17,11 +17,11 @@ use Rattle.code.specs.Claims.{Described}
 use Rattle.code.proofs.Facts.{described}
 use Rattle.lines.specs.Line.{codeLine, noLine}
 use Rattle.lines.proofs.Putting.{length-put, take-put}
-use Rattle.records.specs.Respond.{descriptionResponse}
-use Rattle.records.proofs.Answers.{answers-line, answers-as}
-use Rattle.records.proofs.Room.{description-most}
-use Rattle.records.proofs.respond_description.Statement.{statement}
-use Rattle.records.proofs.respond_description.Tie as tie
+use Rattle.response.specs.Respond.{descriptionResponse}
+use Rattle.response.proofs.Answers.{answers-line, answers-as}
+use Rattle.response.proofs.Room.{description-most}
+use Rattle.response.proofs.respond_description.Statement.{statement}
+use Rattle.response.proofs.respond_description.Tie as tie
 
 -- the definition, by an answer of `describe`
 abbrev by : List ℕ → List ℕ → Description → List ℕ × List ℕ

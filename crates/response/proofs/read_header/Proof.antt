@@ -1,11 +1,11 @@
--- `records::read_header` meets its contract.
+-- `response::read_header` meets its contract.
 use mathlib.Core.Path.{ap₂}
 use Prim.Native.Nat.{ℕ}
 use native.Mathlib.Omega.{arith}
 use borrow.Author.Needs.{needs}
-use Rattle.records.specs.declared.Header.{Header}
-use Rattle.records.proofs.read_header.Statement.{statement}
-use Rattle.records.proofs.read_header.Tie as tie
+use Rattle.response.specs.declared.Header.{Header}
+use Rattle.response.proofs.read_header.Statement.{statement}
+use Rattle.response.proofs.read_header.Tie as tie
 
 abbrev made : ℕ → ℕ → Header
 made length kind = record { length = length; kind = kind }

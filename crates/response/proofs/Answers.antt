@@ -6,8 +6,8 @@ use native.Mathlib.Omega.{arith}
 use lib.ListN.{length, take}
 use Rattle.lines.specs.Contracts.{PutPost}
 use Rattle.lines.proofs.Putting.{length-put, take-put}
-use Rattle.records.specs.declared.Response.{Response}
-use Rattle.records.specs.Contracts.{RespondPost}
+use Rattle.response.specs.declared.Response.{Response}
+use Rattle.response.specs.Contracts.{RespondPost}
 
 abbrev response : ℕ → ℕ → Response
 response line held = record { line = line; held = held }

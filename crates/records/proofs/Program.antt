@@ -1,0 +1,48 @@
+-- What the program writes: all that the input prints, in at most one read for each byte and one more.
+use mathlib.Core.Path.{_≡_, refl, sym, ap, _∙_}
+use mathlib.Core.Bool.{Bool, cond}
+use mathlib.Core.List.{List, [], _∷_, _++_, append-assoc}
+use Prim.Native.Nat.{ℕ, zero, suc, _+_, _≤_, _<_}
+use native.Mathlib.Omega.{arith}
+use borrow.Author.Tests.{eq-eqb, ne-eqb}
+use lib.Dec.{eqb}
+use lib.ListN.{length, take, drop, length-append}
+use lib.Seq.{take-add}
+use Rattle.laws.specs.Contracts.{splice}
+use Rattle.laws.proofs.Segment.{take-splice, segment-splice, length-splice}
+use Rattle.records.specs.declared.Stream.{Stream}
+use Rattle.records.specs.Stream.{printedFrom, printed}
+use Rattle.records.specs.Contracts.{starting, yetPrinted, AdvancePost}
+use Rattle.records.specs.Claims.{Run, over, turn}
+
+-- what was there, and the piece behind it
+there-and-piece : (bytes piece : List ℕ) (at : ℕ) → at + length piece ≤ length bytes → take (at + length piece) (splice bytes at piece) ≡ take at bytes ++ piece
+there-and-piece bytes piece at l =
+    take-add at (length piece) (splice bytes at piece)
+    ∙ ap (λ (x : List ℕ). x ++ take (length piece) (drop at (splice bytes at piece))) (take-splice bytes at piece (length piece) refl l)
+    ∙ ap (λ (x : List ℕ). take at bytes ++ x) (segment-splice bytes at piece (length piece) refl l)
+
+-- what is yet to be printed, which is nothing where the stream is over
+abbrev yet : Stream → List ℕ → List ℕ → List ℕ → List ℕ → List ℕ
+yet s bytes held output input = cond (eqb (s .wanted) 0) [] (yetPrinted s (take (s .there) bytes) held output input)
+
+run-yet : {room turns : ℕ} {s : Stream} {bytes held output input text : List ℕ} → 65535 ≤ length bytes → s .there + s .wanted ≤ 65535 → Run room turns s bytes held output input text → text ≡ yet s bytes held output input
+run-yet {s = s} {bytes} {held} {output} {input} l m (over e) = ap (λ (t : Bool). cond t [] (yetPrinted s (take (s .there) bytes) held output input)) (sym (eq-eqb (s .wanted) 0 e))
+run-yet {s = s} {bytes} {held} {output} l m (turn {s′ = s′} {held′ = held′} {output′ = output′} piece rest some few ends p r) =
+    let room : s .there + length piece ≤ length bytes = omega arith in
+    ap (λ (x : List ℕ). take (s′ .ready) output′ ++ x) (run-yet (omega (arith, length-splice bytes (s .there) piece (length piece) refl room)) (p .between .wanted-fits) r)
+    ∙ sym (p .prints rest ends)
+    ∙ ap (λ (x : List ℕ). take (s .waiting) output ++ printedFrom (take (s .held) held) (s .count) x)
+    (ap (λ (x : List ℕ). x ++ rest) (there-and-piece bytes piece (s .there) room) ∙ append-assoc (take (s .there) bytes) piece rest)
+    ∙ ap (λ (t : Bool). cond t [] (yetPrinted s (take (s .there) bytes) held output (piece ++ rest))) (sym (ne-eqb (s .wanted) 0 (λ z. omega arith)))
+
+-- a turn that reads nothing is the last
+turns-most : {room turns : ℕ} {s : Stream} {bytes held output input text : List ℕ} → Run room turns s bytes held output input text → turns ≤ length input + 1
+turns-most (over e) = omega arith
+turns-most (turn [] rest some few ends p (over e)) = omega arith
+turns-most (turn [] rest some few ends p (turn piece rest′ some′ few′ ends′ p′ r)) = absurd (omega (arith, p .ends refl))
+turns-most (turn (x ∷ piece) rest some few ends p r) = omega (arith, turns-most r, length-append (x ∷ piece) rest)
+
+-- from the start on
+pub run-printed : {room turns : ℕ} {bytes held output input text : List ℕ} → 65535 ≤ length bytes → Run room turns starting bytes held output input text → (text ≡ printed input) × (turns ≤ length input + 1)
+run-printed l r = (run-yet l (omega arith) r, turns-most r)

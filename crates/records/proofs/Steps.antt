@@ -1,0 +1,157 @@
+-- What each way of going on prints, from what the bytes that are there say.
+use mathlib.Core.Path.{_≡_, refl, sym, ap, ap₂, _∙_, subst}
+use mathlib.Core.Bool.{Bool, cond}
+use mathlib.Core.List.{List, [], _++_, append-assoc, append-nil}
+use Prim.Native.Nat.{ℕ, _+_, _≤_, _<_}
+use native.Mathlib.Omega.{arith}
+use borrow.Author.Tests.{eq-eqb, ne-eqb}
+use lib.Dec.{eqb}
+use lib.ListN.{length, take, drop, length-append, length-take}
+use lib.Seq.{length-take-le, take-add}
+use Rattle.code.specs.Description.{word}
+use Rattle.lines.specs.Line.{cutLine, endLine}
+use Rattle.response.specs.Respond.{responded}
+use Rattle.records.specs.declared.Ahead.{Ahead}
+use Rattle.records.specs.declared.Ahead.the-variants.{Whole, Missing, Short}
+use Rattle.records.specs.declared.Stream.{Stream}
+use Rattle.records.specs.Stream.{startsWhole, printedFrom}
+use Rattle.records.specs.Claims.{IsRecord}
+use Rattle.records.specs.Contracts.{aheadOf, Fits, RespondToPost, EndPost, Between, yetPrinted, AdvancePre, AdvancePost}
+use Rattle.records.proofs.Whole.{Starts, none-whole, word-append}
+use Rattle.records.proofs.Printed.{printed-end, printed-cut, printed-first}
+use Rattle.records.proofs.Looks.{Looks, few, short, part, whole, looks, some-missing, within}
+
+-- ---- what is there and what is not read
+
+-- a whole record: it has no byte more than its length
+is-record : {a : Ahead} (bytes : List ℕ) → Looks bytes a → a ≡ Whole → (4 ≤ word bytes 0 → length bytes ≤ word bytes 0) → IsRecord bytes
+is-record bytes (whole l m k) e f = record { least = l; length-is = omega (arith, f m) }
+is-record bytes (few l) e f = let z : _≡_ {A = ℕ} 0 1 = cc in absurd (omega arith)
+is-record bytes (short l m) e f = let z : _≡_ {A = ℕ} 0 1 = cc in absurd (omega arith)
+is-record bytes (part l m k) e f = let z : _≡_ {A = ℕ} 0 1 = cc in absurd (omega arith)
+
+-- a length below 4
+short-cut : {a : Ahead} (held : List ℕ) (count : ℕ) (bytes rest : List ℕ) → Looks bytes a → a ≡ Short → printedFrom held count (bytes ++ rest) ≡ cutLine ++ endLine count
+short-cut held count bytes rest (short l m) e =
+    printed-cut held count (bytes ++ rest) (none-whole (bytes ++ rest) (λ s. omega (arith, s .least, word-append bytes rest l))) (λ z. omega (arith, length-append bytes rest))
+short-cut held count bytes rest (few l) e = let z : _≡_ {A = ℕ} 0 1 = cc in absurd (omega arith)
+short-cut held count bytes rest (part l m k) e = let z : _≡_ {A = ℕ} 0 1 = cc in absurd (omega arith)
+short-cut held count bytes rest (whole l m k) e = let z : _≡_ {A = ℕ} 0 1 = cc in absurd (omega arith)
+
+-- the input ends inside a record
+missing-cut : {a : Ahead} {n : ℕ} (held : List ℕ) (count : ℕ) (bytes : List ℕ) → Looks bytes a → a ≡ Missing n → (length bytes ≡ 0 → ⊥) → printedFrom held count bytes ≡ cutLine ++ endLine count
+missing-cut held count bytes (few l) e some = printed-cut held count bytes (none-whole bytes (λ s. omega (arith, s .header))) some
+missing-cut held count bytes (part l m k) e some = printed-cut held count bytes (none-whole bytes (λ s. omega (arith, s .most))) some
+missing-cut held count bytes (short l m) e some = let z : _≡_ {A = ℕ} 0 1 = cc in absurd (omega arith)
+missing-cut held count bytes (whole l m k) e some = let z : _≡_ {A = ℕ} 0 1 = cc in absurd (omega arith)
+
+-- ---- the steps
+
+module _ {longest room : ℕ} (s : Stream) (got : ℕ) (bytes held output : List ℕ) (pre : AdvancePre longest room s got bytes held output) where
+  -- what is there once `got` bytes have been read
+  abbrev there : List ℕ
+  there = take (s .there + got) bytes
+
+  abbrev printing : List ℕ → List ℕ
+  printing rest = printedFrom (take (s .held) held) (s .count) (there ++ rest)
+
+  -- no byte of the next record is there
+  none-there : (s′ : Stream) → s′ .there ≡ 0 → length (take (s′ .there) bytes) ≡ s′ .there
+  none-there s′ e = ap (λ (n : ℕ). length (take n bytes)) e ∙ sym e
+
+  pub record-there : aheadOf there ≡ Whole → IsRecord there
+  record-there e =
+      let old = take (s .there) bytes in
+      let more = take got (drop (s .there) bytes) in
+      let parts : take (s .there + got) bytes ≡ take (s .there) bytes ++ take got (drop (s .there) bytes) = take-add (s .there) got bytes in
+      let missing = pre .between .wanted-is (pre .going) in
+      let few-more : length (take got (drop (s .there) bytes)) ≤ s .wanted = omega (arith, length-take got (drop (s .there) bytes), pre .got-most) in
+      is-record there (looks there) e
+      (λ l. subst (λ (x : List ℕ). length x ≤ word x 0) (sym parts) (within more (looks old) missing few-more (subst (λ (x : List ℕ). 4 ≤ word x 0) parts l)))
+
+  -- with no byte read it is not whole yet
+  not-yet : aheadOf there ≡ Whole → got ≡ 0 → ⊥
+  not-yet e none =
+      let same : s .there + got ≡ s .there = omega arith in
+      let old : aheadOf (take (s .there + got) bytes) ≡ Missing (s .wanted) = ap (λ (n : ℕ). aheadOf (take n bytes)) same ∙ pre .between .wanted-is (pre .going) in
+      let z : _≡_ {A = ℕ} 0 1 = cc in
+      omega arith
+
+  pub advance-whole : {held′ output′ : List ℕ} {s′ : Stream} → aheadOf there ≡ Whole → RespondToPost room s there held output held′ output′ s′ → AdvancePost room s got bytes held output held′ output′ s′
+  advance-whole {held′} {output′} {s′} e p = record {
+    between = record {
+      there-is = none-there s′ (p .there-is);
+      wanted-is = λ l. ap (λ (n : ℕ). aheadOf (take n bytes)) (p .there-is) ∙ ap Missing (sym (p .wanted-is));
+      wanted-fits = omega (arith, p .there-is, p .wanted-is);
+      held-most = p .held-most;
+      output-room = p .output-room;
+    };
+    ready-most = p .ready-most;
+    count-most = omega (arith, p .count-is);
+    ends = λ none. absurd (not-yet e none);
+    prints = λ rest _. prints rest;
+  }
+    where
+      prints : (rest : List ℕ) → take (s .waiting) output ++ printing rest ≡ take (s′ .ready) output′ ++ cond (eqb (s′ .wanted) 0) [] (yetPrinted s′ (take (s′ .there) bytes) held′ output′ rest)
+      prints rest =
+          let a = responded (take (s .held) held) there in
+          let behind = printedFrom (a .1) (s .count + 1) rest in
+          ap (λ (x : List ℕ). take (s .waiting) output ++ x) (printed-first (take (s .held) held) (s .count) there rest (record-there e))
+          ∙ sym (append-assoc (take (s .waiting) output) (a .0) behind)
+          ∙ ap (λ (x : List ℕ). x ++ behind) (sym (p .lines-are))
+          ∙ append-assoc (take (s′ .ready) output′) (take (s′ .waiting) output′) behind
+          ∙ ap₂ (λ (x : List ℕ) (k : ℕ). take (s′ .ready) output′ ++ (take (s′ .waiting) output′ ++ printedFrom x k rest)) (sym (p .held-is)) (sym (p .count-is))
+          ∙ ap (λ (n : ℕ). take (s′ .ready) output′ ++ yetPrinted s′ (take n bytes) held′ output′ rest) (sym (p .there-is))
+          ∙ ap (λ (t : Bool). take (s′ .ready) output′ ++ cond t [] (yetPrinted s′ (take (s′ .there) bytes) held′ output′ rest)) (sym (ne-eqb (s′ .wanted) 0 (λ z. omega (arith, p .wanted-is))))
+
+  -- the stream is over
+  advance-over : {text output′ : List ℕ} {s′ : Stream} → EndPost s text output output′ s′ → ((rest : List ℕ) → (got ≡ 0 → rest ≡ []) → printing rest ≡ text) → AdvancePost room s got bytes held output held output′ s′
+  advance-over {text} {output′} {s′} p f = record {
+    between = record {
+      there-is = none-there s′ (p .there-is);
+      wanted-is = λ l. absurd (omega (arith, p .wanted-is));
+      wanted-fits = omega (arith, p .there-is, p .wanted-is);
+      held-most = omega (arith, p .held-is, pre .between .held-most);
+      output-room = omega (arith, p .waiting-is, p .same-size, pre .between .output-room);
+    };
+    ready-most = p .ready-most;
+    count-most = omega (arith, p .count-is);
+    ends = λ _. p .wanted-is;
+    prints = λ rest ends. ap (λ (x : List ℕ). take (s .waiting) output ++ x) (f rest ends) ∙ sym (p .lines-are) ∙ sym (append-nil (take (s′ .ready) output′))
+        ∙ ap (λ (t : Bool). take (s′ .ready) output′ ++ cond t [] (yetPrinted s′ (take (s′ .there) bytes) held output′ rest)) (sym (eq-eqb (s′ .wanted) 0 (p .wanted-is)));
+  }
+
+  pub advance-short : {output′ : List ℕ} {s′ : Stream} → aheadOf there ≡ Short → EndPost s (cutLine ++ endLine (s .count)) output output′ s′ → AdvancePost room s got bytes held output held output′ s′
+  advance-short e p = advance-over p (λ rest _. short-cut (take (s .held) held) (s .count) there rest (looks there) e)
+
+  pub advance-cut : {output′ : List ℕ} {s′ : Stream} {n : ℕ} → aheadOf there ≡ Missing n → got ≡ 0 → (s .there + got ≡ 0 → ⊥) → EndPost s (cutLine ++ endLine (s .count)) output output′ s′ → AdvancePost room s got bytes held output held output′ s′
+  advance-cut e none some p =
+      advance-over p
+      (λ rest ends.
+        ap (λ (x : List ℕ). printing x) (ends none) ∙ ap (λ (x : List ℕ). printedFrom (take (s .held) held) (s .count) x) (append-nil there)
+        ∙ missing-cut (take (s .held) held) (s .count) there (looks there) e (λ z. some (omega (arith, length-take-le (s .there + got) bytes (pre .bytes-room)))))
+
+  pub advance-end : {output′ : List ℕ} {s′ : Stream} → s .there + got ≡ 0 → EndPost s (endLine (s .count)) output output′ s′ → AdvancePost room s got bytes held output held output′ s′
+  advance-end none p =
+      advance-over p
+      (λ rest ends.
+        ap₂ (λ (n : ℕ) (x : List ℕ). printedFrom (take (s .held) held) (s .count) (take n bytes ++ x)) none (ends (omega arith))
+        ∙ printed-end (take (s .held) held) (s .count))
+
+  pub advance-more : {n : ℕ} → aheadOf there ≡ Missing n → Fits there (Missing n) → (got ≡ 0 → ⊥) → AdvancePost room s got bytes held output held output (record { there = s .there + got; wanted = n; held = s .held; count = s .count; waiting = s .waiting; ready = 0 })
+  advance-more {n} e fits some-read =
+      let long = length-take-le (s .there + got) bytes (pre .bytes-room) in
+      let some = some-missing (looks there) e in
+      record {
+        between = record {
+          there-is = long;
+          wanted-is = λ _. e;
+          wanted-fits = omega arith;
+          held-most = pre .between .held-most;
+          output-room = pre .between .output-room;
+        };
+        ready-most = omega arith;
+        count-most = omega arith;
+        ends = λ none. absurd (some-read none);
+        prints = λ rest _. ap (λ (t : Bool). cond t [] (take (s .waiting) output ++ printing rest)) (sym (ne-eqb n 0 (λ z. omega arith)));
+      }

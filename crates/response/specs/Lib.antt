@@ -1,0 +1,2 @@
+pub mod Respond
+pub mod Contracts
