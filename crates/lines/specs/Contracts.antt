@@ -1,9 +1,14 @@
 -- What only contracts below the public operations cite. Nothing here need be believed.
 use mathlib.Core.Path.{_≡_}
 use mathlib.Core.List.{List}
-use Prim.Native.Nat.{ℕ, _+_, _≤_}
+use Prim.Native.Nat.{ℕ, _+_, _*_, _≤_}
 use lib.ListN.{length}
 use Rattle.laws.specs.Contracts.{splice}
+use Rattle.arrays.specs.Claims.{longestBytes}
+
+-- the longest line: `ok`, two numbers of at most 20 digits, a payload in hexadecimal, a space before each, and the line feed
+abbrev pub longestLine : ℕ
+longestLine = 2 + 2 * 21 + 1 + 2 * longestBytes + 1
 
 -- text stands at `at` in what was `before` and is `after`, and `next` is the place past it
 pub record PutPost (before : List ℕ) (at : ℕ) (text after : List ℕ) (next : ℕ) : Type 0 where

@@ -3,14 +3,17 @@
 use code::LONGEST;
 use libc::STDIN_FILENO;
 use libc::STDOUT_FILENO;
-use records::OUTPUT;
-use records::RECORD;
-use records::ROOM;
 ghost use Rattle.receive.specs.Contracts.{Rooms};
+
+// The longest record.
+const RECORD: usize = 65535;
+
+// Lines are collected before they are written.
+const OUTPUT: usize = 16384;
 
 // Reads and writes until the stream is over. No input is long enough for the turns to reach their bound.
 fn receive(bytes: &mut [u8], held: &mut [u8], output: &mut [u8])
-    requires { do ⌜ Rooms (← ⟦RECORD⟧) (← ⟦LONGEST⟧) (← ⟦ROOM⟧) (now bytes) (now held) (now output) ⌝ }
+    requires { do ⌜ Rooms (← ⟦LONGEST⟧) (now bytes) (now held) (now output) ⌝ }
 {
     let mut stream = records::start();
     let mut turns: u64 = 0;

@@ -26,7 +26,7 @@ there-and-piece bytes piece at l =
 abbrev yet : Stream → List ℕ → List ℕ → List ℕ → List ℕ → List ℕ
 yet s bytes held output input = cond (eqb (s .wanted) 0) [] (yetPrinted s (take (s .there) bytes) held output input)
 
-run-yet : {room turns : ℕ} {s : Stream} {bytes held output input text : List ℕ} → 65535 ≤ length bytes → s .there + s .wanted ≤ 65535 → Run room turns s bytes held output input text → text ≡ yet s bytes held output input
+run-yet : {turns : ℕ} {s : Stream} {bytes held output input text : List ℕ} → 65535 ≤ length bytes → s .there + s .wanted ≤ 65535 → Run turns s bytes held output input text → text ≡ yet s bytes held output input
 run-yet {s = s} {bytes} {held} {output} {input} l m (over e) = ap (λ (t : Bool). cond t [] (yetPrinted s (take (s .there) bytes) held output input)) (sym (eq-eqb (s .wanted) 0 e))
 run-yet {s = s} {bytes} {held} {output} l m (turn {s′ = s′} {held′ = held′} {output′ = output′} piece rest some few ends p r) =
     let room : s .there + length piece ≤ length bytes = omega arith in
@@ -37,12 +37,12 @@ run-yet {s = s} {bytes} {held} {output} l m (turn {s′ = s′} {held′ = held�
     ∙ ap (λ (t : Bool). cond t [] (yetPrinted s (take (s .there) bytes) held output (piece ++ rest))) (sym (ne-eqb (s .wanted) 0 (λ z. omega arith)))
 
 -- a turn that reads nothing is the last
-turns-most : {room turns : ℕ} {s : Stream} {bytes held output input text : List ℕ} → Run room turns s bytes held output input text → turns ≤ length input + 1
+turns-most : {turns : ℕ} {s : Stream} {bytes held output input text : List ℕ} → Run turns s bytes held output input text → turns ≤ length input + 1
 turns-most (over e) = omega arith
 turns-most (turn [] rest some few ends p (over e)) = omega arith
 turns-most (turn [] rest some few ends p (turn piece rest′ some′ few′ ends′ p′ r)) = absurd (omega (arith, p .ends refl))
 turns-most (turn (x ∷ piece) rest some few ends p r) = omega (arith, turns-most r, length-append (x ∷ piece) rest)
 
 -- from the start on
-pub run-printed : {room turns : ℕ} {bytes held output input text : List ℕ} → 65535 ≤ length bytes → Run room turns starting bytes held output input text → (text ≡ printed input) × (turns ≤ length input + 1)
+pub run-printed : {turns : ℕ} {bytes held output input text : List ℕ} → 65535 ≤ length bytes → Run turns starting bytes held output input text → (text ≡ printed input) × (turns ≤ length input + 1)
 run-printed l r = (run-yet l (omega arith) r, turns-most r)

@@ -47,7 +47,7 @@ missing-cut held count bytes (whole l m k) e some = let z : _≡_ {A = ℕ} 0 1 
 
 -- ---- the steps
 
-module _ {longest room : ℕ} (s : Stream) (got : ℕ) (bytes held output : List ℕ) (pre : AdvancePre longest room s got bytes held output) where
+module _ {longest : ℕ} (s : Stream) (got : ℕ) (bytes held output : List ℕ) (pre : AdvancePre longest s got bytes held output) where
   -- what is there once `got` bytes have been read
   abbrev there : List ℕ
   there = take (s .there + got) bytes
@@ -77,7 +77,7 @@ module _ {longest room : ℕ} (s : Stream) (got : ℕ) (bytes held output : List
       let z : _≡_ {A = ℕ} 0 1 = cc in
       omega arith
 
-  pub advance-whole : {held′ output′ : List ℕ} {s′ : Stream} → aheadOf there ≡ Whole → RespondToPost room s there held output held′ output′ s′ → AdvancePost room s got bytes held output held′ output′ s′
+  pub advance-whole : {held′ output′ : List ℕ} {s′ : Stream} → aheadOf there ≡ Whole → RespondToPost s there held output held′ output′ s′ → AdvancePost s got bytes held output held′ output′ s′
   advance-whole {held′} {output′} {s′} e p = record {
     between = record {
       there-is = none-there s′ (p .there-is);
@@ -105,7 +105,7 @@ module _ {longest room : ℕ} (s : Stream) (got : ℕ) (bytes held output : List
           ∙ ap (λ (t : Bool). take (s′ .ready) output′ ++ cond t [] (yetPrinted s′ (take (s′ .there) bytes) held′ output′ rest)) (sym (ne-eqb (s′ .wanted) 0 (λ z. omega (arith, p .wanted-is))))
 
   -- the stream is over
-  advance-over : {text output′ : List ℕ} {s′ : Stream} → EndPost s text output output′ s′ → ((rest : List ℕ) → (got ≡ 0 → rest ≡ []) → printing rest ≡ text) → AdvancePost room s got bytes held output held output′ s′
+  advance-over : {text output′ : List ℕ} {s′ : Stream} → EndPost s text output output′ s′ → ((rest : List ℕ) → (got ≡ 0 → rest ≡ []) → printing rest ≡ text) → AdvancePost s got bytes held output held output′ s′
   advance-over {text} {output′} {s′} p f = record {
     between = record {
       there-is = none-there s′ (p .there-is);
@@ -121,24 +121,24 @@ module _ {longest room : ℕ} (s : Stream) (got : ℕ) (bytes held output : List
         ∙ ap (λ (t : Bool). take (s′ .ready) output′ ++ cond t [] (yetPrinted s′ (take (s′ .there) bytes) held output′ rest)) (sym (eq-eqb (s′ .wanted) 0 (p .wanted-is)));
   }
 
-  pub advance-short : {output′ : List ℕ} {s′ : Stream} → aheadOf there ≡ Short → EndPost s (cutLine ++ endLine (s .count)) output output′ s′ → AdvancePost room s got bytes held output held output′ s′
+  pub advance-short : {output′ : List ℕ} {s′ : Stream} → aheadOf there ≡ Short → EndPost s (cutLine ++ endLine (s .count)) output output′ s′ → AdvancePost s got bytes held output held output′ s′
   advance-short e p = advance-over p (λ rest _. short-cut (take (s .held) held) (s .count) there rest (looks there) e)
 
-  pub advance-cut : {output′ : List ℕ} {s′ : Stream} {n : ℕ} → aheadOf there ≡ Missing n → got ≡ 0 → (s .there + got ≡ 0 → ⊥) → EndPost s (cutLine ++ endLine (s .count)) output output′ s′ → AdvancePost room s got bytes held output held output′ s′
+  pub advance-cut : {output′ : List ℕ} {s′ : Stream} {n : ℕ} → aheadOf there ≡ Missing n → got ≡ 0 → (s .there + got ≡ 0 → ⊥) → EndPost s (cutLine ++ endLine (s .count)) output output′ s′ → AdvancePost s got bytes held output held output′ s′
   advance-cut e none some p =
       advance-over p
       (λ rest ends.
         ap (λ (x : List ℕ). printing x) (ends none) ∙ ap (λ (x : List ℕ). printedFrom (take (s .held) held) (s .count) x) (append-nil there)
         ∙ missing-cut (take (s .held) held) (s .count) there (looks there) e (λ z. some (omega (arith, length-take-le (s .there + got) bytes (pre .bytes-room)))))
 
-  pub advance-end : {output′ : List ℕ} {s′ : Stream} → s .there + got ≡ 0 → EndPost s (endLine (s .count)) output output′ s′ → AdvancePost room s got bytes held output held output′ s′
+  pub advance-end : {output′ : List ℕ} {s′ : Stream} → s .there + got ≡ 0 → EndPost s (endLine (s .count)) output output′ s′ → AdvancePost s got bytes held output held output′ s′
   advance-end none p =
       advance-over p
       (λ rest ends.
         ap₂ (λ (n : ℕ) (x : List ℕ). printedFrom (take (s .held) held) (s .count) (take n bytes ++ x)) none (ends (omega arith))
         ∙ printed-end (take (s .held) held) (s .count))
 
-  pub advance-more : {n : ℕ} → aheadOf there ≡ Missing n → Fits there (Missing n) → (got ≡ 0 → ⊥) → AdvancePost room s got bytes held output held output (record { there = s .there + got; wanted = n; held = s .held; count = s .count; waiting = s .waiting; ready = 0 })
+  pub advance-more : {n : ℕ} → aheadOf there ≡ Missing n → Fits there (Missing n) → (got ≡ 0 → ⊥) → AdvancePost s got bytes held output held output (record { there = s .there + got; wanted = n; held = s .held; count = s .count; waiting = s .waiting; ready = 0 })
   advance-more {n} e fits some-read =
       let long = length-take-le (s .there + got) bytes (pre .bytes-room) in
       let some = some-missing (looks there) e in

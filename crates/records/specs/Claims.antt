@@ -28,13 +28,13 @@ abbrev pub heldAfter : List ℕ → List (List ℕ) → List ℕ
 heldAfter held [] = held
 heldAfter held (bytes ∷ more) = heldAfter (responded held bytes .1) more
 
--- `Run room turns s bytes held output input text`: what the program `receive` does from the stream s on, with so many reads, and the text that
+-- `Run turns s bytes held output input text`: what the program `receive` does from the stream s on, with so many reads, and the text that
 -- it writes. Each turn reads a piece of the input behind the bytes that are there, at most what is wanted, and nothing only where the input is
 -- at its end; `advance` answers; what is ready is written. `run-printed` of proofs/Program.antt says what the text is.
-pub data Run (room : ℕ) : ℕ → Stream → List ℕ → List ℕ → List ℕ → List ℕ → List ℕ → Type 0 where
-  over : {s : Stream} {bytes held output input : List ℕ} → s .wanted ≡ 0 → Run room zero s bytes held output input []
+pub data Run : ℕ → Stream → List ℕ → List ℕ → List ℕ → List ℕ → List ℕ → Type 0 where
+  over : {s : Stream} {bytes held output input : List ℕ} → s .wanted ≡ 0 → Run zero s bytes held output input []
   turn : {turns : ℕ} {s s′ : Stream} {bytes held output held′ output′ text : List ℕ} (piece rest : List ℕ)
       → 0 < s .wanted → length piece ≤ s .wanted → (length piece ≡ 0 → rest ≡ [])
-      → AdvancePost room s (length piece) (splice bytes (s .there) piece) held output held′ output′ s′
-      → Run room turns s′ (splice bytes (s .there) piece) held′ output′ rest text
-      → Run room (suc turns) s bytes held output (piece ++ rest) (take (s′ .ready) output′ ++ text)
+      → AdvancePost s (length piece) (splice bytes (s .there) piece) held output held′ output′ s′
+      → Run turns s′ (splice bytes (s .there) piece) held′ output′ rest text
+      → Run (suc turns) s bytes held output (piece ++ rest) (take (s′ .ready) output′ ++ text)

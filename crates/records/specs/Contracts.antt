@@ -2,15 +2,20 @@
 use mathlib.Core.Path.{_≡_}
 use mathlib.Core.Bool.{cond}
 use mathlib.Core.List.{List, [], _++_}
-use Prim.Native.Nat.{ℕ, _+_, _-_, _≤_, _<_}
+use Prim.Native.Nat.{ℕ, _+_, _-_, _*_, _≤_, _<_}
 use lib.Dec.{ltb, eqb}
 use lib.ListN.{length, take}
 use Rattle.code.specs.Description.{word}
+use Rattle.lines.specs.Contracts.{longestLine}
 use Rattle.response.specs.Respond.{responded}
 use Rattle.records.specs.declared.Ahead.{Ahead}
 use Rattle.records.specs.declared.Ahead.the-variants.{Whole, Missing, Short}
 use Rattle.records.specs.declared.Stream.{Stream}
 use Rattle.records.specs.Stream.{printedFrom}
+
+-- room for what one step prints: a record's line, or `cut` and `end`
+abbrev pub room : ℕ
+room = 2 * longestLine
 
 -- a stream of which nothing has been read
 abbrev pub starting : Stream
@@ -29,13 +34,13 @@ Fits bytes (Missing n) = length bytes + n ≤ 65535
 Fits bytes Short = Unit
 
 -- how much is written of what waits in an output of `size` bytes: all or nothing, and what is left leaves room
-pub record ReadyPost (room waiting size ready : ℕ) : Type 0 where
+pub record ReadyPost (waiting size ready : ℕ) : Type 0 where
   pub most : ready ≤ waiting
   pub splits : (output : List ℕ) → take ready output ++ take (waiting - ready) output ≡ take waiting output
   pub leaves : room ≤ size → waiting - ready + room ≤ size
 
 -- what `respond_to` asks
-pub record RespondToPre (longest room : ℕ) (s : Stream) (bytes held output : List ℕ) : Type 0 where
+pub record RespondToPre (longest : ℕ) (s : Stream) (bytes held output : List ℕ) : Type 0 where
   pub header : 4 ≤ length bytes
   pub held-most : s .held ≤ length held
   pub held-room : longest ≤ length held
@@ -43,7 +48,7 @@ pub record RespondToPre (longest room : ℕ) (s : Stream) (bytes held output : L
   pub count-most : s .count < 18446744073709551615
 
 -- what it answers: the record's line behind what waited, and what is held, in the buffers as they are afterwards
-pub record RespondToPost (room : ℕ) (s : Stream) (bytes held output held′ output′ : List ℕ) (s′ : Stream) : Type 0 where
+pub record RespondToPost (s : Stream) (bytes held output held′ output′ : List ℕ) (s′ : Stream) : Type 0 where
   pub there-is : s′ .there ≡ 0
   pub wanted-is : s′ .wanted ≡ 4
   pub count-is : s′ .count ≡ s .count + 1
@@ -65,7 +70,7 @@ pub record EndPost (s : Stream) (text output output′ : List ℕ) (s′ : Strea
   pub lines-are : take (s′ .ready) output′ ≡ take (s .waiting) output ++ text
 
 -- between two reads: `partial` is there of a record
-pub record Between (room : ℕ) (s : Stream) (partial held output : List ℕ) : Type 0 where
+pub record Between (s : Stream) (partial held output : List ℕ) : Type 0 where
   pub there-is : length partial ≡ s .there
   pub wanted-is : 0 < s .wanted → aheadOf partial ≡ Missing (s .wanted)
   pub wanted-fits : s .there + s .wanted ≤ 65535
@@ -77,8 +82,8 @@ abbrev pub yetPrinted : Stream → List ℕ → List ℕ → List ℕ → List �
 yetPrinted s partial held output rest = take (s .waiting) output ++ printedFrom (take (s .held) held) (s .count) (partial ++ rest)
 
 -- what `advance` asks: `got` bytes have been read behind those that were there
-pub record AdvancePre (longest room : ℕ) (s : Stream) (got : ℕ) (bytes held output : List ℕ) : Type 0 where
-  pub between : Between room s (take (s .there) bytes) held output
+pub record AdvancePre (longest : ℕ) (s : Stream) (got : ℕ) (bytes held output : List ℕ) : Type 0 where
+  pub between : Between s (take (s .there) bytes) held output
   pub going : 0 < s .wanted
   pub got-most : got ≤ s .wanted
   pub bytes-room : s .there + got ≤ length bytes
@@ -87,8 +92,8 @@ pub record AdvancePre (longest room : ℕ) (s : Stream) (got : ℕ) (bytes held 
 
 -- What it answers. Where no byte was read the stream is over. Whatever `rest` of the input is not read, and none is left where no byte was
 -- read: what was yet to be printed is what is written now, and then what is yet to be printed, which is nothing where the stream is over.
-pub record AdvancePost (room : ℕ) (s : Stream) (got : ℕ) (bytes held output held′ output′ : List ℕ) (s′ : Stream) : Type 0 where
-  pub between : Between room s′ (take (s′ .there) bytes) held′ output′
+pub record AdvancePost (s : Stream) (got : ℕ) (bytes held output held′ output′ : List ℕ) (s′ : Stream) : Type 0 where
+  pub between : Between s′ (take (s′ .there) bytes) held′ output′
   pub ready-most : s′ .ready ≤ length output′
   pub count-most : s′ .count ≤ s .count + 1
   pub ends : got ≡ 0 → s′ .wanted ≡ 0

@@ -8,16 +8,10 @@ ghost use Prim.Native.Nat.{_+_, _≤_};
 ghost use lib.ListN.{length};
 ghost use Rattle.lines.specs.Line.{cutLine, endLine};
 ghost use Rattle.records.specs.Stream.{ending};
-ghost use Rattle.records.specs.Contracts.{starting, aheadOf, Fits, ReadyPost, RespondToPre, RespondToPost, EndPost, AdvancePre, AdvancePost};
-
-// The longest record.
-pub const RECORD: usize = 65535;
+ghost use Rattle.records.specs.Contracts.{room, starting, aheadOf, Fits, ReadyPost, RespondToPre, RespondToPost, EndPost, AdvancePre, AdvancePost};
 
 // Room for what one step prints: a record's line, or `cut` and `end`.
-pub const ROOM: usize = 2 * LINE;
-
-// Lines are collected before they are written.
-pub const OUTPUT: usize = 16384;
+const ROOM: usize = 2 * LINE;
 
 // Where a stream is. The first `there` bytes of a record have been read, and at most `wanted` are read next, behind them; none where the
 // stream is over. The first `held` bytes of their buffer are the description that is held. `count` records were whole. The first `ready`
@@ -72,15 +66,15 @@ fn ahead_of(bytes: &[u8]) -> Ahead
 // How much is written of what waits: all of it, where the next step may not fit behind it.
 fn ready_of(waiting: usize, size: usize) -> usize
     requires { ⌜ waiting ≤ size ⌝ }
-    ensures { λ ready. do ⌜ ReadyPost (← ⟦ROOM⟧ .entry) waiting size ready ⌝ }
+    ensures { λ ready. ⌜ ReadyPost waiting size ready ⌝ }
 {
     if size - waiting < ROOM { waiting } else { 0 }
 }
 
 // Responds to a whole record.
 fn respond_to(stream: Stream, bytes: &[u8], held: &mut [u8], output: &mut [u8]) -> Stream
-    requires { do ⌜ RespondToPre (← ⟦LONGEST⟧) (← ⟦ROOM⟧) stream (now bytes) (now held) (now output) ⌝ }
-    ensures { λ s. do ⌜ RespondToPost (← ⟦ROOM⟧ .entry) stream (now (bytes .entry)) (now (held .entry)) (now (output .entry)) (now (held .exit)) (now (output .exit)) s ⌝ }
+    requires { do ⌜ RespondToPre (← ⟦LONGEST⟧) stream (now bytes) (now held) (now output) ⌝ }
+    ensures { λ s. ⌜ RespondToPost stream (now (bytes .entry)) (now (held .entry)) (now (output .entry)) (now (held .exit)) (now (output .exit)) s ⌝ }
 {
     let before = stream.waiting;
     let response = response::respond(held, stream.held, bytes, &mut output[before..]);
@@ -115,7 +109,7 @@ fn finish(stream: Stream, output: &mut [u8]) -> Stream
 
 // Ends a stream with `cut` and `end`.
 fn cut(stream: Stream, output: &mut [u8]) -> Stream
-    requires { do ⌜ stream .waiting + (← ⟦ROOM⟧) ≤ length (now output) ⌝ }
+    requires { ⌜ stream .waiting + room ≤ length (now output) ⌝ }
     ensures { λ s. ⌜ EndPost stream (cutLine ++ endLine (stream .count)) (now (output .entry)) (now (output .exit)) s ⌝ }
 {
     let waiting = stream.waiting;
@@ -133,8 +127,8 @@ pub fn advance(
     held: &mut [u8],
     output: &mut [u8],
 ) -> Stream
-    requires { do ⌜ AdvancePre (← ⟦LONGEST⟧) (← ⟦ROOM⟧) stream got (now bytes) (now held) (now output) ⌝ }
-    ensures { λ s. do ⌜ AdvancePost (← ⟦ROOM⟧ .entry) stream got (now (bytes .entry)) (now (held .entry)) (now (output .entry)) (now (held .exit)) (now (output .exit)) s ⌝ }
+    requires { do ⌜ AdvancePre (← ⟦LONGEST⟧) stream got (now bytes) (now held) (now output) ⌝ }
+    ensures { λ s. ⌜ AdvancePost stream got (now (bytes .entry)) (now (held .entry)) (now (output .entry)) (now (held .exit)) (now (output .exit)) s ⌝ }
 {
     let there = stream.there + got;
     match ahead_of(&bytes[..there]) {

@@ -1,7 +1,8 @@
--- Document 01's example of `receive`, by computation: D, then V with T = 2, then V with T = 1.
+-- Document 01's example of `receive`, by computation: D, then V with T = 2, then V with T = 1. And two inputs that are cut.
 use mathlib.Core.Path.{_≡_, refl}
-use mathlib.Core.List.{List, [], _∷_}
+use mathlib.Core.List.{List, _∷_, _++_}
 use Prim.Native.Nat.{ℕ}
+use lib.ListN.{take}
 use Rattle.laws.specs.First.{firstWhere}
 use Rattle.laws.specs.Table.{table}
 use Rattle.refusal.specs.Judge.{judge, refusedOr}
@@ -21,6 +22,7 @@ use Rattle.flip.specs.Decode.{decodedBy, decodedWith}
 use Rattle.lines.specs.Text.{text}
 use Rattle.lines.specs.Line.{decimalIn}
 use Rattle.response.specs.Respond.{descriptionResponse, responded}
+use Rattle.records.specs.Stream.{recordsIn, responses, printedFrom, printed}
 use Rattle.frames.specs.Frame.{decodingLine, channelLine}
 use Rattle.vectors.proofs.Descriptions.{starredD, starredV}
 
@@ -31,6 +33,12 @@ channelV T = 0x0E ∷ 0x00 ∷ 0x02 ∷ 0x00 ∷ T ∷ 0x00 ∷ starredV 2
 abbrev D : List ℕ
 D = starredD 0xE8
 
-pub example : (responded [] D ≡ (text "code 8 3 1\n", D)) × (responded D (channelV 2) ≡ (text "ok 2 32 00\n", D)) × (responded D (channelV 1) ≡ (text "no 16\n", D))
-unfolding judge refusedOr table number onesBelow packed describe checkOf covers parity transformed xors taken channelValue f g leftValues rightValues firstWhere node information insert ordered run decodedBy decodedWith decimalIn descriptionResponse decodingLine channelLine responded
-example = (refl, refl, refl)
+-- the whole input and all that it prints
+pub example : printed (D ++ (channelV 2 ++ channelV 1)) ≡ text "code 8 3 1\nok 2 32 00\nno 16\nend 3\n"
+unfolding judge refusedOr table number onesBelow packed describe checkOf covers parity transformed xors taken channelValue f g leftValues rightValues firstWhere node information insert ordered run decodedBy decodedWith decimalIn descriptionResponse decodingLine channelLine responded recordsIn responses printedFrom
+example = refl
+
+-- cut inside the second record, and by a length of 3, behind which nothing is read
+pub example-cut : (printed (D ++ take 13 (channelV 2)) ≡ text "code 8 3 1\ncut\nend 1\n") × (printed (0x03 ∷ 0x00 ∷ 0x01 ∷ 0x00 ∷ D) ≡ text "cut\nend 0\n")
+unfolding judge refusedOr onesBelow describe decimalIn descriptionResponse responded recordsIn responses printedFrom
+example-cut = (refl, refl)
