@@ -50,8 +50,8 @@ records-first r rest p =
     let size : word (r ++ rest) 0 ≡ length r = word-append r rest (p .least) ∙ p .length-is in
     let whole : startsWhole (r ++ rest) ≡ true = starts-whole {input = r ++ rest} (record { header = omega (arith, p .least); least = omega (arith, p .least); most = omega arith }) in
     let more : recordsIn (length (r ++ rest)) (drop (word (r ++ rest) 0) (r ++ rest)) ≡ recordsOf rest =
-        ap (recordsIn (length (r ++ rest))) (ap (λ (k : ℕ). drop k (r ++ rest)) size ∙ drop-at r rest (length r) refl)
-        ∙ records-enough (length (r ++ rest)) (length rest) rest (omega arith) (omega arith) in
+    ap (recordsIn (length (r ++ rest))) (ap (λ (k : ℕ). drop k (r ++ rest)) size ∙ drop-at r rest (length r) refl)
+    ∙ records-enough (length (r ++ rest)) (length rest) rest (omega arith) (omega arith) in
     records-enough (length (r ++ rest)) (suc (length (r ++ rest))) (r ++ rest) (omega arith) (omega arith)
     ∙ ap (λ (t : Bool). step t (r ++ rest) (recordsIn (length (r ++ rest)) (drop (word (r ++ rest) 0) (r ++ rest)))) whole
     ∙ ap₂ (λ (x : List ℕ) (m : List (List ℕ) × List ℕ). (x ∷ m .0, m .1)) (ap (λ (k : ℕ). take k (r ++ rest)) size ∙ take-at r rest (length r) refl) more

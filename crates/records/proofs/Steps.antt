@@ -128,15 +128,15 @@ module _ {longest : ℕ} (s : Stream) (got : ℕ) (bytes held output : List ℕ)
   advance-cut e none some p =
       advance-over p
       (λ rest ends.
-        ap (λ (x : List ℕ). printing x) (ends none) ∙ ap (λ (x : List ℕ). printedFrom (take (s .held) held) (s .count) x) (append-nil there)
-        ∙ missing-cut (take (s .held) held) (s .count) there (looks there) e (λ z. some (omega (arith, length-take-le (s .there + got) bytes (pre .bytes-room)))))
+      ap (λ (x : List ℕ). printing x) (ends none) ∙ ap (λ (x : List ℕ). printedFrom (take (s .held) held) (s .count) x) (append-nil there)
+      ∙ missing-cut (take (s .held) held) (s .count) there (looks there) e (λ z. some (omega (arith, length-take-le (s .there + got) bytes (pre .bytes-room)))))
 
   pub advance-end : {output′ : List ℕ} {s′ : Stream} → s .there + got ≡ 0 → EndPost s (endLine (s .count)) output output′ s′ → AdvancePost s got bytes held output held output′ s′
   advance-end none p =
       advance-over p
       (λ rest ends.
-        ap₂ (λ (n : ℕ) (x : List ℕ). printedFrom (take (s .held) held) (s .count) (take n bytes ++ x)) none (ends (omega arith))
-        ∙ printed-end (take (s .held) held) (s .count))
+      ap₂ (λ (n : ℕ) (x : List ℕ). printedFrom (take (s .held) held) (s .count) (take n bytes ++ x)) none (ends (omega arith))
+      ∙ printed-end (take (s .held) held) (s .count))
 
   pub advance-more : {n : ℕ} → aheadOf there ≡ Missing n → Fits there (Missing n) → (got ≡ 0 → ⊥) → AdvancePost s got bytes held output held output (record { there = s .there + got; wanted = n; held = s .held; count = s .count; waiting = s .waiting; ready = 0 })
   advance-more {n} e fits some-read =

@@ -79,14 +79,14 @@ fn respond_to(stream: Stream, bytes: &[u8], held: &mut [u8], output: &mut [u8]) 
     let before = stream.waiting;
     let response = response::respond(held, stream.held, bytes, &mut output[before..]);
     let waiting = before + response.line;
-    let ready = ready_of(waiting, output.len());
+    let written = ready_of(waiting, output.len());
     Stream {
         there: 0,
         wanted: 4,
         held: response.held,
         count: stream.count + 1,
-        waiting: waiting - ready,
-        ready,
+        waiting: waiting - written,
+        ready: written,
     }
 }
 

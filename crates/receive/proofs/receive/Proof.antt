@@ -23,13 +23,12 @@ abbrev μ-loop : tie.MeasureT-loop
 loop-holds : tie.Need-loop-holds Inv-loop μ-loop
 loop-holds c =
     let a = c .before .before .before .before in
-    let s = c .start .ensures in
-    (
+    let s = c .start .ensures in (
       search needs,
       search needs,
       search needs,
       subst (λ (x : Stream). Between x (take (x .there) (now (a .args .bytes))) (now (a .args .held)) (now (a .args .output))) (sym s)
-      (record { there-is = refl; wanted-is = λ _. refl; wanted-fits = omega arith; held-most = omega arith; output-room = omega (arith, a .pre .output-room) }),
+          (record { there-is = refl; wanted-is = λ _. refl; wanted-fits = omega arith; held-most = omega arith; output-room = omega (arith, a .pre .output-room) }),
       omega (arith, ap (λ (x : Stream). x .count) s),
     )
 
