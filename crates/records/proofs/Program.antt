@@ -10,10 +10,12 @@ use lib.ListN.{length, take, drop, length-append}
 use lib.Seq.{take-add}
 use Rattle.laws.specs.Contracts.{splice}
 use Rattle.laws.proofs.Segment.{take-splice, segment-splice, length-splice}
+use Rattle.lines.specs.Line.{decimalIn, endLine}
 use Rattle.records.specs.declared.Stream.{Stream}
 use Rattle.records.specs.Stream.{printedFrom, printed}
-use Rattle.records.specs.Contracts.{starting, yetPrinted, AdvancePost}
+use Rattle.records.specs.Contracts.{room, starting, EndPost, yetPrinted, AdvancePre, AdvancePost}
 use Rattle.records.specs.Claims.{Run, over, turn}
+use Rattle.records.proofs.Steps.{advance-end}
 
 -- what was there, and the piece behind it
 there-and-piece : (bytes piece : List ℕ) (at : ℕ) → at + length piece ≤ length bytes → take (at + length piece) (splice bytes at piece) ≡ take at bytes ++ piece
@@ -46,3 +48,48 @@ turns-most (turn (x ∷ piece) rest some few ends p r) = omega (arith, turns-mos
 -- from the start on
 pub run-printed : {turns : ℕ} {bytes held output input text : List ℕ} → 65535 ≤ length bytes → Run turns starting bytes held output input text → (text ≡ printed input) × (turns ≤ length input + 1)
 run-printed l r = (run-yet l (omega arith) r, turns-most r)
+
+-- ---- an input of no bytes, through the theorem
+
+module _ (bytes held output : List ℕ) (record-room : 65535 ≤ length bytes) (output-room : room ≤ length output) where
+  -- where the only turn leaves the stream: `end` is ready
+  abbrev ended : Stream
+  ended = record { there = 0; wanted = 0; held = 0; count = 0; waiting = 0; ready = length (endLine 0) }
+
+  abbrev written : List ℕ
+  written = splice output 0 (endLine 0)
+
+  line-fits : 0 + length (endLine 0) ≤ length output
+  unfolding decimalIn
+  line-fits = omega arith
+
+  same-size : length written ≡ length output
+  same-size = length-splice output 0 (endLine 0) (length (endLine 0)) refl line-fits
+
+  before : AdvancePre 0 starting 0 (splice bytes 0 []) held output
+  before = record {
+    between = record { there-is = refl; wanted-is = λ _. refl; wanted-fits = omega arith; held-most = omega arith; output-room = output-room };
+    going = omega arith;
+    got-most = omega arith;
+    bytes-room = omega arith;
+    held-room = omega arith;
+    count-most = omega arith;
+  }
+
+  after : EndPost starting (endLine 0) output written ended
+  after = record {
+    there-is = refl;
+    wanted-is = refl;
+    held-is = refl;
+    count-is = refl;
+    waiting-is = refl;
+    same-size = same-size;
+    ready-most = omega (arith, same-size, line-fits);
+    lines-are = segment-splice output 0 (endLine 0) (length (endLine 0)) refl line-fits;
+  }
+
+  pub run-empty : Run 1 starting bytes held output [] (take (length (endLine 0)) written ++ [])
+  run-empty = turn {s = starting} {s′ = ended} [] [] (omega arith) (omega arith) (λ _. refl) (advance-end starting 0 (splice bytes 0 []) held output before refl after) (over refl)
+
+  pub empty-printed : take (length (endLine 0)) written ++ [] ≡ printed []
+  empty-printed = run-printed record-room run-empty .0
