@@ -19,7 +19,7 @@ use report::Row;
 use task::Task;
 use timing::Times;
 
-use crate::sizes::DEEPEST;
+use crate::reference::sizes::DEEPEST;
 
 /// The code lengths, as n.
 const LAYERS: [usize; 3] = [5, 7, DEEPEST];

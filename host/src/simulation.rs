@@ -1,8 +1,10 @@
 //! What flipping gains: the library's decoders on codewords under Gaussian noise, as in document
 //! 000, section V.
 
+mod construction;
 mod figure;
 mod link;
+mod noise;
 mod svg;
 mod table;
 

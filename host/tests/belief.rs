@@ -3,8 +3,8 @@
 
 use std::fs;
 
-use host::belief::{Cited, Crates};
-use host::files::repository;
+use host::testing::belief::{Cited, Crates};
+use host::testing::files::repository;
 
 /// The public operations, each with its crate.
 const OPERATIONS: [(&str, &str); 6] = [

@@ -1,21 +1,21 @@
 //! The library's decoders, held to the reference and to each other on more than 200,000 calls.
 
-use host::channel::read_channel;
-use host::description::{describe, mask_of, record, Code};
-use host::encode::codeword;
-use host::flip::{self, order, restart_index, trials_made, Accepted};
-use host::guard::{lend_input, lend_output, lend_reference};
-use host::library;
-use host::number::decode_number;
-use host::packing::{pack, packed_length};
-use host::paper::{D, V};
-use host::pass::{pass, plain_rules, skipped_steps};
-use host::placing::place;
-use host::random::Random;
-use host::refusal::{refusal_number, Refusal};
-use host::samples::{self, for_refused_descriptions};
-use host::sizes::{DEEPEST, LAYERS, LONGEST, LONGEST_BYTES, MOST_TRIALS};
-use host::transform::transform;
+use host::reference::channel::read_channel;
+use host::reference::description::{describe, mask_of, record, Code};
+use host::reference::encode::codeword;
+use host::reference::flip::{self, order, restart_index, trials_made, Accepted};
+use host::reference::number::decode_number;
+use host::reference::packing::{pack, packed_length};
+use host::reference::pass::{pass, plain_rules, skipped_steps};
+use host::reference::placing::place;
+use host::reference::refusal::{refusal_number, Refusal};
+use host::reference::sizes::{DEEPEST, LAYERS, LONGEST, LONGEST_BYTES, MOST_TRIALS};
+use host::reference::transform::transform;
+use host::testing::guard::{lend_input, lend_output, lend_reference};
+use host::testing::library;
+use host::testing::paper::{D, V};
+use host::testing::random::Random;
+use host::testing::samples::{self, for_refused_descriptions};
 
 type Reference = fn(&[u8], &[u8], u32, &mut [u8]) -> Result<Accepted, Refusal>;
 type Library = fn(&[u8], &[u8], u32, &mut [u8]) -> u64;

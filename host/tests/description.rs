@@ -1,13 +1,13 @@
 //! The library's reading of descriptions, held to the reference on more than 300,000 inputs.
 
-use host::description::{describe, record, LONGEST_DESCRIPTION};
-use host::guard::lend_input;
-use host::hex::parse;
-use host::library::{self, description_number};
-use host::paper::D;
-use host::random::Random;
-use host::samples;
-use host::sizes::{DEEPEST, LAYERS, LONGEST};
+use host::reference::description::{describe, record, LONGEST_DESCRIPTION};
+use host::reference::sizes::{DEEPEST, LAYERS, LONGEST};
+use host::testing::guard::lend_input;
+use host::testing::hex::parse;
+use host::testing::library::{self, description_number};
+use host::testing::paper::D;
+use host::testing::random::Random;
+use host::testing::samples;
 
 /// Compares one answer in all its bits; gives the refusal's number, or 0.
 fn check(d: &[u8]) -> usize {

@@ -1,16 +1,16 @@
 //! The library's encoder, held to the reference on more than 150,000 calls.
 
-use host::description::{describe, record};
-use host::encode::encode;
-use host::guard::{lend_input, lend_output, lend_reference};
-use host::library;
-use host::number::encode_number;
-use host::packing::packed_length;
-use host::paper::D;
-use host::random::Random;
-use host::refusal::refusal_number;
-use host::samples::{self, for_descriptions, for_refused_descriptions};
-use host::sizes::{LAYERS, LONGEST_BYTES};
+use host::reference::description::{describe, record};
+use host::reference::encode::encode;
+use host::reference::number::encode_number;
+use host::reference::packing::packed_length;
+use host::reference::refusal::refusal_number;
+use host::reference::sizes::{LAYERS, LONGEST_BYTES};
+use host::testing::guard::{lend_input, lend_output, lend_reference};
+use host::testing::library;
+use host::testing::paper::D;
+use host::testing::random::Random;
+use host::testing::samples::{self, for_descriptions, for_refused_descriptions};
 
 /// The library's answer, and its output after it.
 fn run(d: &[u8], payload: &[u8], before: &[u8]) -> (u64, Vec<u8>) {

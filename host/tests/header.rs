@@ -4,7 +4,7 @@ use std::fs;
 use std::path::Path;
 use std::process::Command;
 
-use host::files::repository;
+use host::testing::files::repository;
 
 /// Compiles the program of a folder with the header and the library, runs it, and gives what it
 /// prints.

@@ -1,10 +1,10 @@
 //! The library's mask bits and counts of ones, held to the reference.
 
-use host::description::{count_information, is_information};
-use host::guard::lend_input;
-use host::library;
-use host::random::Random;
-use host::sizes::{LONGEST, LONGEST_BYTES};
+use host::reference::description::{count_information, is_information};
+use host::reference::sizes::{LONGEST, LONGEST_BYTES};
+use host::testing::guard::lend_input;
+use host::testing::library;
+use host::testing::random::Random;
 
 #[test]
 fn every_mask_bit() {

@@ -1,10 +1,10 @@
 //! The library's packing and unpacking, held to the reference for every count of bits of a code.
 
-use host::guard::{lend_input, lend_output};
-use host::library;
-use host::packing::{pack, packed_length, unpack};
-use host::random::Random;
-use host::sizes::LONGEST as MOST;
+use host::reference::packing::{pack, packed_length, unpack};
+use host::reference::sizes::LONGEST as MOST;
+use host::testing::guard::{lend_input, lend_output};
+use host::testing::library;
+use host::testing::random::Random;
 
 /// Runs a library function from `input` into an output that holds `before`; gives its answer and
 /// the output after it.

@@ -1,16 +1,16 @@
 //! The plain codecs that the benchmark compares with, held to the reference.
 
 use host::bench::others;
-use host::description::{describe, is_information, mask_of};
-use host::encode::encode;
-use host::flip::{decode_full, decode_restarted};
-use host::number::{decode_number, encode_number, quantise_numbers, resume_number};
-use host::packing::{packed_length, unpack};
-use host::quantise::quantise;
-use host::random::Random;
-use host::resume::resume;
-use host::samples;
-use host::sizes::LAYERS;
+use host::reference::description::{describe, is_information, mask_of};
+use host::reference::encode::encode;
+use host::reference::flip::{decode_full, decode_restarted};
+use host::reference::number::{decode_number, encode_number, quantise_numbers, resume_number};
+use host::reference::packing::{packed_length, unpack};
+use host::reference::quantise::quantise;
+use host::reference::resume::resume;
+use host::reference::sizes::LAYERS;
+use host::testing::random::Random;
+use host::testing::samples;
 
 /// Each call on these inputs, whether they suit each other or not.
 fn check(d: &[u8], payload: &[u8], channel: &[u8], prefix: &[u8], limit: u32, room: [usize; 3]) {

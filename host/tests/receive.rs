@@ -7,10 +7,10 @@ use std::io::Write;
 use std::process::{Command, Stdio};
 use std::thread;
 
-use host::files::repository;
-use host::random::Random;
-use host::receive::receive;
-use host::streams;
+use host::reference::receive::receive;
+use host::testing::files::repository;
+use host::testing::random::Random;
+use host::testing::streams;
 
 /// What the program prints for an input that comes in pieces of `piece` bytes.
 fn run(input: &[u8], piece: usize) -> String {

@@ -3,7 +3,7 @@
 use std::fs;
 use std::ops::RangeInclusive;
 
-use host::files::repository;
+use host::testing::files::repository;
 
 /// Words of document 01 for each refusal, from 1 on.
 const WORDS: [&str; 24] = [

@@ -1,17 +1,17 @@
 //! The library's resume, held to the reference on more than 150,000 calls.
 
-use host::description::{is_information, mask_of, record};
-use host::guard::{lend_input, lend_output, lend_reference};
-use host::library;
-use host::number::resume_number;
-use host::paper::{D, V};
-use host::pass::skipped_steps;
-use host::random::Random;
-use host::refusal::refusal_number;
-use host::resume::resume;
-use host::samples::{self, for_descriptions, for_refused_descriptions};
-use host::sizes::{DEEPEST, LAYERS, LONGEST};
-use host::transform::transform;
+use host::reference::description::{is_information, mask_of, record};
+use host::reference::number::resume_number;
+use host::reference::pass::skipped_steps;
+use host::reference::refusal::refusal_number;
+use host::reference::resume::resume;
+use host::reference::sizes::{DEEPEST, LAYERS, LONGEST};
+use host::reference::transform::transform;
+use host::testing::guard::{lend_input, lend_output, lend_reference};
+use host::testing::library;
+use host::testing::paper::{D, V};
+use host::testing::random::Random;
+use host::testing::samples::{self, for_descriptions, for_refused_descriptions};
 
 /// The library's answer, and its output after it.
 fn run(d: &[u8], channel: &[u8], prefix: &[u8], before: &[u8]) -> (u64, Vec<u8>) {

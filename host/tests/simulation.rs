@@ -3,11 +3,11 @@
 
 use std::fs;
 
-use host::files::repository;
 use host::simulation::{
     at, csv, figure, nearest, read_csv, summary, Decoder, Row, Setting, Tally, DECODERS, LAYERS,
     POINTS, SETTINGS,
 };
+use host::testing::files::repository;
 
 const STEPS_OF_A_PASS: u64 = (LAYERS as u64) << LAYERS;
 

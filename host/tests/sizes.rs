@@ -4,9 +4,9 @@
 use std::fs;
 use std::path::Path;
 
-use host::description::LONGEST_DESCRIPTION;
-use host::files::repository;
-use host::sizes::{DEEPEST, LAYERS, LONGEST};
+use host::reference::description::LONGEST_DESCRIPTION;
+use host::reference::sizes::{DEEPEST, LAYERS, LONGEST};
+use host::testing::files::repository;
 
 /// The largest n, the longest code, its mask, its steps and trials, as they could be spelt out.
 const SPELT: [&str; 13] = [
@@ -19,22 +19,22 @@ const ALLOWED: [(&str, &str); 16] = [
     // the one place of each language, and this test
     ("crates/arrays/src/lib.rt", ""),
     ("crates/arrays/specs/Sizes.antt", ""),
-    ("host/src/sizes.rs", ""),
+    ("host/src/reference/sizes.rs", ""),
     ("host/tests/sizes.rs", ""),
     // bytes in two's complement, and bytes whose highest bit is set or clear
     ("crates/channel/", "128"),
     ("crates/level/proofs/", "128"),
     ("crates/bits/proofs/packed_byte/", "byte < 128"),
     ("crates/placing/proofs/placed_byte/", "byte < 128"),
-    ("host/src/channel.rs", "128"),
+    ("host/src/reference/channel.rs", "128"),
     ("host/tests/", "127, 128"),
     ("host/tests/", "[2, 3, 128,"),
     // other codes and other things
     ("host/src/simulation.rs", "k: 128"),
     ("host/tests/simulation.rs", "nearest(&rows, 128, "),
-    ("host/src/stack.rs", "KIB: usize = 1024"),
-    ("host/src/streams.rs", "128"),
-    ("host/src/streams.rs", "Random::new(1024)"),
+    ("host/src/testing/stack.rs", "KIB: usize = 1024"),
+    ("host/src/testing/streams.rs", "128"),
+    ("host/src/testing/streams.rs", "Random::new(1024)"),
 ];
 
 /// A line without the marks that may stand between digits.
@@ -110,7 +110,7 @@ fn sizes_are_named_and_not_spelt_out() {
     }
     assert!(
         found.is_empty(),
-        "name these as crates/arrays or host/src/sizes.rs do, or allow them in host/tests/sizes.rs \
+        "name these as crates/arrays or host/src/reference/sizes.rs do, or allow them in host/tests/sizes.rs \
          where they mean something else:\n{}",
         found.join("\n")
     );

@@ -1,13 +1,13 @@
 //! How much stack one call takes for the longest code: at most 24 KiB for encode and resume, 32 KiB
 //! for the decoders.
 
-use host::description::{describe, record};
-use host::library;
-use host::packing::packed_length;
-use host::random::Random;
-use host::samples;
-use host::sizes::{DEEPEST, LONGEST, LONGEST_BYTES};
-use host::stack::{on_stack, stack_of, KIB};
+use host::reference::description::{describe, record};
+use host::reference::packing::packed_length;
+use host::reference::sizes::{DEEPEST, LONGEST, LONGEST_BYTES};
+use host::testing::library;
+use host::testing::random::Random;
+use host::testing::samples;
+use host::testing::stack::{on_stack, stack_of, KIB};
 
 /// What a thread may take for its own start.
 const THREAD: usize = 16 * KIB;

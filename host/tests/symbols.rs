@@ -3,7 +3,7 @@
 use std::fs;
 use std::process::Command;
 
-use host::files::repository;
+use host::testing::files::repository;
 
 /// All that a library may need.
 const NEEDED: [&str; 3] = ["memcpy", "memmove", "memset"];

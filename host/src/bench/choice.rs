@@ -4,7 +4,7 @@ use crate::bench::codec::Way;
 use crate::bench::process::TIMES_ONLY;
 use crate::bench::task::{Limit, Task, LIMITS};
 use crate::bench::LAYERS;
-use crate::sizes::{DEEPEST, MOST_TRIALS};
+use crate::reference::sizes::{DEEPEST, MOST_TRIALS};
 
 pub const USAGE: &str = "\
 bench [OPERATION ..] [--n N ..] [--t T ..] [--rounds R]

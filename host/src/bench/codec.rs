@@ -1,6 +1,6 @@
 //! The codecs that are compared.
 
-use crate::library::{self, call};
+use crate::testing::library::{self, call};
 
 type Encode = fn(&[u8], &[u8], &mut [u8]) -> u64;
 type Resume = fn(&[u8], &[u8], &[u8], &mut [u8]) -> u64;

@@ -2,10 +2,10 @@
 
 use std::f64::consts::TAU;
 
-use crate::description::{describe, record, Code};
-use crate::packing::{pack, packed_length, unpack};
-use crate::random::Random;
-use crate::samples;
+use crate::reference::description::{describe, record, Code};
+use crate::reference::packing::{pack, packed_length, unpack};
+use crate::testing::random::Random;
+use crate::testing::samples;
 
 /// How many frames of each length there are.
 pub const COUNT: usize = 256;
@@ -138,13 +138,8 @@ fn reliable_mask(n: usize, ones: usize) -> Vec<bool> {
 
 /// A number of the standard normal distribution, by Box and Muller.
 fn normal(random: &mut Random) -> f64 {
-    let radius = (-2.0 * uniform(random).ln()).sqrt();
-    radius * (TAU * uniform(random)).cos()
-}
-
-/// A number above 0 and at most 1.
-fn uniform(random: &mut Random) -> f64 {
-    ((random.number() >> 11) + 1) as f64 / (1u64 << 53) as f64
+    let radius = (-2.0 * random.fraction().ln()).sqrt();
+    radius * (TAU * random.fraction()).cos()
 }
 
 #[cfg(test)]

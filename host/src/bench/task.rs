@@ -4,7 +4,7 @@ use std::fmt::{self, Display, Formatter};
 
 use crate::bench::codec::{Codec, Way};
 use crate::bench::frames::{Frame, SCALE};
-use crate::packing::packed_length;
+use crate::reference::packing::packed_length;
 
 /// An operation on a frame.
 #[derive(Clone, Copy, Debug, PartialEq, Eq)]

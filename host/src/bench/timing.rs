@@ -11,7 +11,7 @@ use crate::bench::codec::Codec;
 use crate::bench::frames::{Frame, COUNT};
 use crate::bench::task::Task;
 use crate::bench::PROCESSES;
-use crate::sizes::LONGEST;
+use crate::reference::sizes::LONGEST;
 
 /// A codec's turn takes at least so long, in nanoseconds.
 const TURN: f64 = 1e6;

@@ -3,8 +3,8 @@
 
 use std::path::PathBuf;
 
-use host::files::repository;
 use host::simulation::{run, FRAMES};
+use host::testing::files::repository;
 
 fn main() -> std::io::Result<()> {
     let words: Vec<String> = std::env::args().skip(1).collect();

@@ -4,9 +4,9 @@
 use std::fs;
 use std::io::Result;
 
-use host::files::repository;
-use host::receive::receive;
-use host::streams;
+use host::reference::receive::receive;
+use host::testing::files::repository;
+use host::testing::streams;
 
 fn main() -> Result<()> {
     let cases = repository().join("tests/cases");

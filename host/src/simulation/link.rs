@@ -1,12 +1,12 @@
 //! One code at one Eb/N0: a frame's way from a random payload to the answers of the decoders.
 
-use crate::construction::information_set;
-use crate::description::record;
-use crate::library;
-use crate::noise::fill_normal;
-use crate::packing::packed_length;
-use crate::random::Random;
+use crate::reference::description::record;
+use crate::reference::packing::packed_length;
+use crate::simulation::construction::information_set;
+use crate::simulation::noise::fill_normal;
 use crate::simulation::{Decoder, Setting, CHECK, DECODERS, LAYERS, LIMIT};
+use crate::testing::library;
+use crate::testing::random::Random;
 
 /// Refusal 16: all trials fail.
 const ALL_FAILED: u64 = 16;

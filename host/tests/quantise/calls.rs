@@ -1,9 +1,9 @@
 //! Calls of the library's quantiser, each compared with the reference.
 
-use host::guard::{lend_input, lend_output, lend_reference};
-use host::library;
-use host::number::quantise_numbers;
-use host::quantise::quantise;
+use host::reference::number::quantise_numbers;
+use host::reference::quantise::quantise;
+use host::testing::guard::{lend_input, lend_output, lend_reference};
+use host::testing::library;
 
 /// The bits of the peak; the refusal or 0, then the clipped count, a refusal's first index, or 0;
 /// the output.

@@ -1,6 +1,6 @@
 //! Scales and samples, at the edges and random.
 
-use host::random::Random;
+use host::testing::random::Random;
 
 /// The fraction's bits in a float.
 const FRACTION: u32 = 23;

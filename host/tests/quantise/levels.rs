@@ -1,6 +1,6 @@
 //! Accepted calls: levels, peak and clipped count.
 
-use host::random::Random;
+use host::testing::random::Random;
 
 use crate::calls::accepted;
 use crate::floats::{

@@ -1,7 +1,7 @@
 //! Refused calls.
 
-use host::random::Random;
-use host::sizes::LONGEST;
+use host::reference::sizes::LONGEST;
+use host::testing::random::Random;
 
 use crate::calls::{check, refused};
 use crate::floats::{any_nan, any_samples, right_scale, wrong_scales, NOT_A_NUMBER};

@@ -1,11 +1,11 @@
 //! The encoder: document 01, "Check and encoder".
 
-use crate::check::check;
-use crate::description::{describe, mask_of, Code};
-use crate::packing::{pack, packed_length, unpack};
-use crate::placing::place;
-use crate::refusal::Refusal;
-use crate::transform::transform;
+use crate::reference::check::check;
+use crate::reference::description::{describe, mask_of, Code};
+use crate::reference::packing::{pack, packed_length, unpack};
+use crate::reference::placing::place;
+use crate::reference::refusal::Refusal;
+use crate::reference::transform::transform;
 
 /// Writes the packed codeword of a packed payload; a refusal writes nothing.
 pub fn encode(description: &[u8], payload: &[u8], output: &mut [u8]) -> Result<(), Refusal> {
@@ -38,8 +38,8 @@ fn has_unused_bit(payload: &[u8], k: usize) -> bool {
 #[cfg(test)]
 mod tests {
     use super::*;
-    use crate::hex::parse;
-    use crate::paper::D;
+    use crate::testing::hex::parse;
+    use crate::testing::paper::D;
 
     /// Encodes under D into a buffer that holds `before`.
     fn encode_d(payload: &[u8], before: &[u8]) -> (Result<(), Refusal>, Vec<u8>) {

@@ -1,9 +1,8 @@
 //! The program `receive`: document 01, "Program `receive`".
 
-use crate::description::{describe, Code};
-use crate::flip::decode_restarted;
-use crate::hex;
-use crate::packing::packed_length;
+use crate::reference::description::{describe, Code};
+use crate::reference::flip::decode_restarted;
+use crate::reference::packing::packed_length;
 
 /// All that the program prints for an input.
 pub fn receive(input: &[u8]) -> String {
@@ -76,7 +75,7 @@ impl<'a> Receiver<'a> {
         let mut payload = vec![0; packed_length(code.k)];
         match decode_restarted(description, &record[6..], limit.into(), &mut payload) {
             Ok(accepted) => {
-                let payload = hex::print(&payload);
+                let payload = hexadecimal(&payload);
                 format!("ok {} {} {payload}", accepted.trial, accepted.steps)
             }
             Err(refusal) => format!("no {}", refusal.number()),
@@ -84,12 +83,17 @@ impl<'a> Receiver<'a> {
     }
 }
 
+/// Two lower-case digits for each byte.
+fn hexadecimal(bytes: &[u8]) -> String {
+    bytes.iter().map(|byte| format!("{byte:02x}")).collect()
+}
+
 #[cfg(test)]
 mod tests {
     use super::*;
-    use crate::hex::parse;
-    use crate::paper::{D, V};
-    use crate::streams::channel;
+    use crate::testing::hex::parse;
+    use crate::testing::paper::{D, V};
+    use crate::testing::streams::channel;
 
     fn prints(input: &[Vec<u8>], lines: &[&str]) {
         let expected: String = lines.iter().map(|line| format!("{line}\n")).collect();

@@ -1,9 +1,9 @@
 //! Resume: document 01, "Resume".
 
-use crate::channel::read_channel;
-use crate::description::{describe, is_information, mask_of};
-use crate::pass::{pass, plain_rules};
-use crate::refusal::Refusal;
+use crate::reference::channel::read_channel;
+use crate::reference::description::{describe, is_information, mask_of};
+use crate::reference::pass::{pass, plain_rules};
+use crate::reference::refusal::Refusal;
 
 /// Writes all N bits: the prefix, then the decisions of a pass whose first bits were forced to it.
 /// Answers the steps; a refusal writes nothing.
@@ -42,8 +42,8 @@ fn first_bad_bit(prefix: &[u8], mask: &[u8]) -> Option<usize> {
 #[cfg(test)]
 mod tests {
     use super::*;
-    use crate::hex::parse;
-    use crate::paper::{D, V};
+    use crate::testing::hex::parse;
+    use crate::testing::paper::{D, V};
 
     /// Resumes under D into a buffer that holds `before`.
     fn resume_d(channel: &[u8], prefix: &[u8], before: &[u8]) -> (Result<usize, Refusal>, Vec<u8>) {

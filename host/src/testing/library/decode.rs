@@ -1,6 +1,6 @@
 //! The exports `polar_decode_full` and `polar_decode_restarted`.
 
-use crate::library::call;
+use crate::testing::library::call;
 
 /// Declares an export, and a function that calls it.
 macro_rules! decoder {

@@ -1,7 +1,7 @@
 //! One decoding pass: document 01, "A decoding pass"; document 000, section II-B. Positive values
 //! favour bit 0.
 
-use crate::description::is_information;
+use crate::reference::description::is_information;
 
 /// How an index is decided.
 #[derive(Clone, Copy, Debug, PartialEq, Eq)]
@@ -151,11 +151,11 @@ fn sums(bits: &[u8]) -> Vec<u8> {
 #[cfg(test)]
 mod tests {
     use super::*;
-    use crate::channel::read_channel;
-    use crate::random::Random;
-    use crate::samples;
-    use crate::sizes::{DEEPEST, LONGEST};
-    use crate::transform::transform;
+    use crate::reference::channel::read_channel;
+    use crate::reference::sizes::{DEEPEST, LONGEST};
+    use crate::reference::transform::transform;
+    use crate::testing::random::Random;
+    use crate::testing::samples;
 
     /// The rules of a mask of n layers with the information indices given.
     fn rules_of(n: usize, information: &[usize]) -> Vec<Rule> {

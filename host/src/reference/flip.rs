@@ -1,13 +1,13 @@
 //! Flip decoding, full and restarted: document 01, "Flip decoding, full and restarted"; document
 //! 000, section II-C; document 001, definition 1.
 
-use crate::channel::read_channel;
-use crate::check::check;
-use crate::description::{describe, information_indices, mask_of, Code};
-use crate::packing::{pack, packed_length};
-use crate::pass::{pass, plain_rules, Pass, Rule};
-use crate::placing::take;
-use crate::refusal::Refusal;
+use crate::reference::channel::read_channel;
+use crate::reference::check::check;
+use crate::reference::description::{describe, information_indices, mask_of, Code};
+use crate::reference::packing::{pack, packed_length};
+use crate::reference::pass::{pass, plain_rules, Pass, Rule};
+use crate::reference::placing::take;
+use crate::reference::refusal::Refusal;
 
 /// An accepted frame: the number of the trial that passed, and the steps of all trials made.
 #[derive(Clone, Copy, Debug, PartialEq, Eq)]
@@ -147,12 +147,12 @@ fn passing_payload(frame: &Frame, bits: &[u8]) -> Option<Vec<u8>> {
 #[cfg(test)]
 mod tests {
     use super::*;
-    use crate::encode::codeword;
-    use crate::hex::parse;
-    use crate::paper::{D, MASK_OF_D, V};
-    use crate::pass::skipped_steps;
-    use crate::random::Random;
-    use crate::samples;
+    use crate::reference::encode::codeword;
+    use crate::reference::pass::skipped_steps;
+    use crate::testing::hex::parse;
+    use crate::testing::paper::{D, MASK_OF_D, V};
+    use crate::testing::random::Random;
+    use crate::testing::samples;
 
     type Decoder = fn(&[u8], &[u8], u32, &mut [u8]) -> Result<Accepted, Refusal>;
     const BOTH: [Decoder; 2] = [decode_full, decode_restarted];

@@ -1,6 +1,6 @@
 //! Placing bits by the mask: document 01, "Check and encoder".
 
-use crate::description::information_indices;
+use crate::reference::description::information_indices;
 
 /// u: the bits fill the information indices in ascending order; frozen entries are zero.
 pub fn place(mask: &[u8], bits: &[u8]) -> Vec<u8> {
@@ -24,9 +24,9 @@ pub fn take(mask: &[u8], u: &[u8]) -> Vec<u8> {
 #[cfg(test)]
 mod tests {
     use super::*;
-    use crate::description::count_information;
-    use crate::random::Random;
-    use crate::sizes::LONGEST_BYTES;
+    use crate::reference::description::count_information;
+    use crate::reference::sizes::LONGEST_BYTES;
+    use crate::testing::random::Random;
 
     #[test]
     fn information_indices_ascend() {

@@ -2,9 +2,9 @@
 //! the refusal, or 0; bits 8–31 the trial, refusal 16's T, or a refusal's first index; bits 32–63
 //! the steps; what an answer lacks is 0.
 
-use crate::flip::Accepted;
-use crate::quantise::Quantised;
-use crate::refusal::Refusal;
+use crate::reference::flip::Accepted;
+use crate::reference::quantise::Quantised;
+use crate::reference::refusal::Refusal;
 
 /// The number of an answer of `encode`.
 pub fn encode_number(answer: &Result<(), Refusal>) -> u64 {
@@ -58,7 +58,7 @@ fn number(refusal: u8, middle: usize, steps: usize) -> u64 {
 #[cfg(test)]
 mod tests {
     use super::*;
-    use crate::sizes::{MOST_STEPS, MOST_TRIALS};
+    use crate::reference::sizes::{MOST_STEPS, MOST_TRIALS};
 
     #[test]
     fn each_answer_has_its_bits() {

@@ -1,6 +1,6 @@
 //! Code descriptions: document 01, "Code description".
 
-use crate::sizes::{LAYERS, LONGEST_BYTES};
+use crate::reference::sizes::{LAYERS, LONGEST_BYTES};
 
 /// What an accepted description says: n, the check width r, the check polynomial, and the payload
 /// size k in bits.
@@ -131,8 +131,8 @@ pub fn has_term(polynomial: u16, i: usize) -> bool {
 #[cfg(test)]
 mod tests {
     use super::*;
-    use crate::hex::parse;
-    use crate::sizes::DEEPEST;
+    use crate::reference::sizes::DEEPEST;
+    use crate::testing::hex::parse;
 
     const D: &str = "09 00 01 00 03 01 01 00 E8";
 

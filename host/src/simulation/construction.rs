@@ -59,7 +59,7 @@ fn log_phi(mean: f64) -> f64 {
 #[cfg(test)]
 mod tests {
     use super::*;
-    use crate::sizes::{DEEPEST, LONGEST};
+    use crate::reference::sizes::{DEEPEST, LONGEST};
 
     #[test]
     fn a_set_has_its_size_and_the_best_indices() {

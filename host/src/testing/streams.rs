@@ -1,13 +1,13 @@
 //! Streams of records for the program `receive`: the cases in tests/cases, the recording that is
 //! shipped, and random ones.
 
-use crate::description::{describe, mask_of, record, Code};
-use crate::encode::codeword;
-use crate::hex::parse;
-use crate::paper::{D, V};
-use crate::random::Random;
-use crate::samples;
-use crate::sizes::DEEPEST;
+use crate::reference::description::{describe, mask_of, record, Code};
+use crate::reference::encode::codeword;
+use crate::reference::sizes::DEEPEST;
+use crate::testing::hex::parse;
+use crate::testing::paper::{D, V};
+use crate::testing::random::Random;
+use crate::testing::samples;
 
 /// A channel record.
 pub fn channel(limit: u16, values: &[u8]) -> Vec<u8> {

@@ -1,6 +1,6 @@
 //! The export `probe_quantise`.
 
-use crate::library::call;
+use crate::testing::library::call;
 
 extern "C" {
     fn probe_quantise(

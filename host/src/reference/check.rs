@@ -1,6 +1,6 @@
 //! The cyclic check: document 01, "Check and encoder". Coefficients are 0 or 1, the highest first.
 
-use crate::description::has_term;
+use crate::reference::description::has_term;
 
 /// The remainder of payload · z^r on division by z^r + polynomial, r coefficients; the first
 /// payload bit is the highest coefficient.
@@ -32,9 +32,9 @@ fn remainder(mut dividend: Vec<u8>, divisor: &[u8]) -> Vec<u8> {
 #[cfg(test)]
 mod tests {
     use super::*;
-    use crate::packing::unpack;
-    use crate::random::Random;
-    use crate::samples;
+    use crate::reference::packing::unpack;
+    use crate::testing::random::Random;
+    use crate::testing::samples;
 
     /// Coefficients as one number.
     fn number(coefficients: &[u8]) -> u32 {

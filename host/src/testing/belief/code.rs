@@ -1,6 +1,6 @@
 //! What a crate's code says: contracts, and the types that it declares.
 
-use crate::belief::name::Import;
+use crate::testing::belief::name::Import;
 
 #[derive(Debug, Default)]
 pub struct Code {

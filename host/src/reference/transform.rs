@@ -14,8 +14,8 @@ pub fn transform(u: &[u8]) -> Vec<u8> {
 #[cfg(test)]
 mod tests {
     use super::*;
-    use crate::random::Random;
-    use crate::sizes::DEEPEST;
+    use crate::reference::sizes::DEEPEST;
+    use crate::testing::random::Random;
 
     /// G^(⊗n) of document 000: the n-th Kronecker power of the rows 1 0 and 1 1.
     fn kronecker_power(n: usize) -> Vec<Vec<u8>> {

@@ -14,19 +14,13 @@ pub fn parse(text: &str) -> Vec<u8> {
         .collect()
 }
 
-/// Writes bytes as two lower-case digits each, without blanks.
-pub fn print(bytes: &[u8]) -> String {
-    bytes.iter().map(|byte| format!("{byte:02x}")).collect()
-}
-
 #[cfg(test)]
 mod tests {
     use super::*;
 
     #[test]
-    fn print_undoes_parse() {
+    fn two_digits_are_a_byte() {
         assert_eq!(parse("09 00 eF"), [0x09, 0x00, 0xEF]);
-        assert_eq!(print(&parse("09 00 eF")), "0900ef");
-        assert_eq!(print(&parse("")), "");
+        assert_eq!(parse(""), []);
     }
 }

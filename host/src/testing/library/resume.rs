@@ -1,6 +1,6 @@
 //! The export `polar_resume`.
 
-use crate::library::call;
+use crate::testing::library::call;
 
 extern "C" {
     fn polar_resume(

@@ -1,6 +1,6 @@
 //! Channel values: document 01, "A decoding pass" and its refusals 12 and 13.
 
-use crate::refusal::Refusal;
+use crate::reference::refusal::Refusal;
 
 /// Reads `size` bytes in two's complement, each from −31 to 31.
 pub fn read_channel(bytes: &[u8], size: usize) -> Result<Vec<i64>, Refusal> {

@@ -2,22 +2,17 @@
 
 use std::f64::consts::TAU;
 
-use crate::random::Random;
+use crate::testing::random::Random;
 
 /// Fills a list with numbers of mean 0 and variance 1, two at a time by Box and Muller.
 pub fn fill_normal(random: &mut Random, numbers: &mut [f64]) {
     for pair in numbers.chunks_mut(2) {
-        let radius = (-2.0 * uniform(random).ln()).sqrt();
-        let (sine, cosine) = (TAU * uniform(random)).sin_cos();
+        let radius = (-2.0 * random.fraction().ln()).sqrt();
+        let (sine, cosine) = (TAU * random.fraction()).sin_cos();
         for (number, coordinate) in pair.iter_mut().zip([cosine, sine]) {
             *number = radius * coordinate;
         }
     }
-}
-
-/// A number above 0 and at most 1.
-fn uniform(random: &mut Random) -> f64 {
-    ((random.number() >> 11) + 1) as f64 / (1u64 << 53) as f64
 }
 
 #[cfg(test)]

@@ -1,6 +1,6 @@
 //! One file of definitions.
 
-use crate::belief::name::{Import, Place};
+use crate::testing::belief::name::{Import, Place};
 
 /// A file's imports and definitions, and how many lines the definitions have.
 #[derive(Debug)]

@@ -13,7 +13,7 @@ pub use encode::encode;
 pub use quantise::quantise;
 pub use resume::resume;
 
-use crate::description::Description;
+use crate::reference::description::Description;
 
 extern "C" {
     fn probe_description(d: *const u8, len: usize) -> u64;

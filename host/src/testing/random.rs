@@ -25,6 +25,11 @@ impl Random {
         low + self.below(high - low + 1)
     }
 
+    /// A fraction above 0 and at most 1.
+    pub fn fraction(&mut self) -> f64 {
+        ((self.number() >> 11) + 1) as f64 / (1u64 << 53) as f64
+    }
+
     pub fn bit(&mut self) -> bool {
         self.number() & 1 == 1
     }

@@ -1,6 +1,6 @@
 //! The export `polar_encode`.
 
-use crate::library::call;
+use crate::testing::library::call;
 
 extern "C" {
     fn polar_encode(

@@ -3,10 +3,10 @@
 use std::cmp::Reverse;
 use std::ops::RangeInclusive;
 
-use crate::description::{describe, record, Code};
-use crate::packing::pack;
-use crate::random::Random;
-use crate::sizes::{DEEPEST, LAYERS};
+use crate::reference::description::{describe, record, Code};
+use crate::reference::packing::pack;
+use crate::reference::sizes::{DEEPEST, LAYERS};
+use crate::testing::random::Random;
 
 /// Any n.
 pub fn layers(random: &mut Random) -> usize {
@@ -205,7 +205,7 @@ pub fn value_byte(value: i64) -> u8 {
 #[cfg(test)]
 mod tests {
     use super::*;
-    use crate::description::{information_indices, mask_of};
+    use crate::reference::description::{information_indices, mask_of};
 
     #[test]
     fn descriptions_are_accepted() {

@@ -3,7 +3,7 @@
 
 use std::cmp::Ordering;
 
-use crate::refusal::Refusal;
+use crate::reference::refusal::Refusal;
 
 /// An accepted answer: the largest magnitude of p, and how many values were clipped.
 #[derive(Clone, Copy, Debug)]
@@ -172,7 +172,7 @@ fn larger(a: f32, b: f32) -> f32 {
 #[cfg(test)]
 mod tests {
     use super::*;
-    use crate::random::Random;
+    use crate::testing::random::Random;
 
     /// The bytes as levels, the bits of the peak, and the clipped count.
     fn accepted(scale: f32, samples: &[f32]) -> (Vec<i8>, u32, usize) {
