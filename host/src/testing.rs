@@ -9,6 +9,7 @@ pub mod guard;
 pub mod hex;
 pub mod library;
 pub mod paper;
+pub mod program;
 pub mod random;
 pub mod samples;
 pub mod stack;

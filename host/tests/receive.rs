@@ -1,37 +1,49 @@
 //! The program `receive`, held to the reference: the cases of tests/cases, the recording, random
-//! streams, and slow pipes.
+//! streams, long outputs, and pipes that are written and read in pieces.
 
 use std::collections::BTreeSet;
 use std::fs;
-use std::io::Write;
-use std::process::{Command, Stdio};
 use std::thread;
+use std::time::Duration;
 
 use host::reference::receive::receive;
 use host::testing::files::repository;
+use host::testing::paper::{D, V};
+use host::testing::program::{
+    at_once, in_pieces, interrupt, piecewise, run, run_without_end, whole,
+};
 use host::testing::random::Random;
 use host::testing::streams;
 
-/// What the program prints for an input that comes in pieces of `piece` bytes.
-fn run(input: &[u8], piece: usize) -> String {
-    let mut program = Command::new(repository().join("target/bin/receive"))
-        .stdin(Stdio::piped())
-        .stdout(Stdio::piped())
-        .spawn()
-        .expect("the program");
-    let mut pipe = program.stdin.take().expect("a pipe");
-    let input = input.to_vec();
-    let writer = thread::spawn(move || {
-        for part in input.chunks(piece) {
-            if pipe.write_all(part).is_err() {
-                return; // after a cut the program reads no more
-            }
-        }
-    });
-    let output = program.wait_with_output().expect("an end");
-    writer.join().expect("the writer");
-    assert!(output.status.success(), "{output:?}");
-    String::from_utf8(output.stdout).expect("text")
+/// A pause in which the program may do what it can.
+const PAUSE: Duration = Duration::from_micros(50);
+
+/// What a pipe holds of an output before the program has to wait, and a time after which it does.
+const PIPE: usize = 65_536;
+const FILLED: Duration = Duration::from_millis(20);
+
+/// The longest record.
+const LONGEST_RECORD: usize = 65_535;
+
+/// Compares what was printed with what the reference prints, byte by byte.
+fn compare(printed: &str, input: &[u8]) {
+    let expected = receive(input);
+    let pairs = printed.bytes().zip(expected.bytes());
+    let same = pairs.take_while(|(a, b)| a == b).count();
+    assert!(
+        printed == expected,
+        "{} bytes instead of {}, the first {same} the same; input {:02x?}",
+        printed.len(),
+        expected.len(),
+        &input[..input.len().min(2_000)]
+    );
+}
+
+/// Runs an input at once; gives what is printed.
+fn check(input: &[u8]) -> String {
+    let printed = run(at_once(input), whole);
+    compare(&printed, input);
+    printed
 }
 
 /// The files in tests/cases whose names end so, without the end.
@@ -54,8 +66,7 @@ fn cases() {
         let input = fs::read(folder.join(format!("{name}.in"))).expect("an input");
         let output = fs::read_to_string(folder.join(format!("{name}.out"))).expect("an output");
         assert_eq!(input, stream, "{name}");
-        assert_eq!(output, receive(&stream), "{name}");
-        assert_eq!(run(&input, 65_536), output, "{name}");
+        assert_eq!(check(&input), output, "{name}");
     }
 }
 
@@ -63,8 +74,7 @@ fn cases() {
 fn recording() {
     let recording = fs::read(repository().join("recordings/run.bin")).expect("the recording");
     assert_eq!(recording, streams::recording());
-    let printed = run(&recording, 4096);
-    assert_eq!(printed, receive(&recording));
+    let printed = check(&recording);
     let count = |start: &str| {
         printed
             .lines()
@@ -75,20 +85,146 @@ fn recording() {
     assert_eq!((first, accepted - first, failed), (202, 42, 56));
 }
 
+/// Whole, and again in pieces.
 #[test]
 fn random_streams() {
     let mut random = Random::new(71);
-    for _ in 0..1500 {
+    for _ in 0..800 {
         let stream = streams::random_stream(&mut random, 30);
-        assert_eq!(run(&stream, 65_536), receive(&stream), "{stream:02x?}");
+        check(&stream);
+        let piece = random.between(1, 1 + stream.len());
+        compare(&run(in_pieces(&stream, piece, PAUSE), whole), &stream);
     }
 }
 
 #[test]
-fn a_byte_at_a_time() {
-    let mut random = Random::new(72);
-    for _ in 0..20 {
-        let stream = streams::random_stream(&mut random, 8);
-        assert_eq!(run(&stream, 1), receive(&stream), "{stream:02x?}");
+fn every_beginning_of_a_stream() {
+    let stream = streams::every_sort();
+    for length in 0..=stream.len() {
+        check(&stream[..length]);
+    }
+}
+
+#[test]
+fn input_in_pieces_of_every_size() {
+    let stream = streams::every_sort();
+    for piece in 1..=stream.len() {
+        compare(&run(in_pieces(&stream, piece, PAUSE), whole), &stream);
+    }
+}
+
+#[test]
+fn long_input_in_pieces() {
+    let long = streams::blank(LONGEST_RECORD, 2);
+    let stream = [&D[..], &long, &streams::channel(2, &V), &long, &long].concat();
+    for piece in [4_095, 4_096, 4_097, 65_534, 65_535, 65_536, 65_537] {
+        compare(&run(in_pieces(&stream, piece, PAUSE), whole), &stream);
+    }
+}
+
+/// Lengths below 4 end the reading, 4 and 5 do not.
+#[test]
+fn records_of_the_least_lengths() {
+    for kind in [0, 1, 2, 7] {
+        for length in 0..=5 {
+            let record = [&[length, 0, kind, 0][..], &[9]].concat();
+            let record = &record[..usize::from(length.max(4))];
+            let printed = check(&[&D[..], record, &D].concat());
+            assert_eq!(printed.contains("cut\nend 1\n"), length < 4);
+            assert_eq!(printed.ends_with("end 3\n"), length >= 4);
+        }
+    }
+}
+
+#[test]
+fn records_of_the_largest_length() {
+    for kind in [1, 2, 7] {
+        let long = streams::blank(LONGEST_RECORD, kind);
+        let frame = streams::channel(2, &V);
+        let printed = check(&[&D[..], &long, &frame].concat());
+        assert!(printed.ends_with("\nok 2 32 00\nend 3\n"), "{printed}");
+        let printed = check(&[&D[..], &long[..LONGEST_RECORD - 1]].concat());
+        assert_eq!(printed, "code 8 3 1\ncut\nend 1\n");
+    }
+}
+
+/// The program ends although its input does not, and heeds nothing behind a length below 4.
+#[test]
+fn nothing_is_read_after_a_cut() {
+    for length in 0..4 {
+        for after in [&[][..], &D, &streams::blank(4, 7).repeat(100)] {
+            let input = [&D[..], &[length, 0, 1, 0], after].concat();
+            let printed = run_without_end(&input);
+            assert_eq!(printed, "code 8 3 1\ncut\nend 1\n");
+        }
+    }
+}
+
+#[test]
+fn many_records() {
+    for count in [5_000, 10_000, 99_999, 200_000] {
+        let printed = check(&streams::blank(4, 7).repeat(count));
+        assert_eq!(printed.lines().count(), count + 1);
+        assert_eq!(printed.len(), 7 * count + format!("end {count}\n").len());
+    }
+}
+
+/// With up to six longer lines in front a line ends at each place of some output: before, at and
+/// behind the end of any buffer.
+#[test]
+fn lines_that_end_at_every_place() {
+    for longer in 0..7 {
+        let records = [(longer, 10), (20_000, 7)];
+        let stream = records.map(|(count, kind)| streams::blank(4, kind).repeat(count));
+        check(&stream.concat());
+    }
+}
+
+/// Outputs whose length is a buffer's, a little more, and less by up to a long line.
+#[test]
+fn outputs_that_fill_a_buffer() {
+    for size in [4_096, 8_192, 16_384, 32_768, 65_536] {
+        let short = (size - 640..size - 16).step_by(9);
+        for length in short.chain(size - 16..=size + 16) {
+            assert_eq!(check(&streams::printing(length)).len(), length);
+        }
+    }
+}
+
+#[test]
+fn the_longest_lines() {
+    for before in 0..10 {
+        let printed = check(&streams::long_lines(4 * before, 300));
+        assert_eq!(printed.lines().count(), 4 * before + 302);
+        assert!(printed.len() > PIPE);
+    }
+}
+
+/// The pipe is full before the first byte is read.
+#[test]
+fn output_in_pieces() {
+    let stream = streams::printing(3 * PIPE + 1);
+    for piece in [1, 2, 7, 100, 4_095, 4_096, 4_097, 16_384, 65_535, 65_537] {
+        let printed = run(at_once(&stream), |pipe, _| {
+            thread::sleep(FILLED);
+            piecewise(pipe, piece, || ())
+        });
+        compare(&printed, &stream);
+    }
+}
+
+/// The program waits for room in the pipe when it is stopped, and has written a part of its lines.
+#[test]
+fn interrupted_writes() {
+    let stream = streams::printing(5 * PIPE);
+    for piece in [4_096, 5_000, 9_001, 20_000] {
+        let printed = run(at_once(&stream), |pipe, number| {
+            thread::sleep(FILLED);
+            piecewise(pipe, piece, || {
+                interrupt(number);
+                thread::sleep(PAUSE);
+            })
+        });
+        compare(&printed, &stream);
     }
 }

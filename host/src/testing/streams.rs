@@ -3,7 +3,7 @@
 
 use crate::reference::description::{describe, mask_of, record, Code};
 use crate::reference::encode::codeword;
-use crate::reference::sizes::DEEPEST;
+use crate::reference::sizes::{DEEPEST, LONGEST};
 use crate::testing::hex::parse;
 use crate::testing::paper::{D, V};
 use crate::testing::random::Random;
@@ -16,7 +16,7 @@ pub fn channel(limit: u16, values: &[u8]) -> Vec<u8> {
 }
 
 /// A record of any kind, of `length` bytes in all, whose body is zeros.
-fn blank(length: usize, kind: u16) -> Vec<u8> {
+pub fn blank(length: usize, kind: u16) -> Vec<u8> {
     let mut record = vec![0; length];
     record[..2].copy_from_slice(&(length as u16).to_le_bytes());
     record[2..4].copy_from_slice(&kind.to_le_bytes());
@@ -129,6 +129,60 @@ fn accepted() -> Vec<(String, Vec<u8>)> {
         case("last-description", &[&long, &D, &channel(5, &V)]),
         case("many-records", &[&many.repeat(400)]),
     ]
+}
+
+/// A short stream with a record of every sort.
+pub fn every_sort() -> Vec<u8> {
+    let mut random = Random::new(4);
+    let d = samples::useful_description(&mut random, 4);
+    let code = describe(&d).expect("an accepted description");
+    let clear = frame(&mut random, &d, &code, 20, 1);
+    let refused = parse("09 00 01 00 03 01 01 00 80");
+    [
+        channel(2, &V), // refused 23
+        D.to_vec(),
+        channel(2, &V),
+        channel(1, &V), // refused 16
+        refused,
+        blank(4, 7),
+        blank(5, 2), // refused 24
+        channel(5, &[0x20; 8]),
+        blank(40, 65_535),
+        channel(2, &V),
+        d,
+        channel(1, &clear),
+        channel(0, &clear), // refused 14
+        channel(1, &clear[1..]),
+        blank(4, 1),
+        blank(6, 0),
+    ]
+    .concat()
+}
+
+/// A stream of skipped records for which exactly `length` bytes are printed. A line has 7 bytes;
+/// the first ones have 8, as many as are needed.
+pub fn printing(length: usize) -> Vec<u8> {
+    let printed = |count: usize| 7 * count + format!("end {count}\n").len();
+    let mut counts = (0..length / 7).rev();
+    let count = counts.find(|&count| printed(count) <= length);
+    let count = count.expect("room for the last line");
+    let longer = length - printed(count);
+    [
+        blank(4, 10).repeat(longer),
+        blank(4, 7).repeat(count - longer),
+    ]
+    .concat()
+}
+
+/// A stream of `frames` frames whose lines are the longest ones, behind `before` short lines.
+pub fn long_lines(before: usize, frames: usize) -> Vec<u8> {
+    let mut random = Random::new(before as u64);
+    let d = record(DEEPEST, 1, 1, &[true; LONGEST]);
+    let code = describe(&d).expect("an accepted description");
+    let some = [1, 2, 3].map(|_| channel(1, &frame(&mut random, &d, &code, 20, 1)));
+    let frames = some.iter().cycle().take(frames).cloned();
+    let stream = [blank(4, 7).repeat(before), d].into_iter().chain(frames);
+    stream.flatten().collect()
 }
 
 /// A random stream of up to `count` records; one of four is cut at a random place.

@@ -1,0 +1,124 @@
+//! Runs the program `receive` with pipes that the test reads and writes in its own way.
+
+use std::io::{ErrorKind, Read, Result, Write};
+use std::process::{Child, ChildStdin, ChildStdout, Command, Stdio};
+use std::thread;
+use std::time::{Duration, Instant};
+
+use crate::testing::files::repository;
+
+/// How long a program may take to end by itself.
+const PATIENCE: Duration = Duration::from_secs(20);
+
+fn start() -> Child {
+    Command::new(repository().join("target/bin/receive"))
+        .stdin(Stdio::piped())
+        .stdout(Stdio::piped())
+        .spawn()
+        .expect("the program")
+}
+
+/// What the program prints. `write` gives it its input, on a thread of its own; `read` takes its
+/// output, and may stop the process, whose number it gets.
+pub fn run(
+    write: impl FnOnce(&mut ChildStdin) -> Result<()> + Send,
+    read: impl FnOnce(&mut ChildStdout, u32) -> Result<Vec<u8>>,
+) -> String {
+    let mut program = start();
+    let mut input = program.stdin.take().expect("a pipe");
+    let mut output = program.stdout.take().expect("a pipe");
+    let number = program.id();
+    let printed = thread::scope(|scope| {
+        scope.spawn(move || match write(&mut input) {
+            // After a cut the program reads no more.
+            Err(error) => assert_eq!(error.kind(), ErrorKind::BrokenPipe),
+            Ok(()) => (),
+        });
+        read(&mut output, number).expect("an output")
+    });
+    let status = program.wait().expect("an end");
+    assert!(status.success(), "{status}");
+    String::from_utf8(printed).expect("text")
+}
+
+/// Writes an input at once.
+pub fn at_once(input: &[u8]) -> impl FnOnce(&mut ChildStdin) -> Result<()> + '_ {
+    move |pipe| pipe.write_all(input)
+}
+
+/// Writes an input in pieces of so many bytes, with a pause between them in which the program may
+/// read what is there.
+pub fn in_pieces(
+    input: &[u8],
+    piece: usize,
+    pause: Duration,
+) -> impl FnOnce(&mut ChildStdin) -> Result<()> + '_ {
+    move |pipe| {
+        for part in input.chunks(piece) {
+            pipe.write_all(part)?;
+            thread::sleep(pause);
+        }
+        Ok(())
+    }
+}
+
+/// Reads all that is printed.
+pub fn whole(pipe: &mut ChildStdout, _number: u32) -> Result<Vec<u8>> {
+    let mut printed = Vec::new();
+    pipe.read_to_end(&mut printed)?;
+    Ok(printed)
+}
+
+/// Reads at most so many bytes at a time, and does something before each time.
+pub fn piecewise(
+    pipe: &mut ChildStdout,
+    piece: usize,
+    mut before: impl FnMut(),
+) -> Result<Vec<u8>> {
+    let mut printed = Vec::new();
+    let mut room = vec![0; piece];
+    loop {
+        before();
+        match pipe.read(&mut room)? {
+            0 => return Ok(printed),
+            got => printed.extend(&room[..got]),
+        }
+    }
+}
+
+/// What the program prints for an input that does not end: it must end by itself.
+pub fn run_without_end(input: &[u8]) -> String {
+    let mut program = start();
+    let mut pipe = program.stdin.take().expect("a pipe");
+    pipe.write_all(input).expect("room in the pipe");
+    let start = Instant::now();
+    while program.try_wait().expect("a status").is_none() {
+        if start.elapsed() > PATIENCE {
+            program.kill().expect("an end");
+            panic!("the program waits for more input");
+        }
+        thread::sleep(Duration::from_millis(1));
+    }
+    drop(pipe);
+    let output = program.wait_with_output().expect("an output");
+    assert!(output.status.success(), "{output:?}");
+    String::from_utf8(output.stdout).expect("text")
+}
+
+extern "C" {
+    fn kill(process: i32, signal: i32) -> i32;
+}
+
+/// Linux's numbers of the signals.
+const CONTINUE: i32 = 18;
+const STOP: i32 = 19;
+
+/// Stops a process and lets it go on. A write of its that has to wait ends early, with fewer bytes
+/// written than it was given.
+pub fn interrupt(number: u32) {
+    for signal in [STOP, CONTINUE] {
+        // SAFETY: the call takes two numbers; the process is a child that was not waited for yet.
+        let status = unsafe { kill(number as i32, signal) };
+        assert_eq!(status, 0, "no process {number}");
+    }
+}
