@@ -2,10 +2,8 @@
 //! 000, section V.
 
 mod construction;
-mod figure;
 mod link;
 mod noise;
-mod svg;
 mod table;
 
 use std::fs;
@@ -14,9 +12,10 @@ use std::path::Path;
 use std::thread;
 use std::time::Instant;
 
-pub use figure::figure;
 pub use link::{Link, Tally};
 pub use table::{csv, nearest, read_csv, summary};
+
+use crate::testing::files::repository;
 
 /// The n of document 000; its check, z^16 + z^15 + z^2 + 1; its trial limit.
 pub const LAYERS: usize = 10;
@@ -78,7 +77,8 @@ pub struct Row {
     pub tally: Tally,
 }
 
-/// Simulates all points, writes flipping.csv and flipping.svg into a folder, and prints a summary.
+/// Simulates all points, writes flipping.csv into a folder, prints a summary, and tells how the plot
+/// is drawn.
 pub fn run(frames: u64, folder: &Path) -> Result<()> {
     let start = Instant::now();
     let mut rows = Vec::new();
@@ -90,7 +90,14 @@ pub fn run(frames: u64, folder: &Path) -> Result<()> {
     eprintln!();
     print!("{}", summary(&rows));
     fs::write(folder.join("flipping.csv"), csv(&rows))?;
-    fs::write(folder.join("flipping.svg"), figure(&rows))
+    let script = repository().join("docs/flipping.gp").canonicalize()?;
+    eprintln!(
+        "flipping.csv is written. In {}, `gnuplot {}` draws flipping.svg from it; where there is no \
+         gnuplot, `apt-get install gnuplot-nox` brings it.",
+        folder.display(),
+        script.display()
+    );
+    Ok(())
 }
 
 /// Writes over the line of the last call.

@@ -1,5 +1,5 @@
-//! Simulates what flipping gains, and writes flipping.csv and flipping.svg into docs/, or into
-//! another folder. The default size takes some minutes.
+//! Simulates what flipping gains, and writes flipping.csv into docs/, or into another folder. The
+//! default size takes some minutes.
 
 use std::path::PathBuf;
 
