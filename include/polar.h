@@ -25,10 +25,20 @@
 #include <stddef.h>
 #include <stdint.h>
 
+/* Buffers of so many bytes suffice for every code; a call gets the exact length for its code. */
+#define POLAR_LONGEST_CODE 1024       /* N channel values, or the N bits that resume writes */
+#define POLAR_LONGEST_DESCRIPTION 136 /* 8 + N/8 */
+#define POLAR_LONGEST_CODEWORD 128    /* N/8 */
+#define POLAR_LONGEST_PAYLOAD 128     /* ceil(k/8), where k is at most N - 1 */
+
 /* The parts of an answer: the refusal, or 0; the trial, the number of trials or the index; the steps. */
 #define POLAR_REFUSAL(answer) ((unsigned)((answer) & 0xff))
 #define POLAR_VALUE(answer) ((uint32_t)((answer) >> 8 & 0xffffff))
 #define POLAR_STEPS(answer) ((uint32_t)((answer) >> 32))
+
+#ifdef __cplusplus
+extern "C" {
+#endif
 
 /* Encodes a payload of k bits, packed highest bit first in ceil(k/8) bytes, unused low bits of the last byte zero, into the codeword of N
  * bits, packed highest bit first in N/8 bytes. Acceptance is the number 0. Refusals 1 to 8, then
@@ -61,5 +71,9 @@ uint64_t polar_decode_restarted(const uint8_t *description, size_t description_l
                                 const uint8_t *channel, size_t channel_len,
                                 uint32_t trial_limit,
                                 uint8_t *payload, size_t payload_len);
+
+#ifdef __cplusplus
+}
+#endif
 
 #endif

@@ -1,20 +1,51 @@
-//! include/polar.h is C11 without a warning, and a program in C gets the answers of document 01.
+//! include/polar.h is C11 and C++17 without a warning, programs get the answers of document 01 by it,
+//! and its sizes are those of the longest code.
 
 use std::fs;
+use std::io::{stderr, Write};
 use std::path::Path;
-use std::process::Command;
+use std::process::{Command, Stdio};
 
+use host::reference::description::LONGEST_DESCRIPTION;
+use host::reference::packing::packed_length;
+use host::reference::sizes::{LONGEST, LONGEST_BYTES};
 use host::testing::files::repository;
+
+/// A language as gcc is told of it: its name, its standard.
+type Language = (&'static str, &'static str);
+const C: Language = ("c", "-std=c11");
+const CPP: Language = ("c++", "-std=c++17");
+
+/// The compiler for source files of a language.
+fn compiler((name, standard): Language) -> Command {
+    let mut gcc = Command::new("gcc");
+    gcc.args(["-x", name, standard]);
+    gcc.args(["-Wall", "-Wextra", "-Werror", "-pedantic"]);
+    gcc
+}
+
+/// The languages that gcc compiles; it may come without C++.
+fn languages() -> Vec<Language> {
+    let mut nothing = compiler(CPP);
+    nothing.args(["-fsyntax-only", "-"]).stderr(Stdio::null());
+    let has_cpp = nothing.stdin(Stdio::null()).status();
+    if has_cpp.is_ok_and(|status| status.success()) {
+        return vec![C, CPP];
+    }
+    // Not by a macro: what these print is shown of failed tests only.
+    let _ = writeln!(stderr(), "gcc has no C++: polar.h is tried in C alone");
+    vec![C]
+}
 
 /// Compiles the program of a folder with the header and the library, runs it, and gives what it
 /// prints.
-fn run(folder: &str, name: &str) -> String {
-    let program = Path::new(env!("CARGO_TARGET_TMPDIR")).join(name);
-    let built = Command::new("gcc")
-        .args(["-std=c11", "-Wall", "-Wextra", "-Werror", "-pedantic"])
+fn run(language: Language, folder: &str, name: &str) -> String {
+    let program = Path::new(env!("CARGO_TARGET_TMPDIR")).join(format!("{name}.{}", language.0));
+    let built = compiler(language)
         .arg("-I")
         .arg(repository().join("include"))
         .arg(repository().join(format!("{folder}/{name}.c")))
+        .args(["-x", "none"])
         .arg(repository().join("target/staticlib/libpolar.a"))
         .arg("-o")
         .arg(&program)
@@ -60,12 +91,29 @@ zeros: refusal 0, value 1, steps 24, 00
 fn rows_of_the_paper() {
     let restarted = DECODED.replace("steps 48", "steps 32");
     let expected = [ENCODED_AND_RESUMED, DECODED, &restarted].concat();
-    assert_eq!(run("host/tests/c", "rows"), expected);
+    for language in languages() {
+        assert_eq!(run(language, "host/tests/c", "rows"), expected);
+    }
 }
 
 #[test]
 fn the_example() {
     let path = repository().join("examples/frame.out");
     let expected = fs::read_to_string(path).expect("what the example prints");
-    assert_eq!(run("examples", "frame"), expected);
+    assert_eq!(run(C, "examples", "frame"), expected);
+}
+
+#[test]
+fn sizes_of_the_longest_code() {
+    let longest_payload = packed_length(LONGEST - 1);
+    let expected = format!(
+        "code {LONGEST}, description {LONGEST_DESCRIPTION}, codeword {LONGEST_BYTES}, \
+         payload {longest_payload}\n\
+         encode: refusal 0\n\
+         resume: refusal 0\n\
+         decode: refusal 0, trial 1, the payload sent\n"
+    );
+    for language in languages() {
+        assert_eq!(run(language, "host/tests/c", "longest"), expected);
+    }
 }
