@@ -1,7 +1,6 @@
 //! include/polar.h is C11 and C++17 without a warning, programs get the answers of document 01 by it,
 //! and its sizes are those of the longest code.
 
-use std::fs;
 use std::io::{stderr, Write};
 use std::path::Path;
 use std::process::{Command, Stdio};
@@ -9,7 +8,7 @@ use std::process::{Command, Stdio};
 use host::reference::description::LONGEST_DESCRIPTION;
 use host::reference::packing::packed_length;
 use host::reference::sizes::{LONGEST, LONGEST_BYTES};
-use host::testing::files::repository;
+use host::testing::files::{repository, text};
 
 /// A language as gcc is told of it: its name, its standard.
 type Language = (&'static str, &'static str);
@@ -98,9 +97,7 @@ fn rows_of_the_paper() {
 
 #[test]
 fn the_example() {
-    let path = repository().join("examples/frame.out");
-    let expected = fs::read_to_string(path).expect("what the example prints");
-    assert_eq!(run(C, "examples", "frame"), expected);
+    assert_eq!(run(C, "examples", "frame"), text("examples/frame.out"));
 }
 
 #[test]

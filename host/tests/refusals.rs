@@ -1,9 +1,8 @@
 //! The refusals as README.md and include/polar.h list them are those of document 01, in its order.
 
-use std::fs;
 use std::ops::RangeInclusive;
 
-use host::testing::files::repository;
+use host::testing::files::text;
 
 /// Words of document 01 for each refusal, from 1 on.
 const WORDS: [&str; 24] = [
@@ -43,10 +42,6 @@ const RECEIVE: [usize; 2] = [23, 24];
 
 /// These carry the first index at fault.
 const WITH_INDEX: [usize; 3] = [13, 18, 22];
-
-fn text(path: &str) -> String {
-    fs::read_to_string(repository().join(path)).unwrap_or_else(|_| panic!("no {path}"))
-}
 
 /// That a text about a refusal says what document 01 says.
 fn check(number: usize, text: &str) {
@@ -138,4 +133,5 @@ fn operations_in_the_header() {
     assert_eq!(of("polar_encode"), ENCODE);
     assert_eq!(of("polar_resume"), RESUME);
     assert_eq!(of("polar_decode_full"), DECODERS);
+    assert_eq!(of("polar_decode_restarted"), DECODERS);
 }

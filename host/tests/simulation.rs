@@ -1,13 +1,11 @@
 //! The simulation of what flipping gains: that it counts rightly, and that the results in docs/
 //! agree with each other.
 
-use std::fs;
-
 use host::simulation::{
     at, csv, nearest, read_csv, summary, Decoder, Row, Setting, Tally, CHECK, DECODERS, LAYERS,
     LIMIT, POINTS, SETTINGS,
 };
-use host::testing::files::repository;
+use host::testing::files::text;
 
 const STEPS_OF_A_PASS: u64 = (LAYERS as u64) << LAYERS;
 
@@ -17,7 +15,7 @@ fn shipped() -> Vec<Row> {
 }
 
 fn document(name: &str) -> String {
-    fs::read_to_string(repository().join("docs").join(name)).expect("a document")
+    text(&format!("docs/{name}"))
 }
 
 fn rows(decibels: f64, frames: u64, threads: u64) -> Vec<Row> {

@@ -6,12 +6,13 @@ use std::path::Path;
 
 use host::reference::description::LONGEST_DESCRIPTION;
 use host::reference::sizes::{DEEPEST, LAYERS, LONGEST};
-use host::testing::files::repository;
+use host::testing::files::{repository, text};
 
-/// The largest n, the longest code, its mask, its steps and trials, as they could be spelt out.
-const SPELT: [&str; 13] = [
+/// The largest n, the longest code, its mask, its steps and trials, and the longest description, as
+/// they could be spelt out.
+const SPELT: [&str; 14] = [
     "3 10", "3, 10", "≤ 10", "..=10", "10 * 2 ^", "2 ^ 9", "2 ^ 10", "128", "1023", "1024", "1025",
-    "10240", "10496000",
+    "10240", "10496000", "136",
 ];
 
 /// Lines that may say so: where their path starts, and what they have.
@@ -84,10 +85,6 @@ fn files(folder: &str, ends: &[&str]) -> Vec<String> {
         }
     }
     files
-}
-
-fn text(path: &str) -> String {
-    fs::read_to_string(repository().join(path)).unwrap_or_else(|_| panic!("no {path}"))
 }
 
 #[test]

@@ -1,9 +1,8 @@
 //! What the static libraries export, and what they need.
 
-use std::fs;
 use std::process::Command;
 
-use host::testing::files::repository;
+use host::testing::files::{repository, text};
 
 /// All that a library may need.
 const NEEDED: [&str; 3] = ["memcpy", "memmove", "memset"];
@@ -80,8 +79,7 @@ fn libraries_need_three_functions_at_most() {
 
 #[test]
 fn polar_exports_what_the_header_declares() {
-    let header = fs::read_to_string(repository().join("include/polar.h")).expect("the header");
-    let declared = declared(&header);
+    let declared = declared(&text("include/polar.h"));
     assert!(!declared.is_empty());
     assert_eq!(names(&symbols("libpolar.a"), is_exported), declared);
 }

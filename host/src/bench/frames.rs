@@ -129,11 +129,7 @@ fn reliable_mask(n: usize, ones: usize) -> Vec<bool> {
     });
     let mut indices: Vec<usize> = (0..1 << n).collect();
     indices.sort_by(|&a, &b| weights[b].total_cmp(&weights[a]));
-    let mut mask = vec![false; 1 << n];
-    for &index in &indices[..ones] {
-        mask[index] = true;
-    }
-    mask
+    samples::mask_with(1 << n, &indices[..ones])
 }
 
 /// A number of the standard normal distribution, by Box and Muller.

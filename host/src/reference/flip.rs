@@ -149,6 +149,7 @@ mod tests {
     use super::*;
     use crate::reference::encode::codeword;
     use crate::reference::pass::skipped_steps;
+    use crate::reference::sizes::LAYERS;
     use crate::testing::hex::parse;
     use crate::testing::paper::{D, MASK_OF_D, V};
     use crate::testing::random::Random;
@@ -282,7 +283,7 @@ mod tests {
     #[test]
     fn right_signs_pass_on_trial_1() {
         let mut random = Random::new(1);
-        for n in 3..=9 {
+        for n in LAYERS {
             for _ in 0..10 {
                 let d = samples::description(&mut random, n);
                 let code = describe(&d).expect("a code");

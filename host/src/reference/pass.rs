@@ -152,7 +152,7 @@ fn sums(bits: &[u8]) -> Vec<u8> {
 mod tests {
     use super::*;
     use crate::reference::channel::read_channel;
-    use crate::reference::sizes::{DEEPEST, LONGEST};
+    use crate::reference::sizes::{DEEPEST, LAYERS, LONGEST};
     use crate::reference::transform::transform;
     use crate::testing::random::Random;
     use crate::testing::samples;
@@ -311,7 +311,7 @@ mod tests {
     #[test]
     fn sums_are_the_transform() {
         let mut random = Random::new(6);
-        for n in 0..=9 {
+        for n in 0..=DEEPEST {
             let bits = random.bits(1 << n);
             assert_eq!(sums(&bits), transform(&bits));
         }
@@ -333,7 +333,7 @@ mod tests {
     #[test]
     fn right_signs_decode_to_the_codeword() {
         let mut random = Random::new(8);
-        for n in 3..=9 {
+        for n in LAYERS {
             let size = 1 << n;
             for ones in [1, size / 2, size] {
                 let mask = samples::mask(&mut random, size, ones);

@@ -7,17 +7,15 @@
 
 use std::f64::consts::PI;
 
+use crate::testing::samples::mask_with;
+
 /// A mask of 2^n indices whose `ones` most reliable are information indices. `mean` is that of the
 /// channel's log-likelihood ratios where zeros were sent.
 pub fn information_set(n: usize, ones: usize, mean: f64) -> Vec<bool> {
     let means = leaf_means(n, mean);
     let mut indices: Vec<usize> = (0..means.len()).rev().collect();
     indices.sort_by(|&a, &b| means[b].total_cmp(&means[a]));
-    let mut mask = vec![false; means.len()];
-    for &index in &indices[..ones] {
-        mask[index] = true;
-    }
-    mask
+    mask_with(means.len(), &indices[..ones])
 }
 
 /// The mean at each leaf.

@@ -141,8 +141,13 @@ pub fn mask(random: &mut Random, size: usize, ones: usize) -> Vec<bool> {
 pub fn useful_mask(size: usize, ones: usize) -> Vec<bool> {
     let mut indices: Vec<usize> = (0..size).collect();
     indices.sort_by_key(|&index| Reverse((index.count_ones(), index)));
+    mask_with(size, &indices[..ones])
+}
+
+/// A mask of `size` indices whose information indices are these.
+pub fn mask_with(size: usize, information: &[usize]) -> Vec<bool> {
     let mut mask = vec![false; size];
-    for &index in &indices[..ones] {
+    for &index in information {
         mask[index] = true;
     }
     mask
