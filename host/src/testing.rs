@@ -1,7 +1,7 @@
 //! What the tests need: `library` calls the codec, `guard` lends buffers to it, `stack` measures
-//! what a call takes; `random` and `samples` make inputs, `paper` has those that document 01 names,
-//! `streams` what `receive` reads; `files` is the repository's folder, and `belief` reads what must
-//! be believed of the definitions.
+//! what a call takes, `program` runs `receive`; `random` and `samples` make inputs, `streams` what
+//! `receive` reads, `paper` has those that document 01 names, and `hex` reads bytes; `files` has the
+//! repository's files, and `belief` what must be believed of the definitions.
 
 pub mod belief;
 pub mod files;

@@ -5,15 +5,34 @@ use std::fs;
 use std::path::Path;
 
 use host::reference::description::LONGEST_DESCRIPTION;
-use host::reference::sizes::{DEEPEST, LAYERS, LONGEST};
+use host::reference::sizes::{DEEPEST, LAYERS, LONGEST, LONGEST_BYTES, MOST_STEPS, MOST_TRIALS};
 use host::testing::files::{repository, text};
 
 /// The largest n, the longest code, its mask, its steps and trials, and the longest description, as
 /// they could be spelt out.
-const SPELT: [&str; 14] = [
-    "3 10", "3, 10", "≤ 10", "..=10", "10 * 2 ^", "2 ^ 9", "2 ^ 10", "128", "1023", "1024", "1025",
-    "10240", "10496000", "136",
-];
+fn spellings() -> Vec<String> {
+    let least = LAYERS.start();
+    let sizes = [
+        LONGEST_BYTES,
+        LONGEST_DESCRIPTION,
+        LONGEST - 1,
+        LONGEST,
+        MOST_TRIALS,
+        MOST_STEPS,
+        MOST_TRIALS * MOST_STEPS,
+    ];
+    let mut spellings: Vec<String> = sizes.iter().map(usize::to_string).collect();
+    spellings.extend([
+        format!("{least} {DEEPEST}"),
+        format!("{least}, {DEEPEST}"),
+        format!("≤ {DEEPEST}"),
+        format!("..={DEEPEST}"),
+        format!("{DEEPEST} * 2 ^"),
+        format!("2 ^ {DEEPEST}"),
+        format!("2 ^ {}", DEEPEST - 1),
+    ]);
+    spellings
+}
 
 /// Lines that may say so: where their path starts, and what they have.
 const ALLOWED: [(&str, &str); 16] = [
@@ -49,6 +68,11 @@ fn plain(line: &str) -> String {
     kept.map(|index| chars[index]).collect()
 }
 
+/// A number from 1,000 on with a mark between its digits.
+fn with_mark(number: usize, mark: char) -> String {
+    format!("{}{mark}{:03}", number / 1000, number % 1000)
+}
+
 /// Whether a line has a text that is no part of a longer word or number.
 fn has(line: &str, text: &str) -> bool {
     let is_part = |c: char| c.is_alphanumeric() || c == '_';
@@ -60,13 +84,13 @@ fn has(line: &str, text: &str) -> bool {
     })
 }
 
-/// What a line spells out, if its file may not.
-fn spelt(path: &str, line: &str) -> Option<&'static str> {
+/// Which of these a line spells out, if its file may not.
+fn spelt<'a>(spellings: &'a [String], path: &str, line: &str) -> Option<&'a str> {
     let allows = |(start, text): &(&str, &str)| path.starts_with(start) && line.contains(text);
     let line_is_allowed = ALLOWED.iter().any(allows);
     let plain = plain(line);
-    let found = SPELT.into_iter().find(|text| has(&plain, text));
-    found.filter(|_| !line_is_allowed)
+    let found = spellings.iter().find(|text| has(&plain, text));
+    found.filter(|_| !line_is_allowed).map(String::as_str)
 }
 
 /// The files below a folder whose names have one of these ends, as paths from the repository.
@@ -93,10 +117,11 @@ fn sizes_are_named_and_not_spelt_out() {
     for folder in ["src", "tests", "plain", "bench"] {
         paths.extend(files(&format!("host/{folder}"), &["rs", "c", "h"]));
     }
+    let spellings = spellings();
     let mut found = Vec::new();
     for path in paths {
         for (index, line) in text(&path).lines().enumerate() {
-            if let Some(spelt) = spelt(&path, line) {
+            if let Some(spelt) = spelt(&spellings, &path, line) {
                 found.push(format!(
                     "{path}:{} spells `{spelt}`: {}",
                     index + 1,
@@ -115,7 +140,7 @@ fn sizes_are_named_and_not_spelt_out() {
 
 #[test]
 fn the_largest_n_is_the_same_everywhere() {
-    let with_comma = format!("{},{:03}", LONGEST / 1000, LONGEST % 1000);
+    let with_comma = with_mark(LONGEST, ',');
     let least = LAYERS.start();
     let said = [
         (
@@ -146,24 +171,25 @@ fn the_largest_n_is_the_same_everywhere() {
 
 #[test]
 fn what_is_spelt_is_found() {
+    let spellings = spellings();
+    let found = |path, line: &str| spelt(&spellings, path, line).is_some();
+    let (proof, marked) = ("crates/sc/proofs/A.antt", with_mark(LONGEST, '_'));
     for line in [
-        "length mask ≤ 128",
-        "[0; 1_024]",
-        "at most 1,024 bits",
-        "inside n 3 10",
+        format!("length mask ≤ {LONGEST_BYTES}"),
+        format!("[0; {marked}]"),
+        format!("at most {} bits", with_mark(LONGEST, ',')),
+        format!("inside n {} {DEEPEST}", LAYERS.start()),
+        format!("n ≤ {DEEPEST}"),
     ] {
-        assert!(spelt("crates/sc/proofs/A.antt", line).is_some(), "{line}");
+        assert!(found(proof, &line), "{line}");
+        assert!(!found("crates/arrays/src/lib.rt", &line), "{line}");
     }
     for line in [
-        "≤ 102",
-        "1024.0",
-        "x1024",
-        "1 << 20",
-        "between(3, 7)",
-        "13 10",
+        format!("≤ {}2", DEEPEST),
+        format!("{LONGEST}.0"),
+        format!("x{LONGEST}"),
+        format!("1{} {DEEPEST}", LAYERS.start()),
     ] {
-        assert_eq!(spelt("crates/sc/proofs/A.antt", line), None, "{line}");
+        assert!(!found(proof, &line), "{line}");
     }
-    assert_eq!(spelt("crates/channel/src/lib.rt", "byte < 128"), None);
-    assert_eq!(spelt("crates/channel/src/lib.rt", "n ≤ 10"), Some("≤ 10"));
 }

@@ -7,7 +7,8 @@ use std::time::{Duration, Instant};
 
 use crate::testing::files::repository;
 
-/// How long a program may take to end by itself.
+/// After this time a program reads its input, mostly; and so long it may take to end by itself.
+const STARTED: Duration = Duration::from_millis(2);
 const PATIENCE: Duration = Duration::from_secs(20);
 
 fn start() -> Child {
@@ -29,10 +30,11 @@ pub fn run(
     let mut output = program.stdout.take().expect("a pipe");
     let number = program.id();
     let printed = thread::scope(|scope| {
-        scope.spawn(move || match write(&mut input) {
-            // After a cut the program reads no more.
-            Err(error) => assert_eq!(error.kind(), ErrorKind::BrokenPipe),
-            Ok(()) => (),
+        scope.spawn(move || {
+            if let Err(error) = write(&mut input) {
+                // After a cut the program reads no more.
+                assert_eq!(error.kind(), ErrorKind::BrokenPipe);
+            }
         });
         read(&mut output, number).expect("an output")
     });
@@ -46,14 +48,15 @@ pub fn at_once(input: &[u8]) -> impl FnOnce(&mut ChildStdin) -> Result<()> + '_ 
     move |pipe| pipe.write_all(input)
 }
 
-/// Writes an input in pieces of so many bytes, with a pause between them in which the program may
-/// read what is there.
+/// Writes an input in pieces of so many bytes to a program that waits for them, with a pause after
+/// each in which it may read what is there.
 pub fn in_pieces(
     input: &[u8],
     piece: usize,
     pause: Duration,
 ) -> impl FnOnce(&mut ChildStdin) -> Result<()> + '_ {
     move |pipe| {
+        thread::sleep(STARTED);
         for part in input.chunks(piece) {
             pipe.write_all(part)?;
             thread::sleep(pause);
