@@ -1,6 +1,6 @@
 -- The starred rows of document 01 on resume, by computation.
 use mathlib.Core.Path.{_≡_, refl}
-use mathlib.Core.List.{List, []}
+use mathlib.Core.List.{List, [], _∷_}
 use Prim.Native.Nat.{ℕ}
 use lib.ListN.{replicate}
 use Rattle.laws.specs.First.{firstWhere}
@@ -21,11 +21,11 @@ use Rattle.vectors.proofs.Descriptions.{starredD, starredV}
 abbrev output : List ℕ
 output = replicate 8 0x77
 
--- V with a prefix of six zeros gives eight zero bits in 8 steps; 31 is allowed at index 7, and 32 or -32 there is refused
+-- V with a prefix of six zeros gives eight zero bits in 8 steps; 31 is allowed at index 7, for a whole pass, and 32 or -32 there is refused
 abbrev pub StarredResume : Type 0
 StarredResume =
     (resumed (starredD 0xE8) (starredV 2) (replicate 6 0) output ≡ (Done 8, replicate 8 0))
-    × (resumed (starredD 0xE8) (starredV 31) (replicate 8 0) output ≡ (Done 0, replicate 8 0))
+    × (resumed (starredD 0xE8) (starredV 31) [] output ≡ (Done 24, 0 ∷ 0 ∷ 0 ∷ 0 ∷ 0 ∷ 1 ∷ 0 ∷ 0 ∷ []))
     × (resumed (starredD 0xE8) (starredV 32) [] output ≡ (Refused (At 13 7), output))
     × (resumed (starredD 0xE8) (starredV 0xE0) [] output ≡ (Refused (At 13 7), output))
 
