@@ -12,22 +12,16 @@ use Rattle.refusal.specs.declared.Judgement.{Judgement}
 use Rattle.refusal.specs.declared.Judgement.the-variants.{Fine, Refused as Refusing}
 use Rattle.refusal.specs.Judge.{judge, refusedOr}
 use Rattle.channel.specs.Channel.{channelValue, byteOf}
-use Rattle.level.specs.Level.{plusZero, magnitude, level}
+use Rattle.level.specs.Level.{level}
 use Rattle.level.proofs.Levels.{channel-byte, level-le}
 use Rattle.quantiser.specs.declared.Summary.{Summary}
 use Rattle.quantiser.specs.declared.Quantised.{Quantised}
 use Rattle.quantiser.specs.declared.Quantised.the-variants.{Done, Refused}
 use Rattle.quantiser.specs.Quantise.{product, peakOf, clippedOf, bytes, quantisingRefusals, accepted, quantised}
-use Rattle.quantiser.specs.Claims.{WellFormed}
+use Rattle.quantiser.specs.Claims.{WellFormed, Peak}
 use Rattle.quantiser.proofs.Numbers.{admitted-number}
 use Rattle.quantiser.proofs.WellFormed.{fine-well-formed}
-use Rattle.quantiser.proofs.Totals.{Under, peak-above, peak-reached}
-
--- the peak of n products: positive zero for none, else one of the magnitudes, and none exceeds it
-pub record Peak (p : ℕ → Float) (n : ℕ) (peak : Float) : Type 0 where
-  pub none : n ≡ 0 → peak ≡ plusZero
-  pub reached : 0 < n → (k : ℕ) × (k < n) × (peak ≡ magnitude (p k))
-  pub above : (k : ℕ) → k < n → Under (magnitude (p k)) peak
+use Rattle.quantiser.proofs.Totals.{peak-number, peak-above, peak-reached}
 
 module _ (scale : Float) (samples : List Float) (output : List ℕ) (s : Summary) (written : List ℕ) (done : quantised scale samples output ≡ (Done s, written)) where
   abbrev answer : Quantised × List ℕ
@@ -53,6 +47,7 @@ module _ (scale : Float) (samples : List Float) (output : List ℕ) (s : Summary
   pub peak-largest : Peak p (length samples) (s .peak)
   unfolding peakOf
   peak-largest = subst (Peak p (length samples)) same record {
+    number = peak-number p (length samples) (admitted-number (admitted .0));
     none = λ e. ap (peakOf p) e;
     reached = peak-reached p (length samples);
     above = peak-above p (length samples) (admitted-number (admitted .0));

@@ -14,6 +14,7 @@ use lib.Ieee.Positive.{through}
 use Rattle.laws.proofs.Choice.{cond-ind}
 use Rattle.level.specs.Level.{plusZero, magnitude, isClipped}
 use Rattle.quantiser.specs.Quantise.{larger, peakOf, clippedOf}
+use Rattle.quantiser.specs.Claims.{Under}
 
 -- at most one for each product
 pub clipped-le : (p : ℕ → Float) (n : ℕ) → clippedOf p n ≤ n
@@ -34,9 +35,10 @@ magnitude-of nan n = absurd n
 magnitude-of (inf s) n = infinite
 magnitude-of (fin s m e) n = finite m e
 
--- x does not exceed y
-abbrev pub Under : Float → Float → Type 0
-Under x y = lt y x ≡ false
+is-number : {x : Float} → Magnitude x → isNan x ≡ false
+unfolding isNan
+is-number infinite = refl
+is-number (finite m e) = refl
 
 under-refl : {x : Float} → Magnitude x → Under x x
 unfolding lt
@@ -84,6 +86,9 @@ module _ (p : ℕ → Float) where
   unfolding peakOf
   peak-magnitude zero N = finite 0 (pos 0)
   peak-magnitude (suc n) N = larger-is (peak-magnitude n (λ k h. N k (omega arith))) (magnitude-of (p n) (N n (omega arith))) .0
+
+  pub peak-number : (n : ℕ) → ((k : ℕ) → k < n → T (not (isNan (p k)))) → isNan (peakOf p n) ≡ false
+  peak-number n N = is-number (peak-magnitude n N)
 
   -- no magnitude exceeds it
   pub peak-above : (n : ℕ) → ((k : ℕ) → k < n → T (not (isNan (p k)))) → (k : ℕ) → k < n → Under (magnitude (p k)) (peakOf p n)

@@ -1,10 +1,12 @@
 -- What the theorems of this crate state of its definitions.
 use mathlib.Core.Path.{_≡_}
+use mathlib.Core.Bool.{false}
 use mathlib.Core.List.{List}
-use Prim.Native.Nat.{ℕ, _≤_}
+use Prim.Native.Nat.{ℕ, _≤_, _<_}
 use lib.Dec.{T}
-use lib.Ieee.{Float}
+use lib.Ieee.{Float, lt, isNan}
 use lib.ListN.{length}
+use Rattle.level.specs.Level.{plusZero, magnitude}
 use Rattle.quantiser.specs.Quantise.{firstNan, validScale}
 
 -- what holds where no refusal applies, and only there: `well-formed-fine` and `fine-well-formed` of proofs/WellFormed.antt
@@ -12,3 +14,15 @@ pub record WellFormed (scale : Float) (samples : List Float) (output : List ℕ)
   pub same-length : length samples ≡ length output
   pub scale-valid : T (validScale scale)
   pub all-numbers : length samples ≤ firstNan samples
+
+-- x does not exceed y, where both are numbers
+abbrev pub Under : Float → Float → Type 0
+Under x y = lt y x ≡ false
+
+-- the peak of n products: a number, positive zero for none, else one of the magnitudes, and none exceeds it. `peak-largest` of
+-- proofs/Accepted.antt proves it.
+pub record Peak (p : ℕ → Float) (n : ℕ) (peak : Float) : Type 0 where
+  pub number : isNan peak ≡ false
+  pub none : n ≡ 0 → peak ≡ plusZero
+  pub reached : 0 < n → (k : ℕ) × (k < n) × (peak ≡ magnitude (p k))
+  pub above : (k : ℕ) → k < n → Under (magnitude (p k)) peak
