@@ -24,8 +24,7 @@ use Rattle.run.specs.WellFormed.{WellFormed}
 use Rattle.run.proofs.FlipOrder.{length-order}
 use Rattle.flip.specs.Decode.{planOf, decodedWith}
 use Rattle.flip.proofs.WellFormed.{well-formed-answer, decoded-by}
-use Rattle.demands.specs.Demand3.{flippedIn}
-use Rattle.demands.specs.Claims.{stepsOf, Ends, SameButSteps, skippedBy, Compare}
+use Rattle.demands.specs.Claims.{stepsOf, Ends, SameButSteps, flippedIn, skippedBy, Compare}
 use Rattle.demands.proofs.Trials.{length-trials, take-trials, same-trials, steps-trials}
 use Rattle.demands.proofs.Run.{run-ends, run-same}
 

@@ -20,13 +20,16 @@ use Rattle.run.specs.declared.Plan.{Plan}
 use Rattle.run.specs.Trials.{flipOrder, trials}
 use Rattle.run.proofs.FlipOrder.{order-flips}
 use Rattle.flip.specs.Decode.{planOf}
-use Rattle.demands.specs.Demand3.{flippedIn}
-use Rattle.demands.specs.Claims.{bitsOfEach, stepsOf, skippedBy}
+use Rattle.demands.specs.Claims.{bitsOfEach, stepsOf, flippedIn, skippedBy}
 
 take-map : {A B : Type 0} (f : A → B) (m : ℕ) (xs : List A) → take m (map f xs) ≡ map f (take m xs)
 take-map f zero xs = refl
 take-map f (suc m) [] = refl
 take-map {A} {B} f (suc m) (x ∷ xs) = ap (λ (ys : List B). f x ∷ ys) (take-map f m xs)
+
+-- indices that a trial can flip, each alone
+abbrev pub FlipsEach : List ℕ → Code → List ℕ → Type 0
+FlipsEach mask c is = (a : ℕ) → a < length is → Flips mask (codeLength c) (getD is a 0 ∷ [])
 
 module _ (mask : List ℕ) (c : Code) (v : List ℤ) where
   abbrev order : List ℕ
@@ -50,16 +53,12 @@ module _ (mask : List ℕ) (c : Code) (v : List ℤ) where
       (take-map later t (take (plan .limit - 1) order)
       ∙ ap (map later) (take-take t (plan .limit - 1) order (omega arith) ∙ ap (λ (k : ℕ). take k order) e))
 
-  -- indices that a trial can flip, each alone
-  abbrev All : List ℕ → Type 0
-  All is = (a : ℕ) → a < length is → Flips mask (codeLength c) (getD is a 0 ∷ [])
-
-  all-taken : (m : ℕ) → All (take m order)
-  all-taken m a l =
+  pub flips-each : (m : ℕ) → FlipsEach mask c (take m order)
+  flips-each m a l =
       let long = length-take m order in
       subst (λ (i : ℕ). Flips mask (codeLength c) (i ∷ [])) (sym (getD-take m order a 0 (omega arith))) (order-flips mask c v a (omega arith))
 
-  bits-later : (a b : Restart) (is : List ℕ) → All is → bitsOfEach (map (flipping a) is) ≡ bitsOfEach (map (flipping b) is)
+  bits-later : (a b : Restart) (is : List ℕ) → FlipsEach mask c is → bitsOfEach (map (flipping a) is) ≡ bitsOfEach (map (flipping b) is)
   bits-later a b [] p = refl
   bits-later a b (i ∷ is) p =
       let f = p 0 (omega arith) in
@@ -70,12 +69,12 @@ module _ (mask : List ℕ) (c : Code) (v : List ℤ) where
   -- the trials of any two restarts have the same bits
   pub same-trials : (a b : Restart) (limit : ℕ) → bitsOfEach (trials (planOf a limit) mask c v) ≡ bitsOfEach (trials (planOf b limit) mask c v)
   same-trials a b limit =
-      ap (λ (xs : List (List ℕ)). firstTrial mask c v .bits ∷ xs) (bits-later a b (take (limit - 1) order) (all-taken (limit - 1)))
+      ap (λ (xs : List (List ℕ)). firstTrial mask c v .bits ∷ xs) (bits-later a b (take (limit - 1) order) (flips-each (limit - 1)))
 
   abbrev pass : ℕ
   pass = c .n * codeLength c
 
-  steps-later : (restart : Restart) (is : List ℕ) → All is → stepsOf (map (flipping restart) is) + skippedBy restart mask c is ≡ length is * pass
+  steps-later : (restart : Restart) (is : List ℕ) → FlipsEach mask c is → stepsOf (map (flipping restart) is) + skippedBy restart mask c is ≡ length is * pass
   steps-later restart [] p = omega arith
   steps-later restart (i ∷ is) p =
       omega (arith, steps-from mask c v (i ∷ []) _ (restartable (p 0 (omega arith)) restart .most), steps-later restart is (λ a l. p (suc a) (omega arith)))
@@ -92,4 +91,4 @@ module _ (mask : List ℕ) (c : Code) (v : List ℤ) where
     -- the steps of t trials: a whole pass each, without what the restarts skip
     pub steps-trials : (restart : Restart) → stepsOf (trials (planOf restart t) mask c v) + skippedBy restart mask c (flippedIn mask c v t) ≡ t * c .n * codeLength c
     steps-trials restart =
-        omega (arith, steps-whole (c .n) (maskRule mask) v, steps-later restart (flippedIn mask c v t) (all-taken (t - 1)), made-passes)
+        omega (arith, steps-whole (c .n) (maskRule mask) v, steps-later restart (flippedIn mask c v t) (flips-each (t - 1)), made-passes)

@@ -3,7 +3,8 @@ use mathlib.Core.Path.{_≡_}
 use mathlib.Core.Bool.{Bool, true, false}
 use mathlib.Core.Logic.{_⊎_}
 use mathlib.Core.List.{List, [], _∷_, map}
-use Prim.Native.Nat.{ℕ, zero, suc, _+_, _*_, _<_, _≤_}
+use Prim.Native.Nat.{ℕ, zero, suc, _+_, _-_, _*_, _<_, _≤_}
+use lib.IntN.{ℤ}
 use lib.ListN.{length, getD, take}
 use Rattle.code.specs.declared.Code.{Code}
 use Rattle.code.specs.Code.{codeLength}
@@ -14,9 +15,8 @@ use Rattle.tree.specs.Skipped.{skipped}
 use Rattle.trial.specs.declared.Restart.{Restart}
 use Rattle.trial.specs.Trial.{restartAt}
 use Rattle.run.specs.declared.Decoded.the-variants.{Accepted, Failed}
-use Rattle.run.specs.Trials.{Verdict, passed, failed}
+use Rattle.run.specs.Trials.{flipOrder, Verdict, passed, failed}
 use Rattle.flip.specs.Decode.{planOf, decodedWith}
-use Rattle.demands.specs.Demand3.{flippedIn}
 
 -- the bits of each trial, and those of trial t, from 1
 abbrev pub bitsOfEach : List Out → List (List ℕ)
@@ -57,6 +57,10 @@ SameButSteps (passed trial steps bits) (passed trial′ steps′ bits′) = (tri
 SameButSteps (failed made steps) (failed made′ steps′) = made ≡ made′
 SameButSteps (passed trial steps bits) (failed made steps′) = ⊥
 SameButSteps (failed made steps) (passed trial steps′ bits) = ⊥
+
+-- the flipped indices of the trials made after the first
+abbrev pub flippedIn : List ℕ → Code → List ℤ → ℕ → List ℕ
+flippedIn mask c v made = take (made - 1) (flipOrder mask c v)
 
 -- the steps that a restart saves, over flipped indices
 abbrev pub skippedBy : Restart → List ℕ → Code → List ℕ → ℕ

@@ -1,9 +1,8 @@
 -- Demand 3, about the definitions that the promises of both decoders cite. `demand-3` of proofs/Demand3.antt proves it.
 use mathlib.Core.Path.{_≡_}
 use mathlib.Core.Logic.{_⊎_}
-use mathlib.Core.List.{List, [], _∷_}
+use mathlib.Core.List.{List, [], _∷_, Forall₂}
 use Prim.Native.Nat.{ℕ, _+_, _-_, _*_}
-use lib.IntN.{ℤ}
 use lib.ListN.{take}
 use Rattle.code.specs.declared.Code.{Code}
 use Rattle.code.specs.declared.Description.the-variants.{Accepted as Coding}
@@ -11,21 +10,16 @@ use Rattle.code.specs.Code.{codeLength}
 use Rattle.code.specs.Description.{maskOf, describe}
 use Rattle.channel.specs.Channel.{channelValues}
 use Rattle.tree.specs.Skipped.{skipped}
-use Rattle.trial.specs.Trial.{resumeAt}
+use Rattle.trial.specs.FirstAfter.{FirstAfter}
 use Rattle.run.specs.declared.Decoded.the-variants.{Accepted, Failed}
 use Rattle.run.specs.Trials.{flipOrder}
 use Rattle.run.specs.WellFormed.{WellFormed}
 use Rattle.flip.specs.Decode.{decodedFull, decodedRestarted}
 
--- the flipped indices of the trials made after the first
-abbrev pub flippedIn : List ℕ → Code → List ℤ → ℕ → List ℕ
-flippedIn mask c v made = take (made - 1) (flipOrder mask c v)
-
--- the sum, over flipped indices, of q − (q mod 2^j) for every j from 0 to n − 1, where q is the first information index after the flipped
--- one, or N if none
-abbrev pub skippedOver : List ℕ → Code → List ℕ → ℕ
-skippedOver mask c [] = 0
-skippedOver mask c (i ∷ is) = skipped (c .n) (resumeAt mask (codeLength c) i) + skippedOver mask c is
+-- the sum, over some q, of q − (q mod 2^j) for every j from 0 to n − 1
+abbrev pub skippedOver : ℕ → List ℕ → ℕ
+skippedOver n [] = 0
+skippedOver n (q ∷ qs) = skipped n q + skippedOver n qs
 
 -- What both decoders give under d, each with its own output. `made` trials are made; `full` and `restarted` are the steps that each reports.
 pub record BothDecode (d : List ℕ) (c : Code) (channel : List ℕ) (limit : ℕ) (output output′ : List ℕ) : Type 0 where
@@ -42,8 +36,11 @@ pub record BothDecode (d : List ℕ) (c : Code) (channel : List ℕ) (limit : �
       × (decodedRestarted d channel limit output′ ≡ (Failed made restarted, output′)))
   -- full decoding reports exactly trials made × n × N steps
   pub full-steps : full ≡ made * c .n * codeLength c
-  -- that exceeds the restarted report by exactly what the restarts skip
-  pub exceeds : full ≡ restarted + skippedOver (maskOf d) c (flippedIn (maskOf d) c (channelValues channel) made)
+  -- that exceeds the restarted report by exactly the sum, over every trial made after the first, of q − (q mod 2^j) for every j from 0 to n − 1
+  pub qs : List ℕ
+  pub exceeds : full ≡ restarted + skippedOver (c .n) qs
+  -- there q is the first information index after that trial's flipped one, or N if none
+  pub q-is : Forall₂ (FirstAfter (maskOf d) (codeLength c)) (take (made - 1) (flipOrder (maskOf d) c (channelValues channel))) qs
 
 -- any code, any trial limit and any channel values, all well-formed, each decoder with an output buffer of the right size
 abbrev pub Demand3 : Type 0

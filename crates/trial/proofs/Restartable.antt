@@ -15,7 +15,8 @@ use Rattle.bits.proofs.Mask.{mask-cases}
 use Rattle.trial.specs.declared.Restart.{Restart}
 use Rattle.trial.specs.declared.Restart.the-variants.{Root, After}
 use Rattle.trial.specs.Trial.{lowest, resumeAt, restartAt}
-use Rattle.trial.specs.Claims.{FirstAfter, Flips, Restartable}
+use Rattle.trial.specs.FirstAfter.{FirstAfter}
+use Rattle.trial.specs.Claims.{Flips, Restartable}
 use Rattle.trial.proofs.Flips.{lowest-below}
 
 module _ (mask : List ℕ) (size i : ℕ) (below : i < size) where

@@ -1,7 +1,6 @@
 -- What the theorems of this crate state of its definitions.
 use mathlib.Core.Path.{_≡_}
 use mathlib.Core.Bool.{cond}
-use mathlib.Core.Logic.{_⊎_}
 use mathlib.Core.List.{List}
 use Prim.Native.Nat.{ℕ, _-_, _<_, _≤_}
 use lib.Dec.{ltb}
@@ -10,14 +9,6 @@ use lib.ListN.{length, getD}
 use Rattle.bits.specs.Mask.{maskBit}
 use Rattle.tree.specs.Node.{Out}
 use Rattle.trial.specs.Trial.{lowest}
-
--- q, the first information index above i, or N, here `size`: no information index lies between, and q is one or `size`. `resume-at` of
--- proofs/Restartable.antt proves it of `resumeAt`.
-pub record FirstAfter (mask : List ℕ) (size i q : ℕ) : Type 0 where
-  pub above : i < q
-  pub most : q ≤ size
-  pub between : (j : ℕ) → i < j → j < q → maskBit mask j ≡ 0
-  pub ends : (q ≡ size) ⊎ (maskBit mask q ≡ 1)
 
 -- indices that a trial can flip: at least one, ascending, all of them information indices below `size`
 pub record Flips (mask : List ℕ) (size : ℕ) (is : List ℕ) : Type 0 where

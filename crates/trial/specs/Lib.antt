@@ -1,3 +1,4 @@
 pub mod Trial
+pub mod FirstAfter
 pub mod Claims
 pub mod Contracts
