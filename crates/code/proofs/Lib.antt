@@ -1,1 +1,3 @@
+pub mod WellFormed
 pub mod Facts
+pub mod Operations

@@ -2,11 +2,7 @@
 use mathlib.Core.Path.{_≡_, refl, sym, ap, _∙_}
 use mathlib.Core.List.{List}
 use Prim.Native.Nat.{ℕ}
-use native.Mathlib.Omega.{arith}
-use Rattle.refusal.specs.declared.Judgement.{Judgement}
-use Rattle.refusal.specs.declared.Judgement.the-variants as judgement
-use Rattle.refusal.specs.Judge.{judge}
-use Rattle.refusal.proofs.Judge.{refused-by}
+use Rattle.refusal.proofs.Judge.{accepted-fine}
 use Rattle.bits.specs.Packing.{packed, unpacked}
 use Rattle.bits.proofs.Packing.{unpacked-packed}
 use Rattle.code.specs.declared.Code.{Code}
@@ -19,8 +15,8 @@ use Rattle.transform.proofs.Transformed.{length-transformed, bits-transformed}
 use Rattle.placing.specs.Place.{placed}
 use Rattle.encoder.specs.declared.Encoded.{Encoded}
 use Rattle.encoder.specs.declared.Encoded.the-variants.{Done, Refused}
-use Rattle.encoder.specs.Encode.{messageOf, codeword, encodingRefusals, encodedBy, encoded}
-use Rattle.encoder.specs.Claims.{WellFormed}
+use Rattle.encoder.specs.Encode.{messageOf, codeword, encodedBy, encoded}
+use Rattle.encoder.specs.Claims.{WellFormed, accepts}
 use Rattle.encoder.proofs.WellFormed.{fine-well-formed, well-formed-answer}
 
 pub unpacked-codeword : (mask : List ℕ) (c : Code) (payload : List ℕ) → unpacked (codeword mask c payload) (codeLength c) ≡ transformed (c .n) (placed mask (messageOf c (unpacked payload (c .k))) (codeLength c))
@@ -36,16 +32,10 @@ pub record EncodedFrom (mask : List ℕ) (c : Code) (payload output bytes : List
 
 pub encoded-from : (d : List ℕ) (c : Code) (payload output bytes : List ℕ) → describe d ≡ Accepted c → encoded d payload output ≡ (Done, bytes) → EncodedFrom (maskOf d) c payload output bytes
 unfolding encoded encodedBy
-encoded-from d c payload output bytes code e = go (judge (encodingRefusals c payload output)) refl
-  where
-    by : encodedBy (maskOf d) c payload output ≡ (Done, bytes)
-    by = sym (ap (λ (x : Description). onDescription x (λ i. (Refused i, output)) (λ c. encodedBy (maskOf d) c payload output)) code) ∙ e
-
-    go : (j : Judgement) → judge (encodingRefusals c payload output) ≡ j → EncodedFrom (maskOf d) c payload output bytes
-    go judgement.Fine h =
-        let w = fine-well-formed c payload output h in
-        record { well-formed = w; gives = ap (λ (z : Encoded × List ℕ). z .1) (sym (well-formed-answer c payload output (maskOf d) w) ∙ by) }
-    go (judgement.Refused x) h =
-        let r : Refused x ≡ Done = ap (λ (z : Encoded × List ℕ). z .0) (sym (refused-by _ _ _ x h) ∙ by) in
-        let z : _≡_ {A = ℕ} 0 1 = cc in
-        absurd (omega arith)
+encoded-from d c payload output bytes code e =
+    let by : encodedBy (maskOf d) c payload output ≡ (Done, bytes) =
+    sym (ap (λ (x : Description). onDescription x (λ i. (Refused i, output)) (λ c. encodedBy (maskOf d) c payload output)) code) ∙ e in
+    let w = fine-well-formed c payload output
+    (accepted-fine (λ (z : Encoded × List ℕ). accepts (z .0)) (λ x. (Refused x, output)) (λ x. refl) (Done, codeword (maskOf d) c payload) _
+    (ap (λ (z : Encoded × List ℕ). accepts (z .0)) by)) in
+    record { well-formed = w; gives = ap (λ (z : Encoded × List ℕ). z .1) (sym (well-formed-answer c payload output (maskOf d) w) ∙ by) }

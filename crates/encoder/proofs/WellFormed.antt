@@ -1,5 +1,7 @@
 -- Well-formed input: encode accepts a payload and an output exactly where nothing of 9 to 11 applies.
-use mathlib.Core.Path.{_≡_, _∙_}
+use mathlib.Core.Path.{_≡_, refl, _∙_}
+use mathlib.Core.Bool.{true}
+use mathlib.Core.Logic.{_↔_}
 use mathlib.Core.List.{List}
 use Prim.Native.Nat.{ℕ, _/_}
 use lib.ListN.{length}
@@ -10,9 +12,13 @@ use Rattle.refusal.proofs.Tests.{differs-past, differs-no}
 use Rattle.bits.specs.Packing.{bytesFor, unusedBits}
 use Rattle.code.specs.declared.Code.{Code}
 use Rattle.code.specs.Code.{codeLength}
-use Rattle.encoder.specs.declared.Encoded.the-variants.{Done}
-use Rattle.encoder.specs.Encode.{codeword, encodingRefusals, encodedBy}
-use Rattle.encoder.specs.Claims.{WellFormed}
+use Rattle.code.specs.Description.{maskOf}
+use Rattle.code.specs.Claims.{WellFormedUnder}
+use Rattle.code.proofs.Operations.{under-exactly}
+use Rattle.encoder.specs.declared.Encoded.{Encoded}
+use Rattle.encoder.specs.declared.Encoded.the-variants.{Done, Refused}
+use Rattle.encoder.specs.Encode.{codeword, encodingRefusals, encodedBy, encoded}
+use Rattle.encoder.specs.Claims.{WellFormed, accepts}
 
 module _ (c : Code) (payload output : List ℕ) where
   pub well-formed-fine : WellFormed c payload output → judge (encodingRefusals c payload output) ≡ Fine
@@ -38,3 +44,10 @@ module _ (c : Code) (payload output : List ℕ) where
   unfolding encodedBy
   well-formed-answer mask w =
       refused-fine _ _ _ (well-formed-fine w)
+
+-- under a description
+pub well-formed-exactly : (d payload output : List ℕ) → WellFormedUnder d (λ c. WellFormed c payload output) ↔ (accepts (encoded d payload output .0) ≡ true)
+unfolding encoded encodedBy
+well-formed-exactly d payload output =
+    under-exactly (λ (z : Encoded × List ℕ). accepts (z .0)) (λ x. (Refused x, output)) (λ x. refl) (λ c. encodingRefusals c payload output)
+    (λ c. (Done, codeword (maskOf d) c payload)) (λ c. refl) (λ c. (well-formed-fine c payload output, fine-well-formed c payload output)) d

@@ -1,15 +1,22 @@
--- Document 01, "Check and encoder": a payload and an output are well-formed where nothing of 9 to 11 applies. `well-formed-fine` and
--- `fine-well-formed` of proofs/WellFormed.antt prove that this is so.
+-- Document 01, "Check and encoder": a payload and an output are well-formed where nothing of 9 to 11 applies. Encode accepts exactly
+-- there: `well-formed-exactly` of proofs/WellFormed.antt.
 use mathlib.Core.Path.{_≡_}
+use mathlib.Core.Bool.{Bool, true, false}
 use mathlib.Core.List.{List}
 use Prim.Native.Nat.{ℕ, _/_}
 use lib.ListN.{length}
 use Rattle.bits.specs.Packing.{bytesFor, unusedBits}
 use Rattle.code.specs.declared.Code.{Code}
 use Rattle.code.specs.Code.{codeLength}
+use Rattle.encoder.specs.declared.Encoded.{Encoded}
+use Rattle.encoder.specs.declared.Encoded.the-variants.{Done, Refused}
 
 -- refusals 9, 10 and 11 in turn do not apply
 pub record WellFormed (c : Code) (payload output : List ℕ) : Type 0 where
   pub payload-size : length payload ≡ bytesFor (c .k)
   pub unused-clear : unusedBits payload (c .k) ≡ 0
   pub output-size : length output ≡ codeLength c / 8
+
+abbrev pub accepts : Encoded → Bool
+accepts Done = true
+accepts (Refused x) = false

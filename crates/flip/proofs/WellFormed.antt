@@ -1,14 +1,14 @@
 -- Well-formed input: no refusal before 16 applies exactly there, and there the answer of a decoder is that of its run of trials.
 use mathlib.Core.Path.{_≡_, refl, sym, ap, _∙_}
-use mathlib.Core.Bool.{Bool, true, false, true≢false}
+use mathlib.Core.Bool.{true}
+use mathlib.Core.Logic.{_↔_}
 use mathlib.Core.List.{List}
 use Prim.Native.Nat.{ℕ, _+_}
 use lib.ListN.{length}
 use Rattle.refusal.specs.declared.Refusal.{Refusal}
-use Rattle.refusal.specs.declared.Judgement.{Judgement}
 use Rattle.refusal.specs.declared.Judgement.the-variants.{Fine, Refused as Refusing}
 use Rattle.refusal.specs.Judge.{judge}
-use Rattle.refusal.proofs.Judge.{judge-none, judge-no, judge-past, refused-fine, refused-by, append-fine, append-past}
+use Rattle.refusal.proofs.Judge.{judge-none, judge-no, judge-past, refused-fine, refused-by, accepted-fine, append-fine, append-past}
 use Rattle.refusal.proofs.Tests.{differs-past, outside-past, differs-no, outside-no}
 use Rattle.bits.specs.Packing.{bytesFor}
 use Rattle.code.specs.declared.Code.{Code}
@@ -16,14 +16,17 @@ use Rattle.code.specs.declared.Description.{Description}
 use Rattle.code.specs.declared.Description.the-variants.{Accepted as Coding, Refused as NoCode}
 use Rattle.code.specs.Code.{informationCount}
 use Rattle.code.specs.Description.{maskOf, describe, onDescription}
+use Rattle.code.specs.Claims.{WellFormedUnder}
+use Rattle.code.proofs.Operations.{under-exactly}
 use Rattle.channel.specs.Channel.{channelValues, channelRefusals}
 use Rattle.channel.proofs.Judge.{channel-fine, fine-channel}
 use Rattle.trial.specs.Trial.{trialPasses}
 use Rattle.run.specs.declared.Plan.{Plan}
 use Rattle.run.specs.declared.Decoded.{Decoded}
-use Rattle.run.specs.declared.Decoded.the-variants.{Accepted, Failed, Refused}
-use Rattle.run.specs.Trials.{trials, Verdict, run, answerOf}
+use Rattle.run.specs.declared.Decoded.the-variants.{Refused}
+use Rattle.run.specs.Trials.{trials, Verdict, passed, failed, run, answerOf}
 use Rattle.flip.specs.Decode.{runRefusals, decodingRefusals, decodedBy, decodedWith}
+use Rattle.flip.specs.Claims.{accepts}
 use Rattle.run.specs.WellFormed.{WellFormed}
 
 module _ (plan : Plan) (c : Code) (channel output : List ℕ) where
@@ -49,11 +52,10 @@ module _ (plan : Plan) (c : Code) (channel output : List ℕ) where
         output-size = differs-past (length output) (bytesFor (c .k)) (s15 .0);
       }
 
--- an answer that a run gives: no refusal before 16
-abbrev ofRun : Decoded → Bool
-ofRun (Accepted trial steps) = true
-ofRun (Failed made steps) = true
-ofRun (Refused x) = false
+-- a run gives no refusal before 16
+accepts-run : (mask : List ℕ) (c : Code) (output : List ℕ) (v : Verdict) → accepts (answerOf mask c output v .0) ≡ true
+accepts-run mask c output (passed trial steps bits) = refl
+accepts-run mask c output (failed made steps) = refl
 
 module _ (plan : Plan) (mask : List ℕ) (c : Code) (channel output : List ℕ) where
   abbrev verdict : Verdict
@@ -70,12 +72,13 @@ module _ (plan : Plan) (mask : List ℕ) (c : Code) (channel output : List ℕ) 
   refused-answer x h = refused-by (λ x. (Refused x, output)) (answerOf mask c output verdict) _ x h
 
   -- and where the answer is that of a run, nothing before 16 applies
-  pub answer-well-formed : (z : Decoded × List ℕ) → ofRun (z .0) ≡ true → decodedBy plan mask c channel output ≡ z → WellFormed c channel (plan .limit) output × (answerOf mask c output verdict ≡ z)
-  answer-well-formed z f e = go (judge (decodingRefusals plan c channel output)) refl
-    where
-      go : (j : Judgement) → judge (decodingRefusals plan c channel output) ≡ j → WellFormed c channel (plan .limit) output × (answerOf mask c output verdict ≡ z)
-      go Fine h = let w = fine-well-formed plan c channel output h in (w, sym (well-formed-answer w) ∙ e)
-      go (Refusing x) h = absurd (true≢false (sym f ∙ ap (λ (y : Decoded × List ℕ). ofRun (y .0)) (sym e ∙ refused-answer x h)))
+  pub answer-well-formed : (z : Decoded × List ℕ) → accepts (z .0) ≡ true → decodedBy plan mask c channel output ≡ z → WellFormed c channel (plan .limit) output × (answerOf mask c output verdict ≡ z)
+  unfolding decodedBy
+  answer-well-formed z f e =
+      let w = fine-well-formed plan c channel output
+      (accepted-fine (λ (y : Decoded × List ℕ). accepts (y .0)) (λ x. (Refused x, output)) (λ x. refl) (answerOf mask c output verdict) _
+      (ap (λ (y : Decoded × List ℕ). accepts (y .0)) e ∙ f)) in
+      (w, sym (well-formed-answer w) ∙ e)
 
 -- a decoder's answer, by what the description says
 module _ (plan : Plan) (d channel output : List ℕ) where
@@ -95,3 +98,11 @@ module _ (plan : Plan) (d channel output : List ℕ) where
   -- refusals 12 to 15
   pub code-refused : (c : Code) (x : Refusal) → describe d ≡ Coding c → judge (decodingRefusals plan c channel output) ≡ Refusing x → decodedWith plan d channel output ≡ (Refused x, output)
   code-refused c x e h = decoded-by c e ∙ refused-answer plan (maskOf d) c channel output x h
+
+  -- the input is well-formed exactly where nothing before 16 is the answer; `decodedFull` and `decodedRestarted` have a plan each
+  pub well-formed-exactly : WellFormedUnder d (λ c. WellFormed c channel (plan .limit) output) ↔ (accepts (decodedWith plan d channel output .0) ≡ true)
+  unfolding decodedWith decodedBy
+  well-formed-exactly =
+      under-exactly (λ (z : Decoded × List ℕ). accepts (z .0)) (λ x. (Refused x, output)) (λ x. refl) (λ c. decodingRefusals plan c channel output)
+      (λ c. answerOf (maskOf d) c output (verdict plan (maskOf d) c channel output)) (λ c. accepts-run (maskOf d) c output (verdict plan (maskOf d) c channel output))
+      (λ c. (well-formed-fine plan c channel output, fine-well-formed plan c channel output)) d

@@ -1,5 +1,5 @@
 -- What an accepted answer says: the peak is the largest magnitude, and the bytes are channel values.
-use mathlib.Core.Path.{_≡_, refl, sym, ap, _∙_, subst}
+use mathlib.Core.Path.{_≡_, sym, ap, _∙_, subst}
 use mathlib.Core.List.{List}
 use Prim.Native.Nat.{ℕ, _≤_, _<_}
 use native.Mathlib.Omega.{arith}
@@ -7,20 +7,16 @@ use lib.IntN.{natAbs}
 use lib.Ieee.{Float}
 use lib.ListN.{length, getD}
 use Rattle.laws.proofs.Table.{length-table, getD-table}
-use Rattle.refusal.specs.declared.Refusal.{Refusal}
-use Rattle.refusal.specs.declared.Judgement.{Judgement}
-use Rattle.refusal.specs.declared.Judgement.the-variants.{Fine, Refused as Refusing}
-use Rattle.refusal.specs.Judge.{judge, refusedOr}
 use Rattle.channel.specs.Channel.{channelValue, byteOf}
 use Rattle.level.specs.Level.{level}
 use Rattle.level.proofs.Levels.{channel-byte, level-le}
 use Rattle.quantiser.specs.declared.Summary.{Summary}
 use Rattle.quantiser.specs.declared.Quantised.{Quantised}
-use Rattle.quantiser.specs.declared.Quantised.the-variants.{Done, Refused}
-use Rattle.quantiser.specs.Quantise.{product, peakOf, clippedOf, bytes, quantisingRefusals, accepted, quantised}
-use Rattle.quantiser.specs.Claims.{WellFormed, Peak}
+use Rattle.quantiser.specs.declared.Quantised.the-variants.{Done}
+use Rattle.quantiser.specs.Quantise.{product, peakOf, clippedOf, bytes, accepted, quantised}
+use Rattle.quantiser.specs.Claims.{WellFormed, accepts, Peak}
 use Rattle.quantiser.proofs.Numbers.{admitted-number}
-use Rattle.quantiser.proofs.WellFormed.{fine-well-formed}
+use Rattle.quantiser.proofs.WellFormed.{well-formed-answer, well-formed-exactly}
 use Rattle.quantiser.proofs.Totals.{peak-number, peak-above, peak-reached}
 
 module _ (scale : Float) (samples : List Float) (output : List ℕ) (s : Summary) (written : List ℕ) (done : quantised scale samples output ≡ (Done s, written)) where
@@ -32,17 +28,9 @@ module _ (scale : Float) (samples : List Float) (output : List ℕ) (s : Summary
 
   -- no refusal applied
   pub admitted : WellFormed scale samples output × (accepted scale samples ≡ answer)
-  unfolding quantised refusedOr
-  admitted = by (judge (quantisingRefusals scale samples output)) refl done
-    where
-      by : (j : Judgement) → judge (quantisingRefusals scale samples output) ≡ j
-          → refusedOr j (λ (x : Refusal). (Refused x, output)) (accepted scale samples) ≡ answer
-          → WellFormed scale samples output × (accepted scale samples ≡ answer)
-      by Fine e d = (fine-well-formed scale samples output e, d)
-      by (Refusing x) e d =
-          let f : Refused x ≡ Done s = ap (λ (a : Quantised × List ℕ). a .0) d in
-          let z : _≡_ {A = ℕ} 0 1 = cc in
-          absurd (omega arith)
+  admitted =
+      let w = well-formed-exactly scale samples output .1 (ap (λ (z : Quantised × List ℕ). accepts (z .0)) done) in
+      (w, sym (well-formed-answer scale samples output w) ∙ done)
 
   pub peak-largest : Peak p (length samples) (s .peak)
   unfolding peakOf

@@ -1,6 +1,7 @@
--- No refusal applies exactly where a call is admitted.
-use mathlib.Core.Path.{_≡_, sym, ap, _∙_, subst}
-use mathlib.Core.Bool.{not}
+-- Well-formed input: the quantiser accepts exactly where nothing of 20 to 22 applies.
+use mathlib.Core.Path.{_≡_, refl, sym, ap, _∙_, subst}
+use mathlib.Core.Bool.{true, not}
+use mathlib.Core.Logic.{_↔_}
 use mathlib.Core.List.{List}
 use Prim.Native.Nat.{ℕ}
 use borrow.Author.Tests.{ltb-false, le-ltb, not-false}
@@ -10,10 +11,12 @@ use lib.Ieee.Bits.{is-true}
 use lib.ListN.{length}
 use Rattle.refusal.specs.declared.Judgement.the-variants.{Fine}
 use Rattle.refusal.specs.Judge.{judge}
-use Rattle.refusal.proofs.Judge.{judge-none, judge-no, judge-past}
+use Rattle.refusal.proofs.Judge.{judge-none, judge-no, judge-past, refused-fine, accepts-exactly}
 use Rattle.refusal.proofs.Tests.{differs-past, differs-no}
-use Rattle.quantiser.specs.Quantise.{firstNan, validScale, quantisingRefusals}
-use Rattle.quantiser.specs.Claims.{WellFormed}
+use Rattle.quantiser.specs.declared.Quantised.{Quantised}
+use Rattle.quantiser.specs.declared.Quantised.the-variants.{Refused}
+use Rattle.quantiser.specs.Quantise.{firstNan, validScale, quantisingRefusals, accepted, quantised}
+use Rattle.quantiser.specs.Claims.{WellFormed, accepts}
 
 module _ (scale : Float) (samples : List Float) (output : List ℕ) where
   pub fine-well-formed : judge (quantisingRefusals scale samples output) ≡ Fine → WellFormed scale samples output
@@ -32,3 +35,14 @@ module _ (scale : Float) (samples : List Float) (output : List ℕ) where
       ∙ judge-no _ _ _ (ap not (is-true (validScale scale) (a .scale-valid)))
       ∙ judge-no _ _ _ (le-ltb (firstNan samples) (length samples) (a .all-numbers))
       ∙ judge-none
+
+  -- the answer to well-formed input
+  pub well-formed-answer : WellFormed scale samples output → quantised scale samples output ≡ accepted scale samples
+  unfolding quantised
+  well-formed-answer w = refused-fine _ _ _ (well-formed-fine w)
+
+  pub well-formed-exactly : WellFormed scale samples output ↔ (accepts (quantised scale samples output .0) ≡ true)
+  unfolding quantised
+  well-formed-exactly =
+      accepts-exactly (λ (z : Quantised × List ℕ). accepts (z .0)) (λ x. (Refused x, output)) (λ x. refl) (accepted scale samples) refl
+      (judge (quantisingRefusals scale samples output)) (well-formed-fine, fine-well-formed)

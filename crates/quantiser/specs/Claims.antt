@@ -1,19 +1,25 @@
 -- What the theorems of this crate state of its definitions.
 use mathlib.Core.Path.{_≡_}
-use mathlib.Core.Bool.{false}
+use mathlib.Core.Bool.{Bool, true, false}
 use mathlib.Core.List.{List}
 use Prim.Native.Nat.{ℕ, _≤_, _<_}
 use lib.Dec.{T}
 use lib.Ieee.{Float, lt, isNan}
 use lib.ListN.{length}
 use Rattle.level.specs.Level.{plusZero, magnitude}
+use Rattle.quantiser.specs.declared.Quantised.{Quantised}
+use Rattle.quantiser.specs.declared.Quantised.the-variants.{Done, Refused}
 use Rattle.quantiser.specs.Quantise.{firstNan, validScale}
 
--- what holds where no refusal applies, and only there: `well-formed-fine` and `fine-well-formed` of proofs/WellFormed.antt
+-- refusals 20, 21 and 22 in turn do not apply. The quantiser accepts exactly there: `well-formed-exactly` of proofs/WellFormed.antt.
 pub record WellFormed (scale : Float) (samples : List Float) (output : List ℕ) : Type 0 where
   pub same-length : length samples ≡ length output
   pub scale-valid : T (validScale scale)
   pub all-numbers : length samples ≤ firstNan samples
+
+abbrev pub accepts : Quantised → Bool
+accepts (Done s) = true
+accepts (Refused x) = false
 
 -- x does not exceed y, where both are numbers
 abbrev pub Under : Float → Float → Type 0

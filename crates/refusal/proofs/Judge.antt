@@ -1,6 +1,7 @@
 -- The first test that holds: test by test, and in lists that are appended.
 use mathlib.Core.Path.{_≡_, refl, sym, ap, _∙_}
-use mathlib.Core.Bool.{Bool, true, false, cond}
+use mathlib.Core.Bool.{Bool, true, false, cond, true≢false}
+use mathlib.Core.Logic.{_↔_}
 use mathlib.Core.List.{List, [], _∷_, _++_}
 use Prim.Native.Nat.{ℕ}
 use native.Mathlib.Omega.{arith}
@@ -54,6 +55,18 @@ module _ {X : Type 0} (refuse : Refusal → X) (answer : X) where
   -- past all of them
   pub past-all : refusedOr (judge []) refuse answer ≡ answer
   past-all = refused-fine (judge []) judge-none
+
+-- what a call gives, `accepts` telling its answer from every refusal
+module _ {X : Type 0} (accepts : X → Bool) (refuse : Refusal → X) (refuses : (x : Refusal) → accepts (refuse x) ≡ false) (answer : X) where
+  -- where it accepts, no test holds
+  pub accepted-fine : (j : Judgement) → accepts (refusedOr j refuse answer) ≡ true → j ≡ Fine
+  unfolding refusedOr
+  accepted-fine Fine e = refl
+  accepted-fine (Refused x) e = absurd (true≢false (sym e ∙ refuses x))
+
+  -- so it accepts exactly the input of which the tests judge that it is well-formed
+  pub accepts-exactly : accepts answer ≡ true → (j : Judgement) {W : Type 0} → (W ↔ (j ≡ Fine)) → W ↔ (accepts (refusedOr j refuse answer) ≡ true)
+  accepts-exactly a j fine = (λ w. ap accepts (refused-fine refuse answer j (fine .0 w)) ∙ a, λ e. fine .1 (accepted-fine j e))
 
 -- the tests of one list, then those of another
 pub judge-append : (xs ys : List (Bool × Refusal)) → judge (xs ++ ys) ≡ refusedOr (judge xs) Refused (judge ys)

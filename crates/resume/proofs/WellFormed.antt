@@ -1,6 +1,7 @@
 -- Well-formed input: resume accepts exactly where nothing of 12, 13 and 17 to 19 applies.
-use mathlib.Core.Path.{_≡_, _∙_}
-use mathlib.Core.Bool.{Bool}
+use mathlib.Core.Path.{_≡_, refl, _∙_}
+use mathlib.Core.Bool.{Bool, true}
+use mathlib.Core.Logic.{_↔_}
 use mathlib.Core.List.{List}
 use Prim.Native.Nat.{ℕ, _≤_}
 use native.Mathlib.Omega.{arith}
@@ -14,11 +15,15 @@ use Rattle.refusal.proofs.Judge.{judge-none, judge-no, judge-past, append-fine,
 use Rattle.refusal.proofs.Tests.{differs-past, differs-no}
 use Rattle.code.specs.declared.Code.{Code}
 use Rattle.code.specs.Code.{codeLength}
+use Rattle.code.specs.Description.{maskOf}
+use Rattle.code.specs.Claims.{WellFormedUnder}
+use Rattle.code.proofs.Operations.{under-exactly}
 use Rattle.channel.specs.Channel.{channelRefusals}
 use Rattle.channel.proofs.Judge.{channel-fine, fine-channel}
-use Rattle.resume.specs.declared.Resumed.the-variants.{Done}
-use Rattle.resume.specs.Resume.{firstBad, resumePass, prefixRefusals, resumingRefusals, resumedBy}
-use Rattle.resume.specs.Claims.{WellFormed}
+use Rattle.resume.specs.declared.Resumed.{Resumed}
+use Rattle.resume.specs.declared.Resumed.the-variants.{Done, Refused}
+use Rattle.resume.specs.Resume.{firstBad, resumePass, prefixRefusals, resumingRefusals, resumedBy, resumed}
+use Rattle.resume.specs.Claims.{WellFormed, accepts}
 
 module _ (mask : List ℕ) (c : Code) (channel prefix output : List ℕ) where
   abbrev channelTests : List (Bool × Refusal)
@@ -58,3 +63,11 @@ module _ (mask : List ℕ) (c : Code) (channel prefix output : List ℕ) where
   unfolding resumedBy
   well-formed-answer w =
       refused-fine _ _ _ (well-formed-fine w)
+
+-- under a description
+pub well-formed-exactly : (d channel prefix output : List ℕ) → WellFormedUnder d (λ c. WellFormed (maskOf d) c channel prefix output) ↔ (accepts (resumed d channel prefix output .0) ≡ true)
+unfolding resumed resumedBy
+well-formed-exactly d channel prefix output =
+    under-exactly (λ (z : Resumed × List ℕ). accepts (z .0)) (λ x. (Refused x, output)) (λ x. refl) (λ c. resumingRefusals (maskOf d) c channel prefix output)
+    (λ c. let o = resumePass (maskOf d) c channel prefix in (Done (o .work .steps), o .bits)) (λ c. refl)
+    (λ c. (well-formed-fine (maskOf d) c channel prefix output, fine-well-formed (maskOf d) c channel prefix output)) d

@@ -1,5 +1,5 @@
--- Document 01, "Flip decoding, full and restarted": a decoder's input is well-formed where nothing before 16 applies. `well-formed-fine`
--- and `fine-well-formed` of flip/proofs/WellFormed.antt prove that this is so.
+-- Document 01, "Flip decoding, full and restarted": a decoder's input is well-formed where nothing before 16 applies. `well-formed-exactly`
+-- of flip/proofs/WellFormed.antt proves that this is so.
 use mathlib.Core.Path.{_≡_}
 use mathlib.Core.List.{List}
 use Prim.Native.Nat.{ℕ, _+_, _≤_}
