@@ -28,7 +28,7 @@ within-append : {m : ℕ} (xs ys : List ℤ) → Within m xs → Within m ys →
 within-append [] ys p q = q
 within-append (x ∷ xs) ys p q = within-cons (p .at 0) (within-append xs ys (record { at = λ k. p .at (suc k) }) q)
 
-within-leftOf : {m : ℕ} (h : ℕ) (p : List ℕ) {v : List ℤ} → Within m v → Within m (leftOf h p v)
+pub within-leftOf : {m : ℕ} (h : ℕ) (p : List ℕ) {v : List ℤ} → Within m v → Within m (leftOf h p v)
 within-leftOf {m} h p {v} w = chosen (leb h (length p))
   where
     chosen : (t : Bool) → Within m (cond t [] (leftValues h v))

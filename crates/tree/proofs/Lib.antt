@@ -1,5 +1,4 @@
 pub mod Node
-pub mod Bounds
 pub mod StepsMost
 pub mod Sums
 pub mod Steps
@@ -9,3 +8,4 @@ pub mod Restart
 pub mod RestartFlip
 pub mod Noiseless
 pub mod Leaves
+pub mod Bounds

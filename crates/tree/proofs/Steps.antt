@@ -78,7 +78,7 @@ pub skipped-starred : StarredSkipped
 unfolding skipped
 skipped-starred = refl
 
-length-leftOf : (h : ℕ) (p : List ℕ) (v : List ℤ) → length (leftOf h p v) ≡ cond (leb h (length p)) 0 h
+pub length-leftOf : (h : ℕ) (p : List ℕ) (v : List ℤ) → length (leftOf h p v) ≡ cond (leb h (length p)) 0 h
 length-leftOf h p v = go (leb h (length p))
   where
     go : (t : Bool) → length (cond t [] (leftValues h v)) ≡ cond t 0 h
