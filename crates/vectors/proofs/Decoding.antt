@@ -24,7 +24,7 @@ use Rattle.flip.specs.Decode.{decodedBy, decodedWith, decodedFull, decodedResta
 use Rattle.vectors.proofs.Descriptions.{starredD, starredCode, starredV}
 
 -- 4, −4, 4, −4, −4, 4, −4, 4
-abbrev noiselessA0 : List ℕ
+abbrev pub noiselessA0 : List ℕ
 noiselessA0 = 0x04 ∷ 0xFC ∷ 0x04 ∷ 0xFC ∷ 0xFC ∷ 0x04 ∷ 0xFC ∷ 0x04 ∷ []
 
 -- eight values, zero but for the one at index 7

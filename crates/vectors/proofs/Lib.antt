@@ -3,4 +3,5 @@ pub mod Decoding
 pub mod Encoding
 pub mod Receive
 pub mod Resume
+pub mod Instances
 pub mod Starred
