@@ -17,16 +17,14 @@ const OPERATIONS: [(&str, &str); 6] = [
 ];
 
 /// What `receive` prints, and the statements of the main theorems.
-const DEFINITIONS: [(&str, &str); 5] = [
-    ("records", "responded"),
-    ("lines", "cutLine"),
-    ("lines", "endLine"),
+const DEFINITIONS: [(&str, &str); 3] = [
+    ("records", "printed"),
     ("demands", "Demand3"),
     ("demands", "NoiselessDecoding"),
 ];
 
 /// One sitting.
-const MOST_LINES: usize = 480;
+const MOST_LINES: usize = 510;
 
 fn crates() -> Crates {
     Crates::read(&repository().join("crates")).expect("the crates")
