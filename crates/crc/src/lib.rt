@@ -30,7 +30,7 @@ fn feedback(poly: u32, r: u32) -> u32
     word
 }
 
-// The word where `out` is 1, else 0. A payload's bits cannot be foretold, so that a branch would cost more.
+// The word where `out` is 1, else 0. A payload's bits look random to a processor, so that a branch would cost more.
 fn word_if(out: u32, word: u32) -> u32
     requires { ⌜ (out < 2) × (word < 2 ^ 16) ⌝ }
     ensures { λ x. ⌜ x ≡ out * word ⌝ }

@@ -1,7 +1,7 @@
 pub mod Whole
 pub mod Split
 pub mod Printed
-pub mod Looks
+pub mod Says
 pub mod Output
 pub mod Steps
 pub mod Program

@@ -2,10 +2,9 @@
 use mathlib.Core.Path.{_≡_, refl, sym, ap, _∙_}
 use mathlib.Core.Bool.{Bool, cond}
 use mathlib.Core.List.{List, [], _∷_, _++_, append-assoc}
-use Prim.Native.Nat.{ℕ, zero, suc, _+_, _≤_, _<_}
+use Prim.Native.Nat.{ℕ, _+_, _≤_}
 use native.Mathlib.Omega.{arith}
 use borrow.Author.Tests.{eq-eqb, ne-eqb}
-use lib.Dec.{eqb}
 use lib.ListN.{length, take, drop, length-append}
 use lib.Seq.{take-add}
 use Rattle.laws.specs.Contracts.{splice}
@@ -13,7 +12,7 @@ use Rattle.laws.proofs.Segment.{take-splice, segment-splice, length-splice}
 use Rattle.lines.specs.Line.{decimalIn, endLine}
 use Rattle.records.specs.declared.Stream.{Stream}
 use Rattle.records.specs.Stream.{printedFrom, printed}
-use Rattle.records.specs.Contracts.{room, starting, EndPost, yetPrinted, AdvancePre, AdvancePost}
+use Rattle.records.specs.Contracts.{room, starting, EndPost, yetPrinted, unlessOver, AdvancePre}
 use Rattle.records.specs.Claims.{Run, over, turn}
 use Rattle.records.proofs.Steps.{advance-end}
 
@@ -24,11 +23,7 @@ there-and-piece bytes piece at l =
     ∙ ap (λ (x : List ℕ). x ++ take (length piece) (drop at (splice bytes at piece))) (take-splice bytes at piece (length piece) refl l)
     ∙ ap (λ (x : List ℕ). take at bytes ++ x) (segment-splice bytes at piece (length piece) refl l)
 
--- what is yet to be printed, which is nothing where the stream is over
-abbrev yet : Stream → List ℕ → List ℕ → List ℕ → List ℕ → List ℕ
-yet s bytes held output input = cond (eqb (s .wanted) 0) [] (yetPrinted s (take (s .there) bytes) held output input)
-
-run-yet : {turns : ℕ} {s : Stream} {bytes held output input text : List ℕ} → 65535 ≤ length bytes → s .there + s .wanted ≤ 65535 → Run turns s bytes held output input text → text ≡ yet s bytes held output input
+run-yet : {turns : ℕ} {s : Stream} {bytes held output input text : List ℕ} → 65535 ≤ length bytes → s .there + s .wanted ≤ 65535 → Run turns s bytes held output input text → text ≡ unlessOver s (yetPrinted s (take (s .there) bytes) held output input)
 run-yet {s = s} {bytes} {held} {output} {input} l m (over e) = ap (λ (t : Bool). cond t [] (yetPrinted s (take (s .there) bytes) held output input)) (sym (eq-eqb (s .wanted) 0 e))
 run-yet {s = s} {bytes} {held} {output} l m (turn {s′ = s′} {held′ = held′} {output′ = output′} piece rest some few ends p r) =
     let room : s .there + length piece ≤ length bytes = omega arith in

@@ -1,49 +1,42 @@
 -- What each way of going on prints, from what the bytes that are there say.
-use mathlib.Core.Path.{_≡_, refl, sym, ap, ap₂, _∙_, subst}
+use mathlib.Core.Path.{_≡_, sym, ap, ap₂, _∙_, subst}
 use mathlib.Core.Bool.{Bool, cond}
+use mathlib.Core.Logic.{⊎-elim}
 use mathlib.Core.List.{List, [], _++_, append-assoc, append-nil}
-use Prim.Native.Nat.{ℕ, _+_, _≤_, _<_}
+use Prim.Native.Nat.{ℕ, _+_, _≤_}
 use native.Mathlib.Omega.{arith}
 use borrow.Author.Tests.{eq-eqb, ne-eqb}
-use lib.Dec.{eqb}
 use lib.ListN.{length, take, drop, length-append, length-take}
 use lib.Seq.{length-take-le, take-add}
 use Rattle.code.specs.Description.{word}
 use Rattle.lines.specs.Line.{cutLine, endLine}
 use Rattle.response.specs.Respond.{responded}
-use Rattle.records.specs.declared.Ahead.{Ahead}
 use Rattle.records.specs.declared.Ahead.the-variants.{Whole, Missing, Short}
 use Rattle.records.specs.declared.Stream.{Stream}
-use Rattle.records.specs.Stream.{startsWhole, printedFrom}
+use Rattle.records.specs.Stream.{printedFrom}
 use Rattle.records.specs.Claims.{IsRecord}
-use Rattle.records.specs.Contracts.{aheadOf, Fits, RespondToPost, EndPost, Between, yetPrinted, AdvancePre, AdvancePost}
-use Rattle.records.proofs.Whole.{Starts, none-whole, word-append}
+use Rattle.records.specs.Contracts.{aheadOf, Fits, RespondToPost, EndPost, yetPrinted, unlessOver, AdvancePre, AdvancePost}
+use Rattle.records.proofs.Whole.{none-whole, word-append}
 use Rattle.records.proofs.Printed.{printed-end, printed-cut, printed-first}
-use Rattle.records.proofs.Looks.{Looks, few, short, part, whole, looks, some-missing, within}
+use Rattle.records.proofs.Says.{says, some-missing, within}
 
 -- ---- what is there and what is not read
 
 -- a whole record: it has no byte more than its length
-is-record : {a : Ahead} (bytes : List ℕ) → Looks bytes a → a ≡ Whole → (4 ≤ word bytes 0 → length bytes ≤ word bytes 0) → IsRecord bytes
-is-record bytes (whole l m k) e f = record { least = l; length-is = omega (arith, f m) }
-is-record bytes (few l) e f = let z : _≡_ {A = ℕ} 0 1 = cc in absurd (omega arith)
-is-record bytes (short l m) e f = let z : _≡_ {A = ℕ} 0 1 = cc in absurd (omega arith)
-is-record bytes (part l m k) e f = let z : _≡_ {A = ℕ} 0 1 = cc in absurd (omega arith)
+is-record : (bytes : List ℕ) → aheadOf bytes ≡ Whole → (4 ≤ word bytes 0 → length bytes ≤ word bytes 0) → IsRecord bytes
+is-record bytes e f = let s = says bytes Whole e in record { least = s .0; length-is = omega (arith, f (s .1)) }
 
--- a length below 4
-short-cut : {a : Ahead} (held : List ℕ) (count : ℕ) (bytes rest : List ℕ) → Looks bytes a → a ≡ Short → printedFrom held count (bytes ++ rest) ≡ cutLine ++ endLine count
-short-cut held count bytes rest (short l m) e =
-    printed-cut held count (bytes ++ rest) (none-whole (bytes ++ rest) (λ s. omega (arith, s .least, word-append bytes rest l))) (λ z. omega (arith, length-append bytes rest))
-short-cut held count bytes rest (few l) e = let z : _≡_ {A = ℕ} 0 1 = cc in absurd (omega arith)
-short-cut held count bytes rest (part l m k) e = let z : _≡_ {A = ℕ} 0 1 = cc in absurd (omega arith)
-short-cut held count bytes rest (whole l m k) e = let z : _≡_ {A = ℕ} 0 1 = cc in absurd (omega arith)
+module _ (held : List ℕ) (count : ℕ) (bytes : List ℕ) where
+  -- a length below 4, whatever comes behind
+  short-cut : (rest : List ℕ) → aheadOf bytes ≡ Short → printedFrom held count (bytes ++ rest) ≡ cutLine ++ endLine count
+  short-cut rest e =
+      let s = says bytes Short e in
+      printed-cut held count (bytes ++ rest) (none-whole (bytes ++ rest) (λ w. omega (arith, w .least, word-append bytes rest (s .0)))) (λ z. omega (arith, length-append bytes rest))
 
--- the input ends inside a record
-missing-cut : {a : Ahead} {n : ℕ} (held : List ℕ) (count : ℕ) (bytes : List ℕ) → Looks bytes a → a ≡ Missing n → (length bytes ≡ 0 → ⊥) → printedFrom held count bytes ≡ cutLine ++ endLine count
-missing-cut held count bytes (few l) e some = printed-cut held count bytes (none-whole bytes (λ s. omega (arith, s .header))) some
-missing-cut held count bytes (part l m k) e some = printed-cut held count bytes (none-whole bytes (λ s. omega (arith, s .most))) some
-missing-cut held count bytes (short l m) e some = let z : _≡_ {A = ℕ} 0 1 = cc in absurd (omega arith)
-missing-cut held count bytes (whole l m k) e some = let z : _≡_ {A = ℕ} 0 1 = cc in absurd (omega arith)
+  -- the input ends inside a record
+  missing-cut : {n : ℕ} → aheadOf bytes ≡ Missing n → (length bytes ≡ 0 → ⊥) → printedFrom held count bytes ≡ cutLine ++ endLine count
+  missing-cut {n} e some =
+      printed-cut held count bytes (none-whole bytes (λ w. ⊎-elim (λ x. omega (arith, w .header)) (λ x. omega (arith, w .most)) (says bytes (Missing n) e))) some
 
 -- ---- the steps
 
@@ -66,8 +59,8 @@ module _ {longest : ℕ} (s : Stream) (got : ℕ) (bytes held output : List ℕ)
       let parts : take (s .there + got) bytes ≡ take (s .there) bytes ++ take got (drop (s .there) bytes) = take-add (s .there) got bytes in
       let missing = pre .between .wanted-is (pre .going) in
       let few-more : length (take got (drop (s .there) bytes)) ≤ s .wanted = omega (arith, length-take got (drop (s .there) bytes), pre .got-most) in
-      is-record there (looks there) e
-      (λ l. subst (λ (x : List ℕ). length x ≤ word x 0) (sym parts) (within more (looks old) missing few-more (subst (λ (x : List ℕ). 4 ≤ word x 0) parts l)))
+      is-record there e
+      (λ l. subst (λ (x : List ℕ). length x ≤ word x 0) (sym parts) (within old more missing few-more (subst (λ (x : List ℕ). 4 ≤ word x 0) parts l)))
 
   -- with no byte read it is not whole yet
   not-yet : aheadOf there ≡ Whole → got ≡ 0 → ⊥
@@ -92,7 +85,7 @@ module _ {longest : ℕ} (s : Stream) (got : ℕ) (bytes held output : List ℕ)
     prints = λ rest _. prints rest;
   }
     where
-      prints : (rest : List ℕ) → take (s .waiting) output ++ printing rest ≡ take (s′ .ready) output′ ++ cond (eqb (s′ .wanted) 0) [] (yetPrinted s′ (take (s′ .there) bytes) held′ output′ rest)
+      prints : (rest : List ℕ) → take (s .waiting) output ++ printing rest ≡ take (s′ .ready) output′ ++ unlessOver s′ (yetPrinted s′ (take (s′ .there) bytes) held′ output′ rest)
       prints rest =
           let a = responded (take (s .held) held) there in
           let behind = printedFrom (a .1) (s .count + 1) rest in
@@ -122,14 +115,14 @@ module _ {longest : ℕ} (s : Stream) (got : ℕ) (bytes held output : List ℕ)
   }
 
   pub advance-short : {output′ : List ℕ} {s′ : Stream} → aheadOf there ≡ Short → EndPost s (cutLine ++ endLine (s .count)) output output′ s′ → AdvancePost s got bytes held output held output′ s′
-  advance-short e p = advance-over p (λ rest _. short-cut (take (s .held) held) (s .count) there rest (looks there) e)
+  advance-short e p = advance-over p (λ rest _. short-cut (take (s .held) held) (s .count) there rest e)
 
   pub advance-cut : {output′ : List ℕ} {s′ : Stream} {n : ℕ} → aheadOf there ≡ Missing n → got ≡ 0 → (s .there + got ≡ 0 → ⊥) → EndPost s (cutLine ++ endLine (s .count)) output output′ s′ → AdvancePost s got bytes held output held output′ s′
   advance-cut e none some p =
       advance-over p
       (λ rest ends.
       ap (λ (x : List ℕ). printing x) (ends none) ∙ ap (λ (x : List ℕ). printedFrom (take (s .held) held) (s .count) x) (append-nil there)
-      ∙ missing-cut (take (s .held) held) (s .count) there (looks there) e (λ z. some (omega (arith, length-take-le (s .there + got) bytes (pre .bytes-room)))))
+      ∙ missing-cut (take (s .held) held) (s .count) there e (λ z. some (omega (arith, length-take-le (s .there + got) bytes (pre .bytes-room)))))
 
   pub advance-end : {output′ : List ℕ} {s′ : Stream} → s .there + got ≡ 0 → EndPost s (endLine (s .count)) output output′ s′ → AdvancePost s got bytes held output held output′ s′
   advance-end none p =
@@ -141,7 +134,7 @@ module _ {longest : ℕ} (s : Stream) (got : ℕ) (bytes held output : List ℕ)
   pub advance-more : {n : ℕ} → aheadOf there ≡ Missing n → Fits there (Missing n) → (got ≡ 0 → ⊥) → AdvancePost s got bytes held output held output (record { there = s .there + got; wanted = n; held = s .held; count = s .count; waiting = s .waiting; ready = 0 })
   advance-more {n} e fits some-read =
       let long = length-take-le (s .there + got) bytes (pre .bytes-room) in
-      let some = some-missing (looks there) e in
+      let some = some-missing there e in
       record {
         between = record {
           there-is = long;

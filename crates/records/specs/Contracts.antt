@@ -81,6 +81,10 @@ pub record Between (s : Stream) (partial held output : List ℕ) : Type 0 where
 abbrev pub yetPrinted : Stream → List ℕ → List ℕ → List ℕ → List ℕ → List ℕ
 yetPrinted s partial held output rest = take (s .waiting) output ++ printedFrom (take (s .held) held) (s .count) (partial ++ rest)
 
+-- text, or nothing where the stream is over
+abbrev pub unlessOver : Stream → List ℕ → List ℕ
+unlessOver s text = cond (eqb (s .wanted) 0) [] text
+
 -- what `advance` asks: `got` bytes have been read behind those that were there
 pub record AdvancePre (longest : ℕ) (s : Stream) (got : ℕ) (bytes held output : List ℕ) : Type 0 where
   pub between : Between s (take (s .there) bytes) held output
@@ -97,4 +101,4 @@ pub record AdvancePost (s : Stream) (got : ℕ) (bytes held output held′ outpu
   pub ready-most : s′ .ready ≤ length output′
   pub count-most : s′ .count ≤ s .count + 1
   pub ends : got ≡ 0 → s′ .wanted ≡ 0
-  pub prints : (rest : List ℕ) → (got ≡ 0 → rest ≡ []) → yetPrinted s (take (s .there + got) bytes) held output rest ≡ take (s′ .ready) output′ ++ cond (eqb (s′ .wanted) 0) [] (yetPrinted s′ (take (s′ .there) bytes) held′ output′ rest)
+  pub prints : (rest : List ℕ) → (got ≡ 0 → rest ≡ []) → yetPrinted s (take (s .there + got) bytes) held output rest ≡ take (s′ .ready) output′ ++ unlessOver s′ (yetPrinted s′ (take (s′ .there) bytes) held′ output′ rest)

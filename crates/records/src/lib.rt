@@ -7,7 +7,6 @@ ghost use mathlib.Core.List.{_++_};
 ghost use Prim.Native.Nat.{_+_, _≤_};
 ghost use lib.ListN.{length};
 ghost use Rattle.lines.specs.Line.{cutLine, endLine};
-ghost use Rattle.records.specs.Stream.{ending};
 ghost use Rattle.records.specs.Contracts.{room, starting, aheadOf, Fits, ReadyPost, RespondToPre, RespondToPost, EndPost, AdvancePre, AdvancePost};
 
 // Room for what one step prints: a record's line, or `cut` and `end`.

@@ -1,11 +1,10 @@
 -- `receive::receive` meets its contract. The invariant: the buffers keep their sizes, the stream stands between two reads, and there were no
 -- more records than turns.
 use mathlib.Core.Path.{_≡_, refl, sym, ap, subst}
-use mathlib.Core.List.{List}
-use Prim.Native.Nat.{ℕ, _-_, _≤_, _<_}
+use Prim.Native.Nat.{_-_, _≤_}
 use native.Mathlib.Omega.{arith}
 use borrow.Author.Needs.{needs}
-use borrow.Rule.Slice.PartMut.{putMid, take-put}
+use borrow.Rule.Slice.PartMut.{take-put}
 use denote.Ref.{now}
 use lib.ListN.{length, take}
 use lib.Seq.{length-take-le}

@@ -2,13 +2,12 @@
 use mathlib.Core.Path.{_≡_, sym, _∙_, subst}
 use mathlib.Core.List.{List}
 use Prim.Native.Nat.{ℕ, _+_}
-use native.Mathlib.Omega.{arith}
 use borrow.Author.Needs.{needs}
 use denote.Ref.{now}
 use lib.ListN.{take}
 use lib.Seq.{length-take-le}
 use Rattle.records.specs.declared.Ahead.{Ahead}
-use Rattle.records.specs.declared.Ahead.the-variants.{Whole, Missing, Short}
+use Rattle.records.specs.declared.Ahead.the-variants.{Whole, Short}
 use Rattle.records.specs.Contracts.{aheadOf, Fits}
 use Rattle.records.proofs.Steps.{record-there, advance-whole, advance-short, advance-cut, advance-end, advance-more}
 use Rattle.records.proofs.advance.Statement.{statement}

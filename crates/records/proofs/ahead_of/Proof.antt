@@ -1,6 +1,6 @@
 -- `records::ahead_of` meets its contract: the cases of the definition. A length is below 65,536.
-use mathlib.Core.Path.{_≡_, ap, _∙_}
-use Prim.Native.Nat.{ℕ, _-_, _≤_, _<_}
+use mathlib.Core.Path.{_≡_, sym, ap, _∙_}
+use Prim.Native.Nat.{ℕ, _-_}
 use native.Mathlib.Omega.{arith}
 use borrow.Author.Needs.{needs}
 use denote.Ref.{now}
@@ -9,7 +9,7 @@ use lib.ListN.{length}
 use Rattle.code.specs.Description.{word}
 use Rattle.response.specs.declared.Header.{Header}
 use Rattle.records.specs.declared.Ahead.the-variants.{Missing}
-use Rattle.records.proofs.Looks.{few, short, part, whole, looks-only}
+use Rattle.records.proofs.Says.{ahead-few, ahead-short, ahead-part, ahead-whole}
 use Rattle.records.proofs.ahead_of.Statement.{statement}
 use Rattle.records.proofs.ahead_of.Tie as tie
 
@@ -22,20 +22,22 @@ module _ (c : tie.After-read-header) where
   size-is = ap (λ (h : Header). h .length) (c .read-header .ensures .0)
 
 returns : tie.Need-returns
-returns c = (looks-only {bytes = now (c .before .before .args .bytes)} (few (c .if1 .taken)), omega arith)
+returns c = (sym (ahead-few (now (c .before .before .args .bytes)) (c .if1 .taken)), omega arith)
 
 returns-2 : tie.Need-returns-2
-returns-2 c = (looks-only {bytes = bytes (c .before)} (short (omega arith) (omega (arith, size-is (c .before)))), tt)
+returns-2 c = (sym (ahead-short (bytes (c .before)) (omega arith) (omega (arith, size-is (c .before)))), tt)
 
 returns-3 : tie.Need-returns-3
 returns-3 c =
     let r = c .before .before in
-    (ap (λ (n : ℕ). Missing (n - length (bytes r))) (size-is r) ∙ looks-only {bytes = bytes r} (part (omega arith) (omega (arith, size-is r)) (omega (arith, size-is r))), omega (arith, r .read-header .ensures .1))
+    let size = size-is r in
+    (ap (λ (n : ℕ). Missing (n - length (bytes r))) size ∙ sym (ahead-part (bytes r) (omega arith) (omega arith) (omega arith)), omega (arith, r .read-header .ensures .1))
 
 returns-4 : tie.Need-returns-4
 returns-4 c =
     let r = c .before .before in
-    (looks-only {bytes = bytes r} (whole (omega arith) (omega (arith, size-is r)) (omega (arith, size-is r))), tt)
+    let size = size-is r in
+    (sym (ahead-whole (bytes r) (omega arith) (omega arith) (omega arith)), tt)
 
 pub ahead-of-spec : {M : Type 1} → statement M
 ahead-of-spec =
