@@ -3,7 +3,8 @@
 use code::LONGEST;
 use libc::STDIN_FILENO;
 use libc::STDOUT_FILENO;
-ghost use Rattle.receive.specs.Contracts.{Rooms};
+use records::Stream;
+ghost use Rattle.receive.specs.Contracts.{Rooms, Ended};
 
 // The longest record.
 const RECORD: usize = 65535;
@@ -12,14 +13,14 @@ const RECORD: usize = 65535;
 const OUTPUT: usize = 16384;
 
 // Reads and writes until the stream is over. No input is long enough for the turns to reach their bound.
-fn receive(bytes: &mut [u8], held: &mut [u8], output: &mut [u8])
+fn receive(bytes: &mut [u8], held: &mut [u8], output: &mut [u8]) -> Stream
     requires { do ⌜ Rooms (← ⟦LONGEST⟧) (now bytes) (now held) (now output) ⌝ }
+    ensures { λ s. ⌜ Ended s ⌝ }
 {
     let mut stream = records::start();
-    let mut turns: u64 = 0;
-    while turns < u64::MAX {
+    while stream.turns < u64::MAX {
         if stream.wanted == 0 {
-            return;
+            return stream;
         }
         let there = stream.there;
         let end = there + stream.wanted;
@@ -27,8 +28,8 @@ fn receive(bytes: &mut [u8], held: &mut [u8], output: &mut [u8])
         stream = records::advance(stream, got, bytes, held, output);
         let ready = stream.ready;
         io::write_all(STDOUT_FILENO, &output[..ready]);
-        turns += 1;
     }
+    stream
 }
 
 fn main() {

@@ -1,5 +1,5 @@
 -- What each way of going on prints, from what the bytes that are there say.
-use mathlib.Core.Path.{_≡_, sym, ap, ap₂, _∙_, subst}
+use mathlib.Core.Path.{_≡_, refl, sym, ap, ap₂, _∙_, subst}
 use mathlib.Core.Bool.{Bool, cond}
 use mathlib.Core.Logic.{⊎-elim}
 use mathlib.Core.List.{List, [], _++_, append-assoc, append-nil}
@@ -77,10 +77,11 @@ module _ {longest : ℕ} (s : Stream) (got : ℕ) (bytes held output : List ℕ)
       wanted-is = λ l. ap (λ (n : ℕ). aheadOf (take n bytes)) (p .there-is) ∙ ap Missing (sym (p .wanted-is));
       wanted-fits = omega (arith, p .there-is, p .wanted-is);
       held-most = p .held-most;
+      counts = omega (arith, p .count-is, p .turns-is, pre .between .counts);
       output-room = p .output-room;
     };
     ready-most = p .ready-most;
-    count-most = omega (arith, p .count-is);
+    turns-is = p .turns-is;
     ends = λ none. absurd (not-yet e none);
     prints = λ rest _. prints rest;
   }
@@ -105,10 +106,11 @@ module _ {longest : ℕ} (s : Stream) (got : ℕ) (bytes held output : List ℕ)
       wanted-is = λ l. absurd (omega (arith, p .wanted-is));
       wanted-fits = omega (arith, p .there-is, p .wanted-is);
       held-most = omega (arith, p .held-is, pre .between .held-most);
+      counts = omega (arith, p .count-is, p .turns-is, pre .between .counts);
       output-room = omega (arith, p .waiting-is, p .same-size, pre .between .output-room);
     };
     ready-most = p .ready-most;
-    count-most = omega (arith, p .count-is);
+    turns-is = p .turns-is;
     ends = λ _. p .wanted-is;
     prints = λ rest ends. ap (λ (x : List ℕ). take (s .waiting) output ++ x) (f rest ends) ∙ sym (p .lines-are) ∙ sym (append-nil (take (s′ .ready) output′))
         ∙ ap (λ (t : Bool). take (s′ .ready) output′ ++ cond t [] (yetPrinted s′ (take (s′ .there) bytes) held output′ rest)) (sym (eq-eqb (s′ .wanted) 0 (p .wanted-is)));
@@ -131,7 +133,7 @@ module _ {longest : ℕ} (s : Stream) (got : ℕ) (bytes held output : List ℕ)
       ap₂ (λ (n : ℕ) (x : List ℕ). printedFrom (take (s .held) held) (s .count) (take n bytes ++ x)) none (ends (omega arith))
       ∙ printed-end (take (s .held) held) (s .count))
 
-  pub advance-more : {n : ℕ} → aheadOf there ≡ Missing n → Fits there (Missing n) → (got ≡ 0 → ⊥) → AdvancePost s got bytes held output held output (record { there = s .there + got; wanted = n; held = s .held; count = s .count; waiting = s .waiting; ready = 0 })
+  pub advance-more : {n : ℕ} → aheadOf there ≡ Missing n → Fits there (Missing n) → (got ≡ 0 → ⊥) → AdvancePost s got bytes held output held output (record { there = s .there + got; wanted = n; held = s .held; count = s .count; turns = s .turns + 1; waiting = s .waiting; ready = 0 })
   advance-more {n} e fits some-read =
       let long = length-take-le (s .there + got) bytes (pre .bytes-room) in
       let some = some-missing there e in
@@ -141,10 +143,11 @@ module _ {longest : ℕ} (s : Stream) (got : ℕ) (bytes held output : List ℕ)
           wanted-is = λ _. e;
           wanted-fits = omega arith;
           held-most = pre .between .held-most;
+          counts = omega (arith, pre .between .counts);
           output-room = pre .between .output-room;
         };
         ready-most = omega arith;
-        count-most = omega arith;
+        turns-is = refl;
         ends = λ none. absurd (some-read none);
         prints = λ rest _. ap (λ (t : Bool). cond t [] (take (s .waiting) output ++ printing rest)) (sym (ne-eqb n 0 (λ z. omega arith)));
       }

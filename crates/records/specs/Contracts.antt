@@ -17,9 +17,17 @@ use Rattle.records.specs.Stream.{printedFrom}
 abbrev pub room : ℕ
 room = 2 * longestLine
 
+-- the length of a record is a word
+abbrev pub longestRecord : ℕ
+longestRecord = 65535
+
+-- turns are counted by a u64
+abbrev pub mostTurns : ℕ
+mostTurns = 18446744073709551615
+
 -- a stream of which nothing has been read
 abbrev pub starting : Stream
-starting = record { there = 0; wanted = 4; held = 0; count = 0; waiting = 0; ready = 0 }
+starting = record { there = 0; wanted = 4; held = 0; count = 0; turns = 0; waiting = 0; ready = 0 }
 
 -- what the bytes of a record that are there say
 abbrev pub aheadOf : List ℕ → Ahead
@@ -30,7 +38,7 @@ aheadOf bytes =
 -- what is missing has room in the longest record
 abbrev pub Fits : List ℕ → Ahead → Type 0
 Fits bytes Whole = Unit
-Fits bytes (Missing n) = length bytes + n ≤ 65535
+Fits bytes (Missing n) = length bytes + n ≤ longestRecord
 Fits bytes Short = Unit
 
 -- how much is written of what waits in an output of `size` bytes: all or nothing, and what is left leaves room
@@ -45,13 +53,15 @@ pub record RespondToPre (longest : ℕ) (s : Stream) (bytes held output : List �
   pub held-most : s .held ≤ length held
   pub held-room : longest ≤ length held
   pub output-room : s .waiting + room ≤ length output
-  pub count-most : s .count < 18446744073709551615
+  pub counts : s .count ≤ s .turns
+  pub turns-most : s .turns < mostTurns
 
 -- what it answers: the record's line behind what waited, and what is held, in the buffers as they are afterwards
 pub record RespondToPost (s : Stream) (bytes held output held′ output′ : List ℕ) (s′ : Stream) : Type 0 where
   pub there-is : s′ .there ≡ 0
   pub wanted-is : s′ .wanted ≡ 4
   pub count-is : s′ .count ≡ s .count + 1
+  pub turns-is : s′ .turns ≡ s .turns + 1
   pub held-most : s′ .held ≤ length held′
   pub held-is : take (s′ .held) held′ ≡ responded (take (s .held) held) bytes .1
   pub ready-most : s′ .ready ≤ length output′
@@ -64,6 +74,7 @@ pub record EndPost (s : Stream) (text output output′ : List ℕ) (s′ : Strea
   pub wanted-is : s′ .wanted ≡ 0
   pub held-is : s′ .held ≡ s .held
   pub count-is : s′ .count ≡ s .count
+  pub turns-is : s′ .turns ≡ s .turns + 1
   pub waiting-is : s′ .waiting ≡ 0
   pub same-size : length output′ ≡ length output
   pub ready-most : s′ .ready ≤ length output′
@@ -73,8 +84,9 @@ pub record EndPost (s : Stream) (text output output′ : List ℕ) (s′ : Strea
 pub record Between (s : Stream) (partial held output : List ℕ) : Type 0 where
   pub there-is : length partial ≡ s .there
   pub wanted-is : 0 < s .wanted → aheadOf partial ≡ Missing (s .wanted)
-  pub wanted-fits : s .there + s .wanted ≤ 65535
+  pub wanted-fits : s .there + s .wanted ≤ longestRecord
   pub held-most : s .held ≤ length held
+  pub counts : s .count ≤ s .turns
   pub output-room : s .waiting + room ≤ length output
 
 -- what is yet to be printed where `partial` is there of a record and `rest` is not read
@@ -92,13 +104,13 @@ pub record AdvancePre (longest : ℕ) (s : Stream) (got : ℕ) (bytes held outpu
   pub got-most : got ≤ s .wanted
   pub bytes-room : s .there + got ≤ length bytes
   pub held-room : longest ≤ length held
-  pub count-most : s .count < 18446744073709551615
+  pub turns-most : s .turns < mostTurns
 
 -- What it answers. Where no byte was read the stream is over. Whatever `rest` of the input is not read, and none is left where no byte was
 -- read: what was yet to be printed is what is written now, and then what is yet to be printed, which is nothing where the stream is over.
 pub record AdvancePost (s : Stream) (got : ℕ) (bytes held output held′ output′ : List ℕ) (s′ : Stream) : Type 0 where
   pub between : Between s′ (take (s′ .there) bytes) held′ output′
   pub ready-most : s′ .ready ≤ length output′
-  pub count-most : s′ .count ≤ s .count + 1
+  pub turns-is : s′ .turns ≡ s .turns + 1
   pub ends : got ≡ 0 → s′ .wanted ≡ 0
   pub prints : (rest : List ℕ) → (got ≡ 0 → rest ≡ []) → yetPrinted s (take (s .there + got) bytes) held output rest ≡ take (s′ .ready) output′ ++ unlessOver s′ (yetPrinted s′ (take (s′ .there) bytes) held′ output′ rest)

@@ -19,7 +19,7 @@ recordsIn (suc most) input =
     let more = recordsIn most (drop (word input 0) input) in
     cond (startsWhole input) (take (word input 0) input ∷ more .0, more .1) ([], input)
 
--- there are fewer than bytes; `records-of` of proofs/Split.antt proves that no whole record is left
+-- at most as many as there are bytes; `records-of` of proofs/Split.antt proves that no whole record is left
 abbrev pub recordsOf : List ℕ → List (List ℕ) × List ℕ
 recordsOf input = recordsIn (length input) input
 

@@ -4,22 +4,26 @@ use code::LONGEST;
 use lines::LINE;
 ghost use mathlib.Core.Path.{_≡_};
 ghost use mathlib.Core.List.{_++_};
-ghost use Prim.Native.Nat.{_+_, _≤_};
+ghost use Prim.Native.Nat.{_+_, _≤_, _<_};
 ghost use lib.ListN.{length};
 ghost use Rattle.lines.specs.Line.{cutLine, endLine};
-ghost use Rattle.records.specs.Contracts.{room, starting, aheadOf, Fits, ReadyPost, RespondToPre, RespondToPost, EndPost, AdvancePre, AdvancePost};
+ghost use Rattle.records.specs.Contracts.{room, mostTurns, starting, aheadOf, Fits, ReadyPost, RespondToPre, RespondToPost, EndPost, AdvancePre, AdvancePost};
+
+// A record begins with its length and its kind.
+const HEADER: usize = 4;
 
 // Room for what one step prints: a record's line, or `cut` and `end`.
 const ROOM: usize = 2 * LINE;
 
 // Where a stream is. The first `there` bytes of a record have been read, and at most `wanted` are read next, behind them; none where the
-// stream is over. The first `held` bytes of their buffer are the description that is held. `count` records were whole. The first `ready`
-// bytes of the output are to be written now; after that its first `waiting` bytes are lines that wait.
+// stream is over. The first `held` bytes of their buffer are the description that is held. `count` records were whole, in `turns` reads. The
+// first `ready` bytes of the output are to be written now; after that its first `waiting` bytes are lines that wait.
 pub struct Stream {
     pub there: usize,
     pub wanted: usize,
     pub held: usize,
     pub count: u64,
+    pub turns: u64,
     pub waiting: usize,
     pub ready: usize,
 }
@@ -37,9 +41,10 @@ pub fn start() -> Stream
 {
     Stream {
         there: 0,
-        wanted: 4,
+        wanted: HEADER,
         held: 0,
         count: 0,
+        turns: 0,
         waiting: 0,
         ready: 0,
     }
@@ -49,8 +54,8 @@ fn ahead_of(bytes: &[u8]) -> Ahead
     ensures { λ a. ⌜ (a ≡ aheadOf (now (bytes .entry))) × Fits (now (bytes .entry)) a ⌝ }
 {
     let there = bytes.len();
-    if there < 4 {
-        return Ahead::Missing(4 - there);
+    if there < HEADER {
+        return Ahead::Missing(HEADER - there);
     }
     let size = response::read_header(bytes).length;
     if size < 4 {
@@ -81,9 +86,10 @@ fn respond_to(stream: Stream, bytes: &[u8], held: &mut [u8], output: &mut [u8]) 
     let written = ready_of(waiting, output.len());
     Stream {
         there: 0,
-        wanted: 4,
+        wanted: HEADER,
         held: response.held,
         count: stream.count + 1,
+        turns: stream.turns + 1,
         waiting: waiting - written,
         ready: written,
     }
@@ -91,7 +97,7 @@ fn respond_to(stream: Stream, bytes: &[u8], held: &mut [u8], output: &mut [u8]) 
 
 // Ends a stream with `end`, and all is written.
 fn finish(stream: Stream, output: &mut [u8]) -> Stream
-    requires { do ⌜ stream .waiting + (← ⟦LINE⟧) ≤ length (now output) ⌝ }
+    requires { do ⌜ (stream .waiting + (← ⟦LINE⟧) ≤ length (now output)) × (stream .turns < mostTurns) ⌝ }
     ensures { λ s. ⌜ EndPost stream (endLine (stream .count)) (now (output .entry)) (now (output .exit)) s ⌝ }
 {
     let waiting = stream.waiting;
@@ -101,6 +107,7 @@ fn finish(stream: Stream, output: &mut [u8]) -> Stream
         wanted: 0,
         held: stream.held,
         count: stream.count,
+        turns: stream.turns + 1,
         waiting: 0,
         ready: waiting + end,
     }
@@ -108,7 +115,7 @@ fn finish(stream: Stream, output: &mut [u8]) -> Stream
 
 // Ends a stream with `cut` and `end`.
 fn cut(stream: Stream, output: &mut [u8]) -> Stream
-    requires { ⌜ stream .waiting + room ≤ length (now output) ⌝ }
+    requires { ⌜ (stream .waiting + room ≤ length (now output)) × (stream .turns < mostTurns) ⌝ }
     ensures { λ s. ⌜ EndPost stream (cutLine ++ endLine (stream .count)) (now (output .entry)) (now (output .exit)) s ⌝ }
 {
     let waiting = stream.waiting;
@@ -143,6 +150,7 @@ pub fn advance(
             let mut after = stream;
             after.there = there;
             after.wanted = missing;
+            after.turns = stream.turns + 1;
             after.ready = 0;
             after
         }

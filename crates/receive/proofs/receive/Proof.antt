@@ -1,6 +1,5 @@
--- `receive::receive` meets its contract. The invariant: the buffers keep their sizes, the stream stands between two reads, and there were no
--- more records than turns.
-use mathlib.Core.Path.{_≡_, refl, sym, ap, subst}
+-- `receive::receive` meets its contract. The invariant: the buffers keep their sizes, and the stream stands between two reads.
+use mathlib.Core.Path.{_≡_, sym, subst}
 use Prim.Native.Nat.{_-_, _≤_}
 use native.Mathlib.Omega.{arith}
 use borrow.Author.Needs.{needs}
@@ -9,46 +8,43 @@ use denote.Ref.{now}
 use lib.ListN.{length, take}
 use lib.Seq.{length-take-le}
 use Rattle.records.specs.declared.Stream.{Stream}
-use Rattle.records.specs.Contracts.{Between}
+use Rattle.records.specs.Contracts.{mostTurns, Between}
+use Rattle.records.proofs.Program.{starts}
 use Rattle.receive.proofs.receive.Statement.{statement}
 use Rattle.receive.proofs.receive.Tie as tie
 
 abbrev Inv-loop : tie.InvT-loop
-Inv-loop bytes₀ held₀ output₀ stream₀ turns₀ bytes held output stream turns = (length bytes ≡ length bytes₀) × (length held ≡ length held₀) × (length output ≡ length output₀) × Between stream (take (stream .there) bytes) held output × (stream .count ≤ turns)
+Inv-loop bytes₀ held₀ output₀ stream₀ bytes held output stream = (length bytes ≡ length bytes₀) × (length held ≡ length held₀) × (length output ≡ length output₀) × Between stream (take (stream .there) bytes) held output
 
 abbrev μ-loop : tie.MeasureT-loop
-μ-loop bytes₀ held₀ output₀ stream₀ turns₀ bytes held output stream turns = 18446744073709551615 - turns
+μ-loop bytes₀ held₀ output₀ stream₀ bytes held output stream = mostTurns - stream .turns
 
 loop-holds : tie.Need-loop-holds Inv-loop μ-loop
 loop-holds c =
-    let a = c .before .before .before .before in
-    let s = c .start .ensures in (
+    let a = c .before .before .before .before in (
       search needs,
       search needs,
       search needs,
-      subst (λ (x : Stream). Between x (take (x .there) (now (a .args .bytes))) (now (a .args .held)) (now (a .args .output))) (sym s)
-          (record { there-is = refl; wanted-is = λ _. refl; wanted-fits = omega arith; held-most = omega arith; output-room = omega (arith, a .pre .output-room) }),
-      omega (arith, ap (λ (x : Stream). x .count) s),
+      subst (λ (x : Stream). Between x (take (x .there) (now (a .args .bytes))) (now (a .args .held)) (now (a .args .output))) (sym (c .start .ensures))
+          (starts (now (a .args .held)) (now (a .args .output)) (a .pre .output-room)),
     )
 
 advance-requires : tie.Need-advance-requires Inv-loop μ-loop
 advance-requires c κs =
-    let l = c .before .before .before .before .before .before .before .before .before .before .before .loop in
-    let inv = l .inv in
-    let between = inv .3 in
-    let pre = c .before .before .before .before .before .before .before .before .before .before .before .before .before .before .before .before .pre in
-    let inside : l .stream .there ≤ length (l .bytes) = omega (arith, between .wanted-fits, inv .0, pre .record-room) in
+    let l = c .before .before .before .before .before .before .before .before .before .before .before .before .loop in
+    let between = l .inv .3 in
+    let inside : l .stream .there ≤ length (l .bytes) = omega (arith, between .wanted-fits, l .inv .0, c .before .before .before .before .before .before .before .before .before .before .before .before .before .before .before .before .before .pre .record-room) in
     record {
       between = rw take-put between;
       going = omega arith;
       got-most = search needs;
       bytes-room = search needs;
       held-room = search needs;
-      count-most = omega arith;
+      turns-most = omega arith;
     }
 
-loop-again : tie.Need-loop-again Inv-loop μ-loop
-loop-again c = let p = c .before .before .before .before .before .before .advance .ensures in (search needs, search needs, search needs, p .between, omega (arith, p .count-most))
+loop-less : tie.Need-loop-less Inv-loop μ-loop
+loop-less c = omega (arith, c .before .before .before .before .before .before .advance .ensures .turns-is)
 
 pub receive-spec : {M : Type 1} → statement M
 receive-spec =
@@ -61,7 +57,7 @@ receive-spec =
     (λ c. search needs)
     (λ c. search needs)
     (λ c. search needs)
-    (λ c. search needs)
+    (λ c. record { over = λ going. absurd (omega arith) })
     (λ c. search needs)
     (λ c. search needs)
     (λ c. search needs)
@@ -71,10 +67,9 @@ receive-spec =
     (λ c. c .before .before .before .before .advance .ensures .ready-most)
     (λ c. sym (length-take-le _ _ (c .before .before .before .before .before .advance .ensures .ready-most)))
     (λ c κs. search needs)
+    loop-less
+    (λ c. (search needs, search needs, search needs, c .before .before .before .before .before .before .advance .ensures .between))
     (λ c. search needs)
     (λ c. search needs)
-    loop-again
     (λ c. search needs)
-    (λ c. search needs)
-    (λ c. search needs)
-    (λ c. search needs))
+    (λ c. record { over = λ going. omega arith }))

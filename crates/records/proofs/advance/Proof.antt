@@ -33,7 +33,8 @@ respond-to-requires c κs =
       held-most = pre .between .held-most;
       held-room = pre .held-room;
       output-room = pre .between .output-room;
-      count-most = pre .count-most;
+      counts = pre .between .counts;
+      turns-most = pre .turns-most;
     }
 
 returns : tie.Need-returns
@@ -58,9 +59,9 @@ returns-4 c =
 
 returns-5 : tie.Need-returns-5
 returns-5 c =
-    let a = c .before .before .before .before .before .before .before .before .before .before .before in
-    let told = c .before .before .before .missing .given in
-    advance-more (a .args .stream) (a .args .got) (now (a .args .bytes)) (now (a .args .held)) (now (a .args .output)) (a .pre) (says (c .before .before .before .before .before) _ (told .1)) (fits (c .before .before .before .before .before) _ (told .1)) (c .if2 .left)
+    let a = c .before .before .before .before .before .before .before .before .before .before .before .before in
+    let told = c .before .before .before .before .missing .given in
+    advance-more (a .args .stream) (a .args .got) (now (a .args .bytes)) (now (a .args .held)) (now (a .args .output)) (a .pre) (says (c .before .before .before .before .before .before) _ (told .1)) (fits (c .before .before .before .before .before .before) _ (told .1)) (c .before .if2 .left)
 
 pub advance-spec : {M : Type 1} → statement M
 advance-spec =
@@ -81,6 +82,7 @@ advance-spec =
     (λ c κs. search needs)
     (λ c. search needs)
     returns-2
+    (λ c. search needs)
     (λ c. search needs)
     (λ c. search needs)
     returns-3

@@ -21,6 +21,7 @@ returns c =
       wanted-is = end .wanted-is;
       held-is = end .held-is;
       count-is = end .count-is;
+      turns-is = end .turns-is;
       waiting-is = end .waiting-is;
       same-size = search needs;
       ready-most = end .ready-most;

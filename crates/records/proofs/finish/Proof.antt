@@ -10,16 +10,17 @@ use Rattle.records.proofs.finish.Tie as tie
 
 returns : tie.Need-returns
 returns c =
-    let a = c .before .before .before .before .before .args in
+    let a = c .before .before .before .before .before .before .args in
     record {
       there-is = search needs;
       wanted-is = search needs;
       held-is = search needs;
       count-is = search needs;
+      turns-is = search needs;
       waiting-is = search needs;
       same-size = search needs;
       ready-most = search needs;
-      lines-are = put-behind (now (a .output)) (a .stream .waiting) (length (now (a .output)) - a .stream .waiting) (omega arith) (c .before .before .put-end .ensures);
+      lines-are = put-behind (now (a .output)) (a .stream .waiting) (length (now (a .output)) - a .stream .waiting) (omega arith) (c .before .before .before .put-end .ensures);
     }
 
 pub finish-spec : {M : Type 1} → statement M
@@ -30,6 +31,7 @@ finish-spec =
     (λ c. search needs)
     (λ c. search needs)
     (λ c κs. search needs)
+    (λ c. search needs)
     (λ c. search needs)
     (λ c. search needs)
     returns)

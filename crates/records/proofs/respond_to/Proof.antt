@@ -11,18 +11,19 @@ use Rattle.records.proofs.respond_to.Statement.{statement}
 use Rattle.records.proofs.respond_to.Tie as tie
 
 sub-waiting : tie.Need-sub-t12
-sub-waiting c = c .before .ready-of .ensures .most
+sub-waiting c = c .before .before .ready-of .ensures .most
 
 returns : tie.Need-returns
 returns c =
-    let a = c .before .before .before .before .before .before .before .before .before .before .before .before .before .args in
-    let r = c .before .before .before .before .before .before .before .respond .ensures in
-    let ready = c .before .ready-of .ensures in
+    let a = c .before .before .before .before .before .before .before .before .before .before .before .before .before .before .args in
+    let r = c .before .before .before .before .before .before .before .before .respond .ensures in
+    let ready = c .before .before .ready-of .ensures in
     let before = a .stream .waiting in
     record {
       there-is = search needs;
       wanted-is = search needs;
       count-is = search needs;
+      turns-is = search needs;
       held-most = r .held-fits;
       held-is = ap (λ (z : List ℕ × List ℕ). z .1) (r .answer-is);
       ready-most = search needs;
@@ -40,6 +41,7 @@ respond-to-spec =
     (λ c κs. search needs)
     (λ c. search needs)
     (λ c κs. search needs)
+    (λ c. search needs)
     (λ c. search needs)
     sub-waiting
     (λ c. search needs)
