@@ -18,7 +18,7 @@ pub use table::{csv, nearest, read_csv, summary};
 use crate::testing::files::repository;
 
 /// The n of document 000; its check, z^16 + z^15 + z^2 + 1; its trial limit.
-pub const LAYERS: usize = 10;
+pub const DEPTH: usize = 10;
 pub const CHECK: (usize, u16) = (16, 0x8005);
 pub const LIMIT: u32 = 13;
 

@@ -1,7 +1,7 @@
 //! The library's reading of descriptions, held to the reference on more than 300,000 inputs.
 
 use host::reference::description::{describe, record, LONGEST_DESCRIPTION};
-use host::reference::sizes::{DEEPEST, LAYERS, LONGEST};
+use host::reference::sizes::{DEEPEST, LAYERS, LONGEST, LONGEST_RECORD};
 use host::testing::guard::lend_input;
 use host::testing::hex::parse;
 use host::testing::library::{self, description_number};
@@ -119,7 +119,7 @@ fn cut_and_extended() {
 #[test]
 fn longer_than_the_length_field_can_say() {
     for_accepted(4, 2, |_, d| {
-        for length in [65_535, 65_536, 65_536 + d.len()] {
+        for length in [LONGEST_RECORD, 65_536, 65_536 + d.len()] {
             let mut long = d.to_vec();
             long.resize(length, 0);
             check(&long);
@@ -136,7 +136,8 @@ fn each_field_at_its_edges() {
             met[check_with(d, 4, &[value])] += 1;
             met[check_with(d, 5, &[value])] += 1;
         }
-        for length in [0, 7, 8, d.len() - 1, d.len() + 1, d.len() + 256, 65_535] {
+        let size = d.len();
+        for length in [0, 7, 8, size - 1, size + 1, size + 256, LONGEST_RECORD] {
             met[check_with(d, 0, &length_field(length))] += 1;
         }
         for kind in [0u16, 1, 2, 255, 256, 257, 65_535] {

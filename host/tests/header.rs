@@ -31,7 +31,7 @@ fn languages() -> Vec<Language> {
     if has_cpp.is_ok_and(|status| status.success()) {
         return vec![C, CPP];
     }
-    // Not by a macro: what these print is shown of failed tests only.
+    // The test harness would capture what `eprintln!` prints.
     let _ = writeln!(stderr(), "gcc has no C++: polar.h is tried in C alone");
     vec![C]
 }

@@ -1,16 +1,20 @@
 //! The program `receive`, held to the reference: the cases of tests/cases, the recording, random
-//! streams, long outputs, and pipes that are written and read in pieces.
+//! streams, long outputs, pipes that are written and read in pieces, and reads and writes that fail.
 
 use std::collections::BTreeSet;
-use std::fs;
+use std::fs::{self, File};
+use std::io::ErrorKind;
+use std::os::unix::process::ExitStatusExt;
+use std::process::Stdio;
 use std::thread;
 use std::time::Duration;
 
 use host::reference::receive::receive;
-use host::testing::files::repository;
+use host::reference::sizes::LONGEST_RECORD;
+use host::testing::files::{repository, text};
 use host::testing::paper::{D, V};
 use host::testing::program::{
-    at_once, in_pieces, interrupt, piecewise, run, run_without_end, whole,
+    at_once, in_pieces, interrupt, piecewise, run, run_into, run_on, run_without_end, whole,
 };
 use host::testing::random::Random;
 use host::testing::streams;
@@ -22,8 +26,11 @@ const PAUSE: Duration = Duration::from_micros(50);
 const PIPE: usize = 65_536;
 const FILLED: Duration = Duration::from_millis(20);
 
-/// The longest record.
-const LONGEST_RECORD: usize = 65_535;
+/// A shorter time, after which it mostly does.
+const MOSTLY_FILLED: Duration = Duration::from_millis(4);
+
+/// Linux's number of SIGPIPE.
+const BROKEN_PIPE: i32 = 13;
 
 /// Compares what was printed with what the reference prints, byte by byte.
 fn compare(printed: &str, input: &[u8]) {
@@ -83,6 +90,23 @@ fn recording() {
     };
     let (first, accepted, failed) = (count("ok 1 "), count("ok "), count("no 16"));
     assert_eq!((first, accepted - first, failed), (202, 42, 56));
+    check_readme(&printed);
+}
+
+/// README.md shows the first three lines and the last one of the recording's output as a block, and
+/// the line of the first frame that a later trial decodes.
+fn check_readme(printed: &str) {
+    let readme = text("README.md");
+    let lines: Vec<&str> = printed.lines().collect();
+    let [first, second, third, .., last] = lines[..] else {
+        panic!("few lines");
+    };
+    let block = [first, second, third, "..", last].map(|line| format!("    {line}\n"));
+    let block = block.concat();
+    assert!(readme.contains(&format!("\n\n{block}\n")), "{block}");
+    let is_later = |line: &&&str| line.starts_with("ok ") && !line.starts_with("ok 1 ");
+    let later = lines.iter().find(is_later).expect("a later trial");
+    assert!(readme.contains(&format!("`{later}`")), "{later}");
 }
 
 /// Whole, and again in pieces.
@@ -117,7 +141,7 @@ fn input_in_pieces_of_every_size() {
 fn long_input_in_pieces() {
     let long = streams::blank(LONGEST_RECORD, 2);
     let stream = [&D[..], &long, &streams::channel(2, &V), &long, &long].concat();
-    for piece in [4_095, 4_096, 4_097, 65_534, 65_535, 65_536, 65_537] {
+    for piece in (4_095..=4_097).chain(LONGEST_RECORD - 1..=LONGEST_RECORD + 2) {
         compare(&run(in_pieces(&stream, piece, PAUSE), whole), &stream);
     }
 }
@@ -200,16 +224,29 @@ fn the_longest_lines() {
     }
 }
 
+/// Reads the output in pieces of so many bytes, the first after some time.
+fn check_output(stream: &[u8], piece: usize, time: Duration) {
+    let printed = run(at_once(stream), |pipe, _| {
+        thread::sleep(time);
+        piecewise(pipe, piece, || ())
+    });
+    compare(&printed, stream);
+}
+
 /// The pipe is full before the first byte is read.
 #[test]
 fn output_in_pieces() {
     let stream = streams::printing(3 * PIPE + 1);
     for piece in [1, 2, 7, 100, 4_095, 4_096, 4_097, 16_384, 65_535, 65_537] {
-        let printed = run(at_once(&stream), |pipe, _| {
-            thread::sleep(FILLED);
-            piecewise(pipe, piece, || ())
-        });
-        compare(&printed, &stream);
+        check_output(&stream, piece, FILLED);
+    }
+}
+
+#[test]
+fn output_in_pieces_of_every_size() {
+    let stream = streams::printing(PIPE + 1_000);
+    for piece in 1..=300 {
+        check_output(&stream, piece, MOSTLY_FILLED);
     }
 }
 
@@ -227,4 +264,30 @@ fn interrupted_writes() {
         });
         compare(&printed, &stream);
     }
+}
+
+/// A read of a directory fails, which counts as the end of the input.
+#[test]
+fn failed_reads() {
+    let directory = File::open(repository()).expect("a directory");
+    assert_eq!(run_on(directory), "end 0\n");
+}
+
+/// Each write to /dev/full fails; the program reads on to the end of its input.
+#[test]
+fn failed_writes() {
+    let full = File::options().write(true).open("/dev/full");
+    let (status, written) = run_into(full.expect("a device"), &streams::printing(5 * PIPE));
+    assert!(status.success(), "{status}");
+    written.expect("an input that is read");
+}
+
+/// The program leaves SIGPIPE as it finds it, and a test starts it with the default: its first write
+/// to a pipe without a reader ends it.
+#[test]
+fn output_without_a_reader() {
+    let (status, written) = run_into(Stdio::piped(), &streams::printing(5 * PIPE));
+    assert_eq!(status.signal(), Some(BROKEN_PIPE), "{status}");
+    let error = written.expect_err("an input that is not read");
+    assert_eq!(error.kind(), ErrorKind::BrokenPipe);
 }

@@ -2,12 +2,12 @@
 //! agree with each other.
 
 use host::simulation::{
-    at, csv, nearest, read_csv, summary, Decoder, Row, Setting, Tally, CHECK, DECODERS, LAYERS,
+    at, csv, nearest, read_csv, summary, Decoder, Row, Setting, Tally, CHECK, DECODERS, DEPTH,
     LIMIT, POINTS, SETTINGS,
 };
 use host::testing::files::text;
 
-const STEPS_OF_A_PASS: u64 = (LAYERS as u64) << LAYERS;
+const STEPS_OF_A_PASS: u64 = (DEPTH as u64) << DEPTH;
 
 /// The rows of docs/flipping.csv.
 fn shipped() -> Vec<Row> {
@@ -75,7 +75,8 @@ fn both_flip_decoders_agree() {
     shipped().chunks(3).for_each(check_point);
 }
 
-/// The plot is drawn by hand: what it takes from the table must be there, and it must show it.
+/// gnuplot is run by hand: what its script takes from the table must be there, and the plot must
+/// show it.
 #[test]
 fn the_plot_shows_the_table() {
     let (script, plot, table) = ("flipping.gp", "flipping.svg", "flipping.csv");
@@ -97,11 +98,7 @@ fn the_plot_shows_the_table() {
         assert!(heading.contains(&column), "{column}");
         assert!(script.contains(&format!("\"{column}\"")), "{column}");
     }
-    let setting = format!(
-        "N = {}, check of {} bits, T = {LIMIT}",
-        1 << LAYERS,
-        CHECK.0
-    );
+    let setting = format!("N = {}, check of {} bits, T = {LIMIT}", 1 << DEPTH, CHECK.0);
     assert!(script.contains(&setting) && plot.contains(&setting));
     for k in SETTINGS.map(|setting| setting.k) {
         for curve in ["one pass", "full and restarted", "full", "restarted"] {

@@ -3,7 +3,7 @@
 use crate::bench::codec::Way;
 use crate::bench::process::TIMES_ONLY;
 use crate::bench::task::{Limit, Task, LIMITS};
-use crate::bench::LAYERS;
+use crate::bench::DEPTHS;
 use crate::reference::sizes::{DEEPEST, MOST_TRIALS};
 
 pub const USAGE: &str = "\
@@ -41,7 +41,7 @@ impl Choice {
         let operations = or_all(operations, &Operation::ALL.map(|(_, operation)| operation));
         let limits = or_all(limits, &LIMITS);
         Some(Choice {
-            layers: or_all(layers, &LAYERS),
+            layers: or_all(layers, &DEPTHS),
             tasks: operations
                 .into_iter()
                 .flat_map(|operation| operation.tasks(&limits))
@@ -115,7 +115,7 @@ mod tests {
     #[test]
     fn all_where_nothing_is_named() {
         let choice = read("").expect("a choice");
-        assert_eq!(choice.layers, LAYERS);
+        assert_eq!(choice.layers, DEPTHS);
         assert_eq!(choice.tasks.len(), 3 + 2 * LIMITS.len());
         assert_eq!(choice.rounds, None);
     }

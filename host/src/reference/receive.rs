@@ -91,6 +91,7 @@ fn hexadecimal(bytes: &[u8]) -> String {
 #[cfg(test)]
 mod tests {
     use super::*;
+    use crate::reference::sizes::LONGEST_RECORD;
     use crate::testing::hex::parse;
     use crate::testing::paper::{D, V};
     use crate::testing::streams::channel;
@@ -206,9 +207,10 @@ mod tests {
 
     #[test]
     fn the_longest_record() {
-        let mut long = vec![0; 65_535];
+        let mut long = vec![0; LONGEST_RECORD];
         long[..4].copy_from_slice(&[0xFF, 0xFF, 2, 0]);
-        let input = [D.to_vec(), long.clone(), long[..65_534].to_vec()];
+        let cut = long[..LONGEST_RECORD - 1].to_vec();
+        let input = [D.to_vec(), long, cut];
         prints(&input, &["code 8 3 1", "no 12", "cut", "end 2"]);
     }
 }

@@ -1,4 +1,5 @@
-//! The sizes of document 01: n lies in `LAYERS`, and the others follow from the largest n.
+//! The sizes of document 01: n lies in `LAYERS`, and the others follow from the largest n, but for
+//! the longest record.
 
 use std::ops::RangeInclusive;
 
@@ -19,3 +20,6 @@ pub const MOST_STEPS: usize = DEEPEST * LONGEST;
 
 /// The trials of one call.
 pub const MOST_TRIALS: usize = LONGEST + 1;
+
+/// The longest record: its length is told in two bytes.
+pub const LONGEST_RECORD: usize = 65_535;

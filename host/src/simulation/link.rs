@@ -4,7 +4,7 @@ use crate::reference::description::record;
 use crate::reference::packing::packed_length;
 use crate::simulation::construction::information_set;
 use crate::simulation::noise::fill_normal;
-use crate::simulation::{Decoder, Setting, CHECK, DECODERS, LAYERS, LIMIT};
+use crate::simulation::{Decoder, Setting, CHECK, DECODERS, DEPTH, LIMIT};
 use crate::testing::library;
 use crate::testing::random::Random;
 
@@ -55,10 +55,10 @@ pub struct Link {
 impl Link {
     pub fn new(setting: &Setting, decibels: f64) -> Self {
         let (r, polynomial) = CHECK;
-        let mask = information_set(LAYERS, setting.k + r, ratio(setting.k, setting.design));
+        let mask = information_set(DEPTH, setting.k + r, ratio(setting.k, setting.design));
         let ratio = ratio(setting.k, decibels);
         Link {
-            description: record(LAYERS, r, polynomial, &mask),
+            description: record(DEPTH, r, polynomial, &mask),
             k: setting.k,
             deviation: (2.0 / ratio).sqrt(),
             scale: ratio as f32,
@@ -77,10 +77,10 @@ impl Link {
 
     /// The channel values of a payload's codeword after the noise.
     fn received(&self, payload: &[u8], random: &mut Random) -> Vec<u8> {
-        let mut codeword = [0; (1 << LAYERS) / 8];
+        let mut codeword = [0; (1 << DEPTH) / 8];
         let answer = library::encode(&self.description, payload, &mut codeword);
         assert_eq!(answer, 0, "a codeword");
-        let mut noise = [0.0; 1 << LAYERS];
+        let mut noise = [0.0; 1 << DEPTH];
         fill_normal(random, &mut noise);
         let sample = |(index, noise): (usize, &f64)| {
             let bit = codeword[index / 8] >> (7 - index % 8) & 1;
@@ -119,6 +119,6 @@ impl Link {
 /// The mean of the log-likelihood ratios where zeros were sent, and the factor that makes them of
 /// samples: 2/σ² = 4 · k/N · Eb/N0, a bit of Eb being one of the payload.
 fn ratio(k: usize, decibels: f64) -> f64 {
-    let rate = k as f64 / f64::from(1 << LAYERS);
+    let rate = k as f64 / f64::from(1 << DEPTH);
     4.0 * rate * 10f64.powf(decibels / 10.0)
 }

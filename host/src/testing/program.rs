@@ -1,22 +1,49 @@
-//! Runs the program `receive` with pipes that the test reads and writes in its own way.
+//! Runs the program `receive`, mostly with pipes that the test reads and writes in its own way.
 
+use std::fs::File;
 use std::io::{ErrorKind, Read, Result, Write};
-use std::process::{Child, ChildStdin, ChildStdout, Command, Stdio};
+use std::process::{Child, ChildStdin, ChildStdout, Command, ExitStatus, Stdio};
 use std::thread;
 use std::time::{Duration, Instant};
 
 use crate::testing::files::repository;
 
-/// After this time a program reads its input, mostly; and so long it may take to end by itself.
+/// A program has mostly begun to read after this time.
 const STARTED: Duration = Duration::from_millis(2);
+
+/// How long a program may take to end by itself.
 const PATIENCE: Duration = Duration::from_secs(20);
 
-fn start() -> Child {
+/// Starts the program with these as standard input and output.
+fn start(input: impl Into<Stdio>, output: impl Into<Stdio>) -> Child {
     Command::new(repository().join("target/bin/receive"))
-        .stdin(Stdio::piped())
-        .stdout(Stdio::piped())
+        .stdin(input)
+        .stdout(output)
         .spawn()
         .expect("the program")
+}
+
+/// Waits for a program that must end by itself.
+fn wait(program: &mut Child) -> ExitStatus {
+    let start = Instant::now();
+    loop {
+        if let Some(status) = program.try_wait().expect("a status") {
+            return status;
+        }
+        if start.elapsed() > PATIENCE {
+            program.kill().expect("an end");
+            panic!("the program does not end");
+        }
+        thread::sleep(Duration::from_millis(1));
+    }
+}
+
+/// What a program has printed that ended by itself, with success.
+fn printed(mut program: Child) -> String {
+    wait(&mut program);
+    let output = program.wait_with_output().expect("an output");
+    assert!(output.status.success(), "{output:?}");
+    String::from_utf8(output.stdout).expect("text")
 }
 
 /// What the program prints. `write` gives it its input, on a thread of its own; `read` takes its
@@ -25,7 +52,7 @@ pub fn run(
     write: impl FnOnce(&mut ChildStdin) -> Result<()> + Send,
     read: impl FnOnce(&mut ChildStdout, u32) -> Result<Vec<u8>>,
 ) -> String {
-    let mut program = start();
+    let mut program = start(Stdio::piped(), Stdio::piped());
     let mut input = program.stdin.take().expect("a pipe");
     let mut output = program.stdout.take().expect("a pipe");
     let number = program.id();
@@ -91,21 +118,30 @@ pub fn piecewise(
 
 /// What the program prints for an input that does not end: it must end by itself.
 pub fn run_without_end(input: &[u8]) -> String {
-    let mut program = start();
+    let mut program = start(Stdio::piped(), Stdio::piped());
     let mut pipe = program.stdin.take().expect("a pipe");
     pipe.write_all(input).expect("room in the pipe");
-    let start = Instant::now();
-    while program.try_wait().expect("a status").is_none() {
-        if start.elapsed() > PATIENCE {
-            program.kill().expect("an end");
-            panic!("the program waits for more input");
-        }
-        thread::sleep(Duration::from_millis(1));
-    }
+    let printed = printed(program);
     drop(pipe);
-    let output = program.wait_with_output().expect("an output");
-    assert!(output.status.success(), "{output:?}");
-    String::from_utf8(output.stdout).expect("text")
+    printed
+}
+
+/// What the program prints for an input that is opened by the test.
+pub fn run_on(input: File) -> String {
+    printed(start(input, Stdio::piped()))
+}
+
+/// How the program ends whose output goes to `output`, and what came of writing its input. A pipe as
+/// `output` has no reader.
+pub fn run_into(output: impl Into<Stdio>, input: &[u8]) -> (ExitStatus, Result<()>) {
+    let mut program = start(Stdio::piped(), output);
+    let mut pipe = program.stdin.take().expect("a pipe");
+    drop(program.stdout.take());
+    thread::scope(|scope| {
+        let writing = scope.spawn(move || pipe.write_all(input));
+        let status = wait(&mut program);
+        (status, writing.join().expect("a result"))
+    })
 }
 
 extern "C" {
@@ -116,7 +152,7 @@ extern "C" {
 const CONTINUE: i32 = 18;
 const STOP: i32 = 19;
 
-/// Stops a process and lets it go on. A write of its that has to wait ends early, with fewer bytes
+/// Stops a process and lets it go on. A write that waits for room ends early, with fewer bytes
 /// written than it was given.
 pub fn interrupt(number: u32) {
     for signal in [STOP, CONTINUE] {

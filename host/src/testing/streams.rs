@@ -3,7 +3,7 @@
 
 use crate::reference::description::{describe, mask_of, record, Code};
 use crate::reference::encode::codeword;
-use crate::reference::sizes::{DEEPEST, LONGEST};
+use crate::reference::sizes::{DEEPEST, LAYERS, LONGEST, LONGEST_RECORD};
 use crate::testing::hex::parse;
 use crate::testing::paper::{D, V};
 use crate::testing::random::Random;
@@ -97,12 +97,13 @@ fn refused_frames() -> Vec<(String, Vec<u8>)> {
 
 /// Streams that end inside a record, and lengths below 4.
 fn cuts() -> Vec<(String, Vec<u8>)> {
+    let longest = blank(LONGEST_RECORD, 2);
     let mut cases = vec![
         case("cut-in-length", &[&D, &D[..1]]),
         case("cut-in-kind", &[&D, &D[..3]]),
         case("cut-after-header", &[&D, &D[..4]]),
         case("cut-in-body", &[&D, &channel(2, &V)[..13]]),
-        case("cut-in-longest", &[&D, &blank(65_535, 2)[..65_534]]),
+        case("cut-in-longest", &[&D, &longest[..LONGEST_RECORD - 1]]),
     ];
     for length in 0..4 {
         let name = format!("length-{length}");
@@ -117,14 +118,14 @@ fn accepted() -> Vec<(String, Vec<u8>)> {
     let long = samples::useful_description(&mut random, DEEPEST);
     let code = describe(&long).expect("an accepted description");
     let clear = frame(&mut random, &long, &code, 20, 1);
-    let longest = blank(65_535, 2);
+    let longest = blank(LONGEST_RECORD, 2);
     let other = ["04 00 00 00", "05 00 03 00 FF", "06 00 FF FF 01 00"].map(parse);
     let many = [D.to_vec(), channel(2, &V), other[1].clone()].concat();
     vec![
         case("empty", &[]),
         case("other-kinds", &[&other[0], &other[1], &other[2]]),
         case("longest-record", &[&D, &longest, &channel(2, &V)]),
-        case("longest-other-kind", &[&blank(65_535, 65_535)]),
+        case("longest-other-kind", &[&blank(LONGEST_RECORD, 65_535)]),
         case("largest-code", &[&long, &channel(1, &clear)]),
         case("last-description", &[&long, &D, &channel(5, &V)]),
         case("many-records", &[&many.repeat(400)]),
@@ -207,7 +208,7 @@ fn random_record(random: &mut Random, held: &[u8]) -> Vec<u8> {
     let code = describe(held).expect("an accepted description");
     match random.below(16) {
         0..4 => {
-            let n = random.between(3, 7);
+            let n = random.between(*LAYERS.start(), 7);
             samples::useful_description(random, n)
         }
         4 => {
