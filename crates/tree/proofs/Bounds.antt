@@ -1,5 +1,5 @@
--- The nodes that a pass works on: they have the values that it counts and its leaf values, and at layer s each magnitude is at most
--- 31 · 2^(n − s).
+-- The nodes that a pass works on: they have the values that it counts and its leaf values, at layer s each has 2^s values, and each
+-- magnitude there is at most 31 · 2^(n − s).
 use mathlib.Core.Path.{_≡_, refl, sym, ap, ap₂, _∙_, subst}
 use mathlib.Core.Bool.{Bool, cond}
 use mathlib.Core.Logic.{⊎-elim}
@@ -14,6 +14,7 @@ use lib.Pow.{pow-pos}
 use Rattle.laws.proofs.Indices.{lt-cases}
 use Rattle.values.specs.Values.{Rule, rightValues}
 use Rattle.values.specs.Claims.{Within}
+use Rattle.values.proofs.Lengths.{length-right}
 use Rattle.values.proofs.Bounds.{within-right, within-more}
 use Rattle.tree.specs.Node.{Out, forced, leaf, node}
 use Rattle.tree.specs.Claims.{most, worked, valuesIn, leavesIn, WorksOn}
@@ -85,30 +86,38 @@ worked-leaves (suc s) p rule v =
     worked-cases s p rule v (λ o ws. leavesIn ws ≡ o .leaves) (λ f. refl)
     (λ f. leaves-append (leftWorked s p rule v) (rightWorked s p rule v) ∙ ap₂ _++_ (worked-leaves s _ rule _) (worked-leaves s _ _ _))
 
--- the magnitudes of each
+-- each has 2^s values at layer s, within its layer's bound
 module _ (n : ℕ) where
-  abbrev Bounded : Nodes → Type 0
-  Bounded ws = (x : ℕ × List ℤ) → List·Memᴰ x ws → Within (most n (x .0)) (x .1)
+  abbrev OfLayer : ℕ × List ℤ → Type 0
+  OfLayer x = (length (x .1) ≡ 2 ^ x .0) × Within (most n (x .0)) (x .1)
 
-  bounded-first : {s : ℕ} {w : List ℤ} {ws : Nodes} → Within (most n s) w → Bounded ws → Bounded ((s, w) ∷ ws)
-  bounded-first p q x m = ⊎-elim (λ e. subst (λ (y : ℕ × List ℤ). Within (most n (y .0)) (y .1)) (sym e) p) (q x) (List·Memᴰ·cases-cons m)
+  abbrev Each : Nodes → Type 0
+  Each ws = (x : ℕ × List ℤ) → List·Memᴰ x ws → OfLayer x
 
-  worked-bounded : (s : ℕ) (p : List ℕ) (rule : ℕ → Rule) (v : List ℤ) → s ≤ n → Within (most n s) v → Bounded (worked s p rule v)
-  worked-bounded zero p rule v l w =
-      worked-leaf-cases p rule v (λ o ws. Bounded ws) (λ f x m. absurd (List·Memᴰ·not-nil m)) (λ f. bounded-first w (λ x m. absurd (List·Memᴰ·not-nil m)))
-  worked-bounded (suc s) p rule v l w =
+  each-none : Each []
+  each-none x m = absurd (List·Memᴰ·not-nil m)
+
+  each-first : {y : ℕ × List ℤ} {ws : Nodes} → OfLayer y → Each ws → Each (y ∷ ws)
+  each-first p q x m = ⊎-elim (λ e. subst OfLayer (sym e) p) (q x) (List·Memᴰ·cases-cons m)
+
+  worked-each : (s : ℕ) (p : List ℕ) (rule : ℕ → Rule) (v : List ℤ) → s ≤ n → (length p < 2 ^ s → length v ≡ 2 ^ s) → Within (most n s) v → Each (worked s p rule v)
+  worked-each zero p rule v l z w = worked-leaf-cases p rule v (λ o ws. Each ws) (λ f. each-none) (λ f. each-first (z f, w) each-none)
+  worked-each (suc s) p rule v l z w =
       let h : ℕ = 2 ^ s in
       let sums : List ℕ = left s h p rule v .sums in
       let two = most-below n s l in
-      let a = worked-bounded s (take h p) rule (leftOf h p v) (omega arith) (within-leftOf h p (within-more (omega arith) w)) in
-      let b = worked-bounded s (drop h p) (λ i. rule (h + i)) (rightValues h v sums) (omega arith) (within-more (omega arith) (within-right h sums w)) in
-      worked-cases s p rule v (λ o ws. Bounded ws) (λ f x m. absurd (List·Memᴰ·not-nil m))
-      (λ f. bounded-first w (λ x m. ⊎-elim (a x) (b x) (List·Memᴰ·append-cases (leftWorked s p rule v) m)))
+      let a = worked-each s (take h p) rule (leftOf h p v) (omega arith) (λ f. length-leftOf h p v ∙ ap (λ (t : Bool). cond t 0 h) (lt-leb h (length p) (omega (arith, length-take h p)))) (within-leftOf h p (within-more (omega arith) w)) in
+      let b = worked-each s (drop h p) (λ i. rule (h + i)) (rightValues h v sums) (omega arith) (λ f. length-right h v sums) (within-more (omega arith) (within-right h sums w)) in
+      worked-cases s p rule v (λ o ws. Each ws) (λ f. each-none)
+      (λ f. each-first (z f, w) (λ x m. ⊎-elim (a x) (b x) (List·Memᴰ·append-cases (leftWorked s p rule v) m)))
 
 -- a pass on channel values that leaves some bit to decide
-pub pass-magnitudes : (n : ℕ) (p : List ℕ) (rule : ℕ → Rule) (v : List ℤ) → length p < 2 ^ n → Within 31 v → WorksOn n v (node n p rule v) (worked n p rule v)
-pass-magnitudes n p rule v l w = record {
-  values = worked-values n p rule v (λ f. absurd (omega arith));
-  leaves = worked-leaves n p rule v;
-  bounded = worked-bounded n n p rule v (omega arith) (within-more (omega (arith, pow-pos (n - n))) w);
-}
+pub pass-magnitudes : (n : ℕ) (p : List ℕ) (rule : ℕ → Rule) (v : List ℤ) → length v ≡ 2 ^ n → length p < 2 ^ n → Within 31 v → WorksOn n v (node n p rule v) (worked n p rule v)
+pass-magnitudes n p rule v z l w =
+    let each = worked-each n n p rule v (omega arith) (λ f. z) (within-more (omega (arith, pow-pos (n - n))) w) in
+    record {
+      values = worked-values n p rule v (λ f. absurd (omega arith));
+      leaves = worked-leaves n p rule v;
+      sizes = λ x m. each x m .0;
+      bounded = λ x m. each x m .1;
+    }

@@ -34,9 +34,11 @@ leavesIn [] = []
 leavesIn ((zero, w) ∷ ws) = getD w 0 (pos 0) ∷ leavesIn ws
 leavesIn ((suc s, w) ∷ ws) = leavesIn ws
 
--- `ws` is what a pass on v, of 2^n values, works on where it gives o: beside v one value for each step, and at the leaves the leaf values. No
--- magnitude exceeds its layer's bound. `pass-magnitudes` of proofs/Bounds.antt proves it of `worked`.
+-- `ws` is what a pass on v, of 2^n values, works on where it gives o: beside v one value for each step, and at the leaves the leaf values. A
+-- node at layer s works on 2^s values, and no magnitude exceeds its layer's bound. `pass-magnitudes` of proofs/Bounds.antt proves it of
+-- `worked`.
 pub record WorksOn (n : ℕ) (v : List ℤ) (o : Out) (ws : List (ℕ × List ℤ)) : Type 0 where
   pub values : valuesIn ws ≡ length v + o .work .steps
   pub leaves : leavesIn ws ≡ o .leaves
+  pub sizes : (x : ℕ × List ℤ) → List·Memᴰ x ws → length (x .1) ≡ 2 ^ x .0
   pub bounded : (x : ℕ × List ℤ) → List·Memᴰ x ws → Within (most n (x .0)) (x .1)
