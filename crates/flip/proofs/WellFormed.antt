@@ -26,7 +26,7 @@ use Rattle.run.specs.declared.Decoded.{Decoded}
 use Rattle.run.specs.declared.Decoded.the-variants.{Refused}
 use Rattle.run.specs.Trials.{trials, Verdict, passed, failed, run, answerOf}
 use Rattle.flip.specs.Decode.{runRefusals, decodingRefusals, decodedBy, decodedWith}
-use Rattle.flip.specs.Claims.{accepts}
+use Rattle.flip.specs.Claims.{ofRun}
 use Rattle.run.specs.WellFormed.{WellFormed}
 
 module _ (plan : Plan) (c : Code) (channel output : List ℕ) where
@@ -53,9 +53,9 @@ module _ (plan : Plan) (c : Code) (channel output : List ℕ) where
       }
 
 -- a run gives no refusal before 16
-accepts-run : (mask : List ℕ) (c : Code) (output : List ℕ) (v : Verdict) → accepts (answerOf mask c output v .0) ≡ true
-accepts-run mask c output (passed trial steps bits) = refl
-accepts-run mask c output (failed made steps) = refl
+answer-of-run : (mask : List ℕ) (c : Code) (output : List ℕ) (v : Verdict) → ofRun (answerOf mask c output v .0) ≡ true
+answer-of-run mask c output (passed trial steps bits) = refl
+answer-of-run mask c output (failed made steps) = refl
 
 module _ (plan : Plan) (mask : List ℕ) (c : Code) (channel output : List ℕ) where
   abbrev verdict : Verdict
@@ -72,12 +72,12 @@ module _ (plan : Plan) (mask : List ℕ) (c : Code) (channel output : List ℕ) 
   refused-answer x h = refused-by (λ x. (Refused x, output)) (answerOf mask c output verdict) _ x h
 
   -- and where the answer is that of a run, nothing before 16 applies
-  pub answer-well-formed : (z : Decoded × List ℕ) → accepts (z .0) ≡ true → decodedBy plan mask c channel output ≡ z → WellFormed c channel (plan .limit) output × (answerOf mask c output verdict ≡ z)
+  pub answer-well-formed : (z : Decoded × List ℕ) → ofRun (z .0) ≡ true → decodedBy plan mask c channel output ≡ z → WellFormed c channel (plan .limit) output × (answerOf mask c output verdict ≡ z)
   unfolding decodedBy
   answer-well-formed z f e =
       let w = fine-well-formed plan c channel output
-      (accepted-fine (λ (y : Decoded × List ℕ). accepts (y .0)) (λ x. (Refused x, output)) (λ x. refl) (answerOf mask c output verdict) _
-      (ap (λ (y : Decoded × List ℕ). accepts (y .0)) e ∙ f)) in
+      (accepted-fine (λ (y : Decoded × List ℕ). ofRun (y .0)) (λ x. (Refused x, output)) (λ x. refl) (answerOf mask c output verdict) _
+      (ap (λ (y : Decoded × List ℕ). ofRun (y .0)) e ∙ f)) in
       (w, sym (well-formed-answer w) ∙ e)
 
 -- a decoder's answer, by what the description says
@@ -100,9 +100,9 @@ module _ (plan : Plan) (d channel output : List ℕ) where
   code-refused c x e h = decoded-by c e ∙ refused-answer plan (maskOf d) c channel output x h
 
   -- the input is well-formed exactly where nothing before 16 is the answer; `decodedFull` and `decodedRestarted` have a plan each
-  pub well-formed-exactly : WellFormedUnder d (λ c. WellFormed c channel (plan .limit) output) ↔ (accepts (decodedWith plan d channel output .0) ≡ true)
+  pub well-formed-exactly : WellFormedUnder d (λ c. WellFormed c channel (plan .limit) output) ↔ (ofRun (decodedWith plan d channel output .0) ≡ true)
   unfolding decodedWith decodedBy
   well-formed-exactly =
-      under-exactly (λ (z : Decoded × List ℕ). accepts (z .0)) (λ x. (Refused x, output)) (λ x. refl) (λ c. decodingRefusals plan c channel output)
-      (λ c. answerOf (maskOf d) c output (verdict plan (maskOf d) c channel output)) (λ c. accepts-run (maskOf d) c output (verdict plan (maskOf d) c channel output))
+      under-exactly (λ (z : Decoded × List ℕ). ofRun (z .0)) (λ x. (Refused x, output)) (λ x. refl) (λ c. decodingRefusals plan c channel output)
+      (λ c. answerOf (maskOf d) c output (verdict plan (maskOf d) c channel output)) (λ c. answer-of-run (maskOf d) c output (verdict plan (maskOf d) c channel output))
       (λ c. (well-formed-fine plan c channel output, fine-well-formed plan c channel output)) d

@@ -3,9 +3,9 @@ use mathlib.Core.Bool.{Bool, true, false}
 use Rattle.run.specs.declared.Decoded.{Decoded}
 use Rattle.run.specs.declared.Decoded.the-variants.{Accepted, Failed, Refused}
 
--- an answer that is no refusal before 16. The input of a decoder is well-formed exactly where it gives one: `well-formed-exactly` of
--- proofs/WellFormed.antt.
-abbrev pub accepts : Decoded → Bool
-accepts (Accepted trial steps) = true
-accepts (Failed made steps) = true
-accepts (Refused x) = false
+-- an answer that a run of trials gives: no refusal before 16. The input of a decoder is well-formed exactly where it gives one:
+-- `well-formed-exactly` of proofs/WellFormed.antt.
+abbrev pub ofRun : Decoded → Bool
+ofRun (Accepted trial steps) = true
+ofRun (Failed made steps) = true
+ofRun (Refused x) = false

@@ -21,7 +21,7 @@ use Rattle.run.specs.declared.Decoded.{Decoded}
 use Rattle.run.specs.declared.Decoded.the-variants.{Accepted, Failed, Refused}
 use Rattle.run.specs.Trials.{flipOrder, run}
 use Rattle.flip.specs.Decode.{decodedBy, decodedWith, decodedFull, decodedRestarted}
-use Rattle.vectors.proofs.Descriptions.{starredD, starredCode, starredV}
+use Rattle.vectors.proofs.Descriptions.{D, starredCode, starredV}
 
 -- 4, −4, 4, −4, −4, 4, −4, 4
 abbrev pub noiselessA0 : List ℕ
@@ -49,7 +49,7 @@ Rows decoded steps output =
 -- whatever byte the output held, with the order of flipped indices on V
 abbrev pub StarredDecoding : ℕ → Type 0
 StarredDecoding byte =
-    (flipOrder (maskOf (starredD 0xE8)) (starredCode 3) (channelValues (starredV 2)) ≡ 5 ∷ 3 ∷ 6 ∷ 7 ∷ []) × Rows (decodedFull (starredD 0xE8)) 48 (byte ∷ []) × Rows (decodedRestarted (starredD 0xE8)) 32 (byte ∷ [])
+    (flipOrder (maskOf D) (starredCode 3) (channelValues (starredV 2)) ≡ 5 ∷ 3 ∷ 6 ∷ 7 ∷ []) × Rows (decodedFull D) 48 (byte ∷ []) × Rows (decodedRestarted D) 32 (byte ∷ [])
 
 pub starred-decoding : (byte : ℕ) → StarredDecoding byte
 unfolding judge refusedOr table number onesBelow packed describe checkOf covers parity transformed xors taken channelValue f g leftValues rightValues firstWhere node information insert ordered run decodedBy decodedWith

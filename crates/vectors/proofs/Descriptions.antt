@@ -9,9 +9,12 @@ use Rattle.code.specs.declared.Code.{Code}
 use Rattle.code.specs.declared.Description.the-variants.{Accepted, Refused}
 use Rattle.code.specs.Description.{describe}
 
--- D of document 01, with a last byte of choice
+-- D of document 01, with a last byte of choice, `E8` in D itself
 abbrev pub starredD : ℕ → List ℕ
 starredD mask = 0x09 ∷ 0x00 ∷ 0x01 ∷ 0x00 ∷ 0x03 ∷ 0x01 ∷ 0x01 ∷ 0x00 ∷ mask ∷ []
+
+abbrev pub D : List ℕ
+D = starredD 0xE8
 
 -- V of document 01: -1, 3, 2, 2, -2, -2, 3, with a last byte of choice, 2 in V itself
 abbrev pub starredV : ℕ → List ℕ
@@ -24,7 +27,7 @@ starredCode k = record { n = 3; r = 1; polynomial = 1; k = k }
 -- D has N = 2^3 and k = 3; with `C0` k is 1; with `80` it is refused
 abbrev pub StarredDescriptions : Type 0
 StarredDescriptions =
-    (describe (starredD 0xE8) ≡ Accepted (starredCode 3)) × (describe (starredD 0xC0) ≡ Accepted (starredCode 1)) × (describe (starredD 0x80) ≡ Refused (Alone 8))
+    (describe D ≡ Accepted (starredCode 3)) × (describe (starredD 0xC0) ≡ Accepted (starredCode 1)) × (describe (starredD 0x80) ≡ Refused (Alone 8))
 
 pub starred-descriptions : StarredDescriptions
 unfolding describe judge refusedOr onesBelow

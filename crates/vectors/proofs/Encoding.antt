@@ -9,7 +9,7 @@ use Rattle.bits.specs.Bit.{number}
 use Rattle.bits.specs.Mask.{onesBelow}
 use Rattle.bits.specs.Packing.{packed, unpacked}
 use Rattle.code.specs.Description.{describe}
-use Rattle.vectors.proofs.Descriptions.{starredD}
+use Rattle.vectors.proofs.Descriptions.{D}
 use Rattle.crc.specs.Check.{checkOf}
 use Rattle.transform.specs.Transform.{covers, parity, transformed}
 use Rattle.placing.specs.Place.{placed}
@@ -19,9 +19,9 @@ use Rattle.encoder.specs.Encode.{codeword, encodedBy, encoded}
 -- under D `A0` encodes to `5A`, and `80` to `0F`; `B0` is refused and leaves the output as it was, whatever byte it held
 abbrev pub StarredEncoding : ℕ → Type 0
 StarredEncoding byte =
-    (encoded (starredD 0xE8) (0xA0 ∷ []) (byte ∷ []) ≡ (Done, 0x5A ∷ []))
-    × (encoded (starredD 0xE8) (0x80 ∷ []) (byte ∷ []) ≡ (Done, 0x0F ∷ []))
-    × (encoded (starredD 0xE8) (0xB0 ∷ []) (byte ∷ []) ≡ (Refused (Alone 10), byte ∷ []))
+    (encoded D (0xA0 ∷ []) (byte ∷ []) ≡ (Done, 0x5A ∷ []))
+    × (encoded D (0x80 ∷ []) (byte ∷ []) ≡ (Done, 0x0F ∷ []))
+    × (encoded D (0xB0 ∷ []) (byte ∷ []) ≡ (Refused (Alone 10), byte ∷ []))
 
 pub starred-encoding : (byte : ℕ) → StarredEncoding byte
 unfolding judge refusedOr table number onesBelow packed unpacked describe checkOf covers parity transformed placed codeword encodedBy encoded

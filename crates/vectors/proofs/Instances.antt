@@ -29,12 +29,9 @@ use Rattle.demands.specs.Demand3.{skippedOver, BothDecode}
 use Rattle.demands.specs.Noiseless.{Received}
 use Rattle.demands.proofs.Demand3.{demand-3}
 use Rattle.demands.proofs.NoiselessDecoding.{noiseless-decoding}
-use Rattle.vectors.proofs.Descriptions.{starredD, starredV, starredCode, starred-descriptions}
+use Rattle.vectors.proofs.Descriptions.{D, starredV, starredCode, starred-descriptions}
 use Rattle.vectors.proofs.Encoding.{starred-encoding}
 use Rattle.vectors.proofs.Decoding.{noiselessA0, starred-decoding}
-
-abbrev D : List ℕ
-D = starredD 0xE8
 
 abbrev vector : List ℕ
 vector = starredV 2
@@ -67,8 +64,8 @@ both-decode T byte byte′ least most =
     demand-3 D c vector T (byte ∷ []) (byte′ ∷ []) describes (well-formed vector refl vector-inside T byte least most) (well-formed vector refl vector-inside T byte′ least most)
 
 -- trial 1 flips nothing
-skipped-none : {qs : List ℕ} → Forall₂ (FirstAfter (maskOf D) 8) [] qs → skippedOver 3 qs ≡ 0
-skipped-none Forall₂·nil = refl
+skipped-over-none : {qs : List ℕ} → Forall₂ (FirstAfter (maskOf D) 8) [] qs → skippedOver 3 qs ≡ 0
+skipped-over-none Forall₂·nil = refl
 
 -- the first information index after 5 is 6
 after-5 : {q : ℕ} → FirstAfter (maskOf D) 8 5 q → q ≡ 6
@@ -99,7 +96,7 @@ module _ (byte byte′ : ℕ) where
       let z : _≡_ {A = ℕ} 0 1 = cc in
       absurd (omega arith))
       (λ x.
-      let none = skipped-none (subst (λ (is : List ℕ). Each is (both .qs)) (ap flipped (x .0)) (both .q-is)) in
+      let none = skipped-over-none (subst (λ (is : List ℕ). Each is (both .qs)) (ap flipped (x .0)) (both .q-is)) in
       let steps : both .restarted ≡ 24 = omega (arith, both .full-steps, both .exceeds, x .0) in
       x .2 ∙ ap₂ (λ (t s : ℕ). (Failed t s, byte′ ∷ [])) (x .0) steps)
       (both .answers)

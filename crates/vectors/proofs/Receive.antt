@@ -24,14 +24,11 @@ use Rattle.lines.specs.Line.{decimalIn}
 use Rattle.response.specs.Respond.{descriptionResponse, responded}
 use Rattle.records.specs.Stream.{recordsIn, responses, printedFrom, printed}
 use Rattle.frames.specs.Frame.{decodingLine, channelLine}
-use Rattle.vectors.proofs.Descriptions.{starredD, starredV}
+use Rattle.vectors.proofs.Descriptions.{D, starredV}
 
 -- V as a channel record, with trial limit T
 abbrev channelV : ℕ → List ℕ
 channelV T = 0x0E ∷ 0x00 ∷ 0x02 ∷ 0x00 ∷ T ∷ 0x00 ∷ starredV 2
-
-abbrev D : List ℕ
-D = starredD 0xE8
 
 -- the whole input and all that it prints
 pub example : printed (D ++ (channelV 2 ++ channelV 1)) ≡ text "code 8 3 1\nok 2 32 00\nno 16\nend 3\n"

@@ -15,7 +15,7 @@ use Rattle.channel.specs.Channel.{channelValue}
 use Rattle.tree.specs.Node.{node}
 use Rattle.resume.specs.declared.Resumed.the-variants.{Done, Refused}
 use Rattle.resume.specs.Resume.{resumedBy, resumed}
-use Rattle.vectors.proofs.Descriptions.{starredD, starredV}
+use Rattle.vectors.proofs.Descriptions.{D, starredV}
 
 -- an output of eight bytes
 abbrev output : List ℕ
@@ -24,10 +24,10 @@ output = replicate 8 0x77
 -- V with a prefix of six zeros gives eight zero bits in 8 steps; 31 is allowed at index 7, for a whole pass, and 32 or -32 there is refused
 abbrev pub StarredResume : Type 0
 StarredResume =
-    (resumed (starredD 0xE8) (starredV 2) (replicate 6 0) output ≡ (Done 8, replicate 8 0))
-    × (resumed (starredD 0xE8) (starredV 31) [] output ≡ (Done 24, 0 ∷ 0 ∷ 0 ∷ 0 ∷ 0 ∷ 1 ∷ 0 ∷ 0 ∷ []))
-    × (resumed (starredD 0xE8) (starredV 32) [] output ≡ (Refused (At 13 7), output))
-    × (resumed (starredD 0xE8) (starredV 0xE0) [] output ≡ (Refused (At 13 7), output))
+    (resumed D (starredV 2) (replicate 6 0) output ≡ (Done 8, replicate 8 0))
+    × (resumed D (starredV 31) [] output ≡ (Done 24, 0 ∷ 0 ∷ 0 ∷ 0 ∷ 0 ∷ 1 ∷ 0 ∷ 0 ∷ []))
+    × (resumed D (starredV 32) [] output ≡ (Refused (At 13 7), output))
+    × (resumed D (starredV 0xE0) [] output ≡ (Refused (At 13 7), output))
 
 pub starred-resume : StarredResume
 unfolding judge refusedOr table onesBelow describe covers parity transformed xors channelValue f g leftValues rightValues node firstWhere resumedBy resumed
