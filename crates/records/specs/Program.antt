@@ -1,5 +1,5 @@
--- Document 01, "Program `receive`": what the program does, turn by turn. No contract can speak of what is read and written, so that the lines
--- of receive/src/main.rt run like this is to be believed, and tested.
+-- Document 01, "Program `receive`": what the program does, turn by turn. No contract can speak of what is read and written: that the lines of
+-- receive/src/main.rt run like this is to be believed, and tested.
 use mathlib.Core.Path.{_≡_}
 use mathlib.Core.List.{List, [], _++_}
 use Prim.Native.Nat.{ℕ, zero, suc, _+_, _≤_, _<_}
