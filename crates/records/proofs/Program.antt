@@ -1,4 +1,4 @@
--- What the program writes: all that the input prints, in at most one turn for each byte and one more. And every input has a run.
+-- What the program writes: all that the input prints, in at most one turn for each byte and one more. And where `advance` answers, an input has a run.
 use mathlib.Core.Path.{_≡_, refl, sym, ap, _∙_, subst}
 use mathlib.Core.Bool.{Bool, cond}
 use mathlib.Core.List.{List, [], _∷_, _++_, append-assoc, append-nil}
@@ -37,7 +37,7 @@ turns-most (turn (x ∷ piece) rest some few ends size read p r) = omega (arith,
 pub run-printed : {turns : ℕ} {bytes held output input text : List ℕ} → Run AdvancePost turns starting bytes held output input text → (text ≡ printed input) × (turns ≤ length input + 1)
 run-printed r = (run-yet r, turns-most r)
 
--- ---- there is a run for every input, whatever part of the bytes that are wanted comes in a turn
+-- ---- an input has a run where `advance` answers as its contract says, by any rule of how many of the wanted bytes come in a turn
 
 -- what was there, and the piece behind it
 there-and-piece : (bytes piece : List ℕ) (at : ℕ) → at + length piece ≤ length bytes → take (at + length piece) (splice bytes at piece) ≡ take at bytes ++ piece
