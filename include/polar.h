@@ -10,15 +10,26 @@
  * refusal's first index; bits 32-63 the steps. What an answer lacks is 0. A refusal writes nothing. Where several refusals apply, the
  * answer is the first in the order in which they stand here.
  *
- * A description is a record of kind 1: length (2 bytes), kind (2 bytes), n, r, polynomial (2 bytes), mask (N/8 bytes), where N = 2^n is
- * at most 1,024; fields of 2 bytes are little-endian, and the length counts the whole record, at most 136 bytes. Bit i of the polynomial
- * is the coefficient of z^i, and z^r is understood. Bit b of byte m of the mask, b = 0 being the least bit, stands for index 8m + b: 1 for
- * an information index, 0 for a frozen one. K is the number of ones in the mask, and k = K - r the number of payload bits. Refusals 1 to 8
- * concern the description and come first:
- *   1  fewer than 8 bytes                     5  length not 8 + N/8
- *   2  length field unequal to the bytes lent 6  r outside 1..16
- *   3  kind not 1                             7  polynomial bit 0 clear, or a bit at r or above set
- *   4  n outside 3..10                        8  K less than r + 1
+ * A description is a record of kind 1 or of kind 4. Kind 1: length (2 bytes), kind (2 bytes), n, r, polynomial (2 bytes), mask (N/8
+ * bytes). Kind 4 has a start value of the check (2 bytes) between polynomial and mask; kind 1 means start 0. N = 2^n is at most 1,024;
+ * fields of 2 bytes are little-endian, and the length counts the whole record, at most 138 bytes. Bit i of the polynomial is the
+ * coefficient of z^i, and z^r is understood. Bit b of byte m of the mask, b = 0 being the least bit, stands for index 8m + b: 1 for an
+ * information index, 0 for a frozen one. K is the number of ones in the mask, and k = K - r the number of payload bits. The check is the
+ * remainder of start * z^k + payload * z^r on division by the polynomial. Refusals of the description come first, in this order:
+ *   1  fewer than 8 bytes, or fewer than 10 that say kind 4
+ *   2  length field unequal to the bytes lent
+ *   3  kind neither 1 nor 4
+ *   4  n outside 3..10
+ *   5  length not 8 + N/8, or of kind 4 not 10 + N/8
+ *   6  r outside 1..16
+ *   7  polynomial bit 0 clear, or a bit at r or above set
+ *   25 a start bit at r or above set
+ *   8  K less than r + 1
+ *
+ * Silence: with start 0, N zero values are accepted on trial 1 as a payload of zeros, so a receiver with a broken lead looks like a cab
+ * that sends zeros. With a nonzero start they fail trial 1 under every code. A later trial may still accept them: whether and when is up
+ * to the code and the start value. To know it, decode N zeros once with trial_limit K + 1: the trial that accepts them is the least limit
+ * at which silence is accepted, and refusal 16 says that none does. Choose a start and a limit below that trial.
  */
 #ifndef POLAR_H
 #define POLAR_H
@@ -28,7 +39,7 @@
 
 /* Buffers of so many bytes suffice for every code; a call gets the exact length for its code. */
 #define POLAR_LONGEST_CODE 1024       /* N channel values, or the N bits that resume writes */
-#define POLAR_LONGEST_DESCRIPTION 136 /* 8 + N/8 */
+#define POLAR_LONGEST_DESCRIPTION 138 /* 10 + N/8 */
 #define POLAR_LONGEST_CODEWORD 128    /* N/8 */
 #define POLAR_LONGEST_PAYLOAD 128     /* ceil(k/8), where k is at most N - 1 */
 
@@ -42,7 +53,7 @@ extern "C" {
 #endif
 
 /* Encodes a payload of k bits, packed highest bit first in ceil(k/8) bytes, unused low bits of the last byte zero, into the codeword of N
- * bits, packed highest bit first in N/8 bytes. Acceptance is the number 0. Refusals 1 to 8, then
+ * bits, packed highest bit first in N/8 bytes. Acceptance is the number 0. Refusals of the description, then
  *   9 payload not ceil(k/8) bytes; 10 an unused payload bit set; 11 output not N/8 bytes. */
 uint64_t polar_encode(const uint8_t *description, size_t description_len,
                       const uint8_t *payload, size_t payload_len,
@@ -50,7 +61,7 @@ uint64_t polar_encode(const uint8_t *description, size_t description_len,
 
 /* Decodes one pass whose first bits are forced to the prefix, one bit per byte, at most N, and writes all N bits, one per byte. Channel
  * values are N bytes in two's complement, -31..31, in quarter units; positive favours bit 0. Acceptance carries the steps, one for each
- * value computed. An empty prefix gives a plain pass of n * N steps. Refusals 1 to 8, then
+ * value computed. An empty prefix gives a plain pass of n * N steps. Refusals of the description, then
  *   12 channel length not N; 13 a value outside -31..31, with its first index; 17 prefix longer than N; 18 a prefix byte other than
  *   0 or 1, or a 1 at a frozen index, with its first index; 19 output not N bytes. */
 uint64_t polar_resume(const uint8_t *description, size_t description_len,
@@ -62,7 +73,7 @@ uint64_t polar_resume(const uint8_t *description, size_t description_len,
  * takes the opposite decision at one information index: that of the smallest magnitude of trial 1's leaf value first, of equal magnitudes
  * the lower index. The first trial whose check passes ends the run. trial_limit counts trial 1. The full decoder repeats each trial from
  * the root; the restarted one resumes after the flipped index and gives the same trial and payload, in fewer steps where more than one
- * trial is made. Acceptance carries the trial and the steps of all trials made. Refusals 1 to 8, 12, 13, then
+ * trial is made. Acceptance carries the trial and the steps of all trials made. Refusals of the description, 12, 13, then
  *   14 trial_limit outside 1..K + 1; 15 output not ceil(k/8) bytes; 16 all trials fail, with trial_limit and the steps made. */
 uint64_t polar_decode_full(const uint8_t *description, size_t description_len,
                            const uint8_t *channel, size_t channel_len,

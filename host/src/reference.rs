@@ -1,4 +1,5 @@
-//! Document 01, written from the paper and not from the codec. One module for each of its ideas.
+//! Document 01, and what document 02 adds to it, written from the papers and not from the codec. One
+//! module for each of their ideas.
 
 pub mod channel;
 pub mod check;

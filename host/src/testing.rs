@@ -1,13 +1,18 @@
-//! What the tests need: `library` calls the codec, `guard` lends buffers to it, `stack` measures
-//! what a call takes, `program` runs `receive`; `random` and `samples` make inputs, `streams` what
-//! `receive` reads, `paper` has those that document 01 names, and `hex` reads bytes; `files` has the
-//! repository's files, and `belief` what must be believed of the definitions.
+//! What the tests need: `library` calls the codec, `guard` lends buffers to it, `lent` does both,
+//! `decoders` holds the decoders to the reference, `stack` measures what a call takes, `program`
+//! runs `receive`; `random`, `samples` and `call` make inputs, `streams` what `receive` reads,
+//! `paper` has those that the documents name, `hex` reads bytes, and `met` counts refusals; `files`
+//! has the repository's files, and `belief` what must be believed of the definitions.
 
 pub mod belief;
+pub mod call;
+pub mod decoders;
 pub mod files;
 pub mod guard;
 pub mod hex;
+pub mod lent;
 pub mod library;
+pub mod met;
 pub mod paper;
 pub mod program;
 pub mod random;

@@ -1,20 +1,43 @@
-//! The library's reading of descriptions, held to the reference on more than 300,000 inputs.
+//! The library's reading of descriptions, held to the reference on more than 400,000 inputs, half of
+//! them of kind 4 or nearly so.
 
-use host::reference::description::{describe, record, LONGEST_DESCRIPTION};
+use host::reference::description::{
+    describe, has_start, header_length, record, with_start, Code, LONGEST_DESCRIPTION, REFUSALS,
+};
 use host::reference::sizes::{DEEPEST, LAYERS, LONGEST, LONGEST_RECORD};
-use host::testing::guard::lend_input;
+use host::testing::guard::{lend_input, lend_numbers};
 use host::testing::hex::parse;
-use host::testing::library::{self, description_number};
-use host::testing::paper::D;
+use host::testing::library;
+use host::testing::met::Met;
+use host::testing::paper::{D, D_WITH_START};
 use host::testing::random::Random;
 use host::testing::samples;
 
-/// Compares one answer in all its bits; gives the refusal's number, or 0.
+/// What the five numbers hold before a call; a refusal leaves it there.
+const BEFORE: [u64; 5] = [0xA5A5_A5A5_A5A5_A5A5; 5];
+
+/// The numbers of an accepted description.
+fn numbers(code: &Code) -> [u64; 5] {
+    [
+        code.n as u64,
+        code.r as u64,
+        code.polynomial.into(),
+        code.start.into(),
+        code.k as u64,
+    ]
+}
+
+/// Compares one answer and all its numbers; gives the refusal, or 0.
 fn check(d: &[u8]) -> usize {
-    let answer = lend_input(d, library::description);
-    let expected = describe(d);
-    assert_eq!(answer, description_number(&expected), "{d:02x?}");
-    expected.err().unwrap_or(0).into()
+    let answer = lend_input(d, |d| {
+        lend_numbers(BEFORE, |numbers| library::description(d, numbers))
+    });
+    let expected = match describe(d) {
+        Ok(code) => (0, numbers(&code)),
+        Err(refusal) => (refusal.into(), BEFORE),
+    };
+    assert_eq!(answer, expected, "{d:02x?}");
+    expected.0 as usize
 }
 
 /// Checks `d` with the bytes from `place` on replaced.
@@ -71,19 +94,138 @@ const ROWS: [(usize, &str); 28] = [
     (7, "09 00 01 00 03 01 FE FF 00"),
 ];
 
+/// The same of kind 4, and what is nearly of kind 4.
+const ROWS_OF_KIND_4: [(usize, &str); 28] = [
+    (0, "0B 00 04 00 03 01 01 00 01 00 E8"),
+    (0, "0B 00 04 00 03 01 01 00 00 00 E8"),
+    (0, "0B 00 04 00 03 01 01 00 01 00 C0"),
+    (8, "0B 00 04 00 03 01 01 00 01 00 80"),
+    (1, "0B 00 04 00 03 01 01"),
+    (1, "08 00 04 00 03 01 01 00"),
+    (1, "09 00 04 00 03 01 01 00 01"),
+    (1, "09 00 04 00 03 01 01 00 E8"),
+    (5, "0A 00 04 00 03 01 01 00 01 00"),
+    (2, "0B 00 04 00 03 01 01 00 01 00"),
+    (2, "0C 00 04 00 03 01 01 00 01 00 E8"),
+    (3, "08 00 05 00 03 01 01 00"),
+    (3, "0B 00 00 00 03 01 01 00 01 00 E8"),
+    (3, "0B 00 02 00 03 01 01 00 01 00 E8"),
+    (3, "0B 00 03 00 03 01 01 00 01 00 E8"),
+    (3, "0B 00 05 00 03 01 01 00 01 00 E8"),
+    (3, "0B 00 04 01 03 01 01 00 01 00 E8"),
+    (3, "0B 00 01 04 03 01 01 00 01 00 E8"),
+    (4, "0B 00 04 00 02 01 01 00 01 00 E8"),
+    (5, "0B 00 01 00 03 01 01 00 01 00 E8"),
+    (5, "0A 00 04 00 04 01 01 00 FF FF"),
+    (6, "0B 00 04 00 03 00 01 00 00 00 E8"),
+    (7, "0B 00 04 00 03 01 02 00 01 00 E8"),
+    (25, "0B 00 04 00 03 01 01 00 02 00 E8"),
+    (25, "0B 00 04 00 03 01 01 00 00 01 E8"),
+    (0, "0B 00 04 00 03 03 05 00 07 00 E8"),
+    (25, "0B 00 04 00 03 03 05 00 01 80 E8"),
+    (0, "0E 00 04 00 05 10 05 80 FF FF FF FF FF 0F"),
+];
+
+/// Of each kind, each refusal with the one that follows it: both apply, and the first is given.
+const NEIGHBOURS: [(usize, &str); 16] = [
+    (1, "0B 00 04 00 03 01 01 00 01"),
+    (2, "0C 00 05 00 03 01 01 00 01 00 E8"),
+    (3, "0B 00 05 00 02 01 01 00 01 00 E8"),
+    (4, "0C 00 04 00 02 01 01 00 01 00 E8 00"),
+    (5, "0B 00 04 00 04 11 01 00 01 00 E8"),
+    (6, "0B 00 04 00 03 00 00 00 00 00 E8"),
+    (7, "0B 00 04 00 03 01 00 00 02 00 E8"),
+    (7, "0B 00 04 00 03 01 03 00 02 00 E8"),
+    (25, "0B 00 04 00 03 01 01 00 02 00 80"),
+    (1, "09 00 01 00 03 01 01"),
+    (2, "0A 00 05 00 03 01 01 00 E8"),
+    (3, "09 00 05 00 02 01 01 00 E8"),
+    (4, "0A 00 01 00 02 01 01 00 E8 00"),
+    (5, "09 00 01 00 04 11 01 00 E8"),
+    (6, "09 00 01 00 03 00 00 00 E8"),
+    (7, "09 00 01 00 03 01 03 00 80"),
+];
+
 #[test]
 fn rows_of_the_paper_and_at_the_edges() {
-    for (refusal, text) in ROWS {
+    let rows = ROWS.into_iter().chain(ROWS_OF_KIND_4).chain(NEIGHBOURS);
+    for (refusal, text) in rows {
         assert_eq!(check(&parse(text)), refusal, "{text}");
+    }
+}
+
+/// Every set of faults in a description of each kind: the first in the refusals' order decides.
+#[test]
+fn every_set_of_faults() {
+    let mut random = Random::new(8);
+    for n in LAYERS {
+        for set in 0..1 << REFUSALS.len() {
+            let chosen = (0..REFUSALS.len()).filter(|place| set >> place & 1 == 1);
+            let faults: Vec<usize> = chosen.map(|place| REFUSALS[place]).collect();
+            let first = faults.first().copied().unwrap_or(0);
+            let plain = samples::description_of_kind_1(&mut random, n);
+            let start = samples::start(&mut random, plain[5].into());
+            for mut d in [with_start(&plain, start), plain] {
+                if faults.iter().all(|&fault| samples::can_break(&d, fault)) {
+                    samples::put_faults(&mut random, &mut d, &faults);
+                    assert_eq!(check(&d), first, "{faults:?} {d:02x?}");
+                }
+            }
+        }
     }
 }
 
 #[test]
 fn the_largest_n() {
-    let longest = record(DEEPEST, 11, 0x0621, &[true; LONGEST]);
+    let plain = record(DEEPEST, 11, 0x0621, &[true; LONGEST]);
+    let longest = with_start(&plain, 0x7FF);
     assert_eq!(longest.len(), LONGEST_DESCRIPTION);
     assert_eq!(check(&longest), 0);
-    assert_eq!(check_with(&D, 4, &[DEEPEST as u8 + 1]), 4);
+    assert_eq!(check(&plain), 0);
+    for d in [&D[..], &D_WITH_START] {
+        assert_eq!(check_with(d, 4, &[DEEPEST as u8 + 1]), 4);
+    }
+}
+
+/// Each bit of the start beside any lower ones, under each width.
+#[test]
+fn start_bits_below_r_and_above() {
+    let mut random = Random::new(9);
+    for n in LAYERS {
+        let size = 1 << n;
+        for r in 1..=16.min(size - 1) {
+            let polynomial = samples::polynomial(&mut random, r);
+            let d = record(n, r, polynomial, &vec![true; size]);
+            for i in 0..16 {
+                let start = 1 << i | random.below(1 << i) as u16;
+                let refusal = if i < r { 0 } else { 25 };
+                assert_eq!(check(&with_start(&d, start)), refusal);
+            }
+            assert_eq!(check(&with_start(&d, 0)), 0);
+        }
+    }
+}
+
+/// Slices that say kind 4 have 10 bytes at least, whatever their length field says.
+#[test]
+fn the_least_bytes_of_kind_4() {
+    let mut random = Random::new(10);
+    for n in LAYERS {
+        for _ in 0..50 {
+            let d = with_start(&samples::description(&mut random, n), 1);
+            for length in 4..11 {
+                for field in [length, d.len(), 8, 9, 10, random.below(65_536)] {
+                    let refusal = match length {
+                        10 if field == length => 5,
+                        10 => 2,
+                        _ => 1,
+                    };
+                    let slice = &d[..length];
+                    assert_eq!(check_with(slice, 0, &length_field(field)), refusal);
+                }
+            }
+        }
+    }
 }
 
 #[test]
@@ -130,27 +272,33 @@ fn longer_than_the_length_field_can_say() {
 
 #[test]
 fn each_field_at_its_edges() {
-    let mut met = [0; 9];
+    const KINDS: [u16; 12] = [0, 1, 2, 3, 4, 5, 255, 256, 257, 0x0104, 0x0401, 65_535];
+    let mut met = Met::default();
     for_accepted(5, 20, |random, d| {
-        for value in 0..=255 {
-            met[check_with(d, 4, &[value])] += 1;
-            met[check_with(d, 5, &[value])] += 1;
-        }
         let size = d.len();
-        for length in [0, 7, 8, size - 1, size + 1, size + 256, LONGEST_RECORD] {
-            met[check_with(d, 0, &length_field(length))] += 1;
+        let mut with = |place, bytes: &[u8]| met.count(check_with(d, place, bytes));
+        for value in 0..=255 {
+            with(4, &[value]);
+            with(5, &[value]);
         }
-        for kind in [0u16, 1, 2, 255, 256, 257, 65_535] {
-            met[check_with(d, 2, &kind.to_le_bytes())] += 1;
+        let others = [0, size - 1, size + 1, size + 256, LONGEST_RECORD];
+        for length in (7..11).chain(others) {
+            with(0, &length_field(length));
         }
-        for i in 0..16 {
-            let polynomial = u16::from_le_bytes([d[6], d[7]]) ^ 1 << i;
-            met[check_with(d, 6, &polynomial.to_le_bytes())] += 1;
+        for kind in KINDS {
+            with(2, &kind.to_le_bytes());
         }
-        met[check_with(d, 8, &vec![0; d.len() - 8])] += 1;
-        met[check(&d[..random.below(8)])] += 1;
+        let words: &[usize] = if has_start(d) { &[6, 8] } else { &[6] };
+        for &place in words {
+            for i in 0..16 {
+                let word = u16::from_le_bytes([d[place], d[place + 1]]) ^ 1 << i;
+                with(place, &word.to_le_bytes());
+            }
+        }
+        with(8, &vec![0; size - 8]);
+        met.count(check(&d[..random.below(10)]));
     });
-    assert!(met.iter().all(|&count| count > 0), "{met:?}");
+    met.are_all(&[&[0], &REFUSALS]);
 }
 
 #[test]
@@ -164,7 +312,8 @@ fn ones_around_the_check_width() {
                     let polynomial = samples::polynomial(&mut random, r);
                     let mask = samples::mask(&mut random, size, ones);
                     let refusal = if ones > r { 0 } else { 8 };
-                    assert_eq!(check(&record(n, r, polynomial, &mask)), refusal);
+                    let d = record(n, r, polynomial, &mask);
+                    assert_eq!(check(&samples::either_kind(&mut random, d)), refusal);
                 }
             }
         }
@@ -180,11 +329,14 @@ fn random_bytes() {
         check(&random.bytes(length));
 
         let n = samples::layers(&mut random);
-        let d = random.bytes(8 + (1 << n) / 8);
-        let [low, high] = length_field(d.len());
-        let header = [low, high, 1, 0, n as u8, random.byte() % 20];
-        for right in [2, 4, 5, 6] {
-            check_with(&d, 0, &header[..right]);
+        for kind in [1, 4] {
+            let header = header_length(kind.into()).expect("a description's kind");
+            let d = random.bytes(header + (1 << n) / 8);
+            let [low, high] = length_field(d.len());
+            let header = [low, high, kind, 0, n as u8, random.byte() % 20];
+            for right in [2, 4, 5, 6] {
+                check_with(&d, 0, &header[..right]);
+            }
         }
     }
 }

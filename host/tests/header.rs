@@ -63,6 +63,8 @@ encode A0: refusal 0, value 0, steps 0, 5a
 encode 80: refusal 0, value 0, steps 0, 0f
 encode B0: refusal 10, value 0, steps 0, ee
 mask 80: refusal 8, value 0, steps 0, ee
+start 1: refusal 0, value 0, steps 0, a5
+start 2: refusal 25, value 0, steps 0, ee
 right signs: refusal 0, value 0, steps 24, 00 00 00 01 00 00 01 00
 six zeros: refusal 0, value 0, steps 8, 00 00 00 00 00 00 00 00
 q = 0: refusal 0, value 0, steps 24, 00 00 00 00 00 01 00 00
@@ -84,11 +86,14 @@ V, T = 5: refusal 0, value 2, steps 48, 00
 V, T = 6: refusal 14, value 0, steps 0, ee
 zeros: refusal 0, value 1, steps 24, 00
 32: refusal 13, value 7, steps 0, ee
+start 1, zeros, T = 1: refusal 16, value 1, steps 24, ee
+start 1, zeros, T = 2: refusal 0, value 2, steps 48, 80
 ";
 
 #[test]
 fn rows_of_the_paper() {
-    let restarted = DECODED.replace("steps 48", "steps 32");
+    let restarted = DECODED.replace("steps 48, 00", "steps 32, 00");
+    let restarted = restarted.replace("steps 48, 80", "steps 35, 80");
     let expected = [ENCODED_AND_RESUMED, DECODED, &restarted].concat();
     for language in languages() {
         assert_eq!(run(language, "host/tests/c", "rows"), expected);

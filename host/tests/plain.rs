@@ -1,25 +1,32 @@
 //! The plain codecs that the benchmark compares with, held to the reference.
 
 use host::bench::others;
-use host::reference::description::{describe, is_information, mask_of};
 use host::reference::encode::encode;
 use host::reference::flip::{decode_full, decode_restarted};
 use host::reference::number::{decode_number, encode_number, quantise_numbers, resume_number};
-use host::reference::packing::{packed_length, unpack};
 use host::reference::quantise::quantise;
 use host::reference::resume::resume;
 use host::reference::sizes::LAYERS;
+use host::testing::call::Call;
 use host::testing::random::Random;
 use host::testing::samples;
 
-/// Each call on these inputs, whether they suit each other or not.
-fn check(d: &[u8], payload: &[u8], channel: &[u8], prefix: &[u8], limit: u32, room: [usize; 3]) {
+/// Each operation on these inputs, whether they suit each other or not.
+fn check(call: &Call) {
+    let Call {
+        description: d,
+        payload,
+        channel,
+        prefix,
+        limit,
+        room,
+    } = call;
     let [mut codeword, mut bits, mut full] = room.map(|length| vec![0xEE; length]);
     let mut restarted = full.clone();
     let encoded = encode_number(&encode(d, payload, &mut codeword));
     let resumed = resume_number(&resume(d, channel, prefix, &mut bits));
-    let fully = decode_number(&decode_full(d, channel, limit, &mut full));
-    let again = decode_number(&decode_restarted(d, channel, limit, &mut restarted));
+    let fully = decode_number(&decode_full(d, channel, *limit, &mut full));
+    let again = decode_number(&decode_restarted(d, channel, *limit, &mut restarted));
     for codec in others() {
         let name = codec.name;
         let [mut first, mut second, mut third] = room.map(|length| vec![0xEE; length]);
@@ -28,50 +35,41 @@ fn check(d: &[u8], payload: &[u8], channel: &[u8], prefix: &[u8], limit: u32, ro
         let answer = (codec.resume)(d, channel, prefix, &mut second);
         assert_eq!((answer, &second), (resumed, &bits), "{name}: {d:02x?}");
         let mut fourth = third.clone();
-        let answer = (codec.decode_full)(d, channel, limit, &mut third);
+        let answer = (codec.decode_full)(d, channel, *limit, &mut third);
         assert_eq!((answer, &third), (fully, &full), "{name}: {d:02x?}");
-        let answer = (codec.decode_restarted)(d, channel, limit, &mut fourth);
+        let answer = (codec.decode_restarted)(d, channel, *limit, &mut fourth);
         assert_eq!((answer, &fourth), (again, &restarted), "{name}: {d:02x?}");
     }
 }
 
-/// Codewords under noise, or any values; one input in three has a fault.
+/// Codewords under noise, or any values, and descriptions of both kinds; one input in three has a
+/// fault.
 #[test]
 fn plain_codecs_agree_with_the_reference() {
     let mut random = Random::new(1);
     for n in LAYERS {
         for round in 0..(12_000 >> n).max(60) {
-            let size = 1 << n;
-            let mut d = samples::useful_description(&mut random, n);
-            let code = describe(&d).expect("a code");
-            let mut payload = samples::payload(&mut random, code.k);
-            let mut packed = vec![0; size / 8];
-            encode(&d, &payload, &mut packed).expect("a codeword");
-            let noise = [4, 8, 12][round % 3];
-            let mut channel = samples::noisy(&mut random, &unpack(&packed, size), 12, noise);
-            let mut prefix: Vec<u8> = (0..random.between(0, size))
-                .map(|index| u8::from(is_information(mask_of(&d), index) && random.bit()))
-                .collect();
-            let mut limit = random.between(1, 13.min(code.information() + 1));
-            let mut room = [size / 8, size, packed_length(code.k)];
-            match random.below(24) {
-                0 => {
-                    let refusal = random.between(1, 8);
-                    d = samples::refused_description(&mut random, refusal);
-                }
-                1 => payload = random.bytes(payload.len()),
-                2 => payload.push(0),
-                3 => channel[random.below(size)] = random.byte(),
-                4 => channel.push(0),
-                5 => prefix.resize(size + 1, 0),
-                6 => prefix.push(random.byte() % 4),
-                7 => limit = random.below(2) * (code.information() + 2),
-                8 => room[random.below(3)] += 1,
-                _ => (),
+            let d = samples::useful_description(&mut random, n);
+            let mut call = Call::new(&mut random, d, [4, 8, 12][round % 3]);
+            call.spoil(&mut random);
+            if random.below(24) == 0 {
+                call.description = samples::any_refused_description(&mut random);
             }
-            check(&d, &payload, &channel, &prefix, limit as u32, room);
+            check(&call);
         }
     }
+}
+
+/// Each refusal of a description.
+#[test]
+fn plain_codecs_refuse_descriptions_as_the_reference() {
+    let mut random = Random::new(3);
+    let d = samples::useful_description(&mut random, 4);
+    let mut call = Call::new(&mut random, d, 4);
+    samples::for_refused_descriptions(4, 200, |_, d, _| {
+        call.description = d.to_vec();
+        check(&call);
+    });
 }
 
 /// The bits of the peak, the two numbers as in `library::quantise`, and the output, by the

@@ -12,7 +12,7 @@ use std::time::Duration;
 use host::reference::receive::receive;
 use host::reference::sizes::LONGEST_RECORD;
 use host::testing::files::{repository, text};
-use host::testing::paper::{D, V};
+use host::testing::paper::{D, D_WITH_START, V};
 use host::testing::program::{
     at_once, in_pieces, interrupt, piecewise, run, run_into, run_on, run_without_end, whole,
 };
@@ -109,6 +109,15 @@ fn check_readme(printed: &str) {
     assert!(readme.contains(&format!("`{later}`")), "{later}");
 }
 
+/// Request 2.1: silence under D with start 1 at T = 1 and T = 2, and under D.
+#[test]
+fn silence() {
+    let [once, twice] = [1, 2].map(|limit| streams::channel(limit, &[0; 8]));
+    let printed = check(&[&D_WITH_START[..], &once, &twice, &D, &once].concat());
+    let expected = "code 8 3 1\nno 16\nok 2 35 80\ncode 8 3 1\nok 1 24 00\nend 5\n";
+    assert_eq!(printed, expected);
+}
+
 /// Whole, and again in pieces.
 #[test]
 fn random_streams() {
@@ -149,7 +158,7 @@ fn long_input_in_pieces() {
 /// Lengths below 4 end the reading, 4 and 5 do not.
 #[test]
 fn records_of_the_least_lengths() {
-    for kind in [0, 1, 2, 7] {
+    for kind in [0, 1, 2, 4, 7] {
         for length in 0..=5 {
             let record = [&[length, 0, kind, 0][..], &[9]].concat();
             let record = &record[..usize::from(length.max(4))];
@@ -162,7 +171,7 @@ fn records_of_the_least_lengths() {
 
 #[test]
 fn records_of_the_largest_length() {
-    for kind in [1, 2, 7] {
+    for kind in [1, 2, 4, 7] {
         let long = streams::blank(LONGEST_RECORD, kind);
         let frame = streams::channel(2, &V);
         let printed = check(&[&D[..], &long, &frame].concat());

@@ -1,16 +1,16 @@
-//! The refusals as README.md and include/polar.h list them are those of document 01, in its order.
+//! The refusals as README.md and include/polar.h list them are those of documents 01 and 02, in their
+//! order.
 
-use std::ops::RangeInclusive;
-
+use host::reference::description::REFUSALS as DESCRIPTION;
 use host::testing::files::text;
 
-/// Words of document 01 for each refusal, from 1 on.
-const WORDS: [&str; 24] = [
-    "fewer than 8 bytes",
+/// Words of the documents for each refusal, from 1 on.
+const WORDS: [&str; 25] = [
+    "fewer than 8 bytes, or fewer than 10 that say kind 4",
     "length field",
-    "not 1",
+    "neither 1 nor 4",
     "outside 3..",
-    "not 8 + N/8",
+    "not 8 + N/8, or of kind 4 not 10 + N/8",
     "outside 1..16",
     "polynomial bit 0",
     "less than r + 1",
@@ -30,10 +30,10 @@ const WORDS: [&str; 24] = [
     "not a number",
     "is held",
     "shorter than 6 bytes",
+    "start bit at r or above",
 ];
 
-/// The refusals of a description, then those of each operation, after these, in document 01's order.
-const DESCRIPTION: RangeInclusive<usize> = 1..=8;
+/// The refusals of each operation, after those of a description, in their order.
 const ENCODE: [usize; 3] = [9, 10, 11];
 const RESUME: [usize; 5] = [12, 13, 17, 18, 19];
 const DECODERS: [usize; 5] = [12, 13, 14, 15, 16];
@@ -43,7 +43,7 @@ const RECEIVE: [usize; 2] = [23, 24];
 /// These carry the first index at fault.
 const WITH_INDEX: [usize; 3] = [13, 18, 22];
 
-/// That a text about a refusal says what document 01 says.
+/// That a text about a refusal says what its document says.
 fn check(number: usize, text: &str) {
     let words = WORDS[number - 1];
     assert!(text.contains(words), "{number}: `{text}` has no `{words}`");
@@ -80,7 +80,9 @@ fn comment(header: &str, function: &str) -> String {
 /// The refusals in a comment of the header, after those of a description; those with words are held
 /// to them.
 fn listed(comment: &str) -> Vec<usize> {
-    let (_, list) = comment.split_once("Refusals 1 to 8").expect("refusals");
+    let (_, list) = comment
+        .split_once("Refusals of the description")
+        .expect("refusals");
     let (known, others) = list.split_once("then").expect("refusals of its own");
     let known = known
         .split(',')
@@ -114,15 +116,22 @@ fn readme() {
         assert_eq!(cells[3], givers(count), "{row}");
     }
     assert_eq!(count, WORDS.len());
+    assert_eq!(DESCRIPTION, [1, 2, 3, 4, 5, 6, 7, 25, 8]);
+    assert!(text.contains("Their order is 1 to 7, then 25, then 8,"));
 }
 
+/// One on each line, in their order.
 #[test]
 fn descriptions_in_the_header() {
     let header = text("include/polar.h");
-    let (_, list) = header.split_once("come first:").expect("a list");
-    for number in DESCRIPTION {
-        let (_, after) = list.split_once(&format!(" {number}  ")).expect("a number");
-        check(number, after.lines().next().unwrap_or_default());
+    let (_, list) = header
+        .split_once("come first, in this order:\n")
+        .expect("a list");
+    let entries: Vec<&str> = list.lines().take(DESCRIPTION.len()).collect();
+    assert_eq!(entries.len(), DESCRIPTION.len());
+    for (entry, number) in entries.into_iter().zip(DESCRIPTION) {
+        let words = entry.strip_prefix(&format!(" *   {number:<3}"));
+        check(number, words.unwrap_or_else(|| panic!("{number}: {entry}")));
     }
 }
 

@@ -4,16 +4,17 @@
 use std::fs;
 use std::path::Path;
 
-use host::reference::description::LONGEST_DESCRIPTION;
+use host::reference::description::{record, LONGEST_DESCRIPTION};
 use host::reference::sizes::{DEEPEST, LAYERS, LONGEST, LONGEST_BYTES, MOST_STEPS, MOST_TRIALS};
 use host::testing::files::{repository, text};
 
-/// The largest n, the longest code, its mask, its steps and trials, and the longest description, as
-/// they could be spelt out.
+/// The largest n, the longest code, its mask, its steps and trials, and the longest description of
+/// each kind, as they could be spelt out.
 fn spellings() -> Vec<String> {
     let least = LAYERS.start();
     let sizes = [
         LONGEST_BYTES,
+        record(DEEPEST, 1, 1, &[true; LONGEST]).len(),
         LONGEST_DESCRIPTION,
         LONGEST - 1,
         LONGEST,
@@ -35,7 +36,7 @@ fn spellings() -> Vec<String> {
 }
 
 /// Lines that may say so: where their path starts, and what they have.
-const ALLOWED: [(&str, &str); 16] = [
+const ALLOWED: [(&str, &str); 19] = [
     // the one place of each language, and this test
     ("crates/arrays/src/lib.rt", ""),
     ("crates/arrays/specs/Sizes.antt", ""),
@@ -49,7 +50,11 @@ const ALLOWED: [(&str, &str); 16] = [
     ("host/src/reference/channel.rs", "128"),
     ("host/tests/", "127, 128"),
     ("host/tests/", "[2, 3, 128,"),
+    // the bytes before the mask of kind 4
+    ("crates/code/proofs/TwoKinds.antt", "≤ 10"),
+    ("crates/response/proofs/Room.antt", "≤ 10 + longestBytes"),
     // other codes and other things
+    ("crates/vectors/proofs/Published.antt", "128"),
     ("host/src/simulation.rs", "k: 128"),
     ("host/tests/simulation.rs", "nearest(&rows, 128, "),
     ("host/src/testing/stack.rs", "KIB: usize = 1024"),
@@ -156,7 +161,7 @@ fn the_largest_n_is_the_same_everywhere() {
             "host/bench/plain/code.h",
             format!("#define DEEPEST {DEEPEST}\n"),
         ),
-        ("include/polar.h", format!("n outside {least}..{DEEPEST} ")),
+        ("include/polar.h", format!("n outside {least}..{DEEPEST}\n")),
         ("include/polar.h", format!("at most {with_comma};")),
         (
             "include/polar.h",

@@ -1,7 +1,7 @@
 //! How much stack one call takes for the longest code: at most 24 KiB for encode and resume, 32 KiB
 //! for the decoders.
 
-use host::reference::description::{describe, record};
+use host::reference::description::{describe, record, with_start};
 use host::reference::packing::packed_length;
 use host::reference::sizes::{DEEPEST, LONGEST, LONGEST_BYTES};
 use host::testing::library;
@@ -20,10 +20,14 @@ fn keeps_to(limit: usize, name: &str, mut call: impl FnMut() + Send) {
     on_stack(limit + THREAD, call);
 }
 
-/// The longest codes with few, some and all information indices.
-fn descriptions() -> [Vec<u8>; 3] {
-    [17, LONGEST / 2, LONGEST]
-        .map(|ones| record(DEEPEST, 16, 0x8005, &samples::useful_mask(LONGEST, ones)))
+/// The longest codes with few, some and all information indices, in both kinds.
+fn descriptions() -> Vec<Vec<u8>> {
+    let masks = [17, LONGEST / 2, LONGEST].map(|ones| samples::useful_mask(LONGEST, ones));
+    let of = |mask: &Vec<bool>| {
+        let d = record(DEEPEST, 16, 0x8005, mask);
+        [with_start(&d, 0xFFFF), d]
+    };
+    masks.iter().flat_map(of).collect()
 }
 
 #[test]
@@ -58,8 +62,7 @@ fn resume() {
 
 #[test]
 fn decoders() {
-    type Decoder = fn(&[u8], &[u8], u32, &mut [u8]) -> u64;
-    let both: [(&str, Decoder); 2] = [
+    let both: [(&str, library::Decoder); 2] = [
         ("full", library::decode_full),
         ("restarted", library::decode_restarted),
     ];

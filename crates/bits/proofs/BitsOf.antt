@@ -1,13 +1,14 @@
 -- The bits of a number as a list, the highest first.
-use mathlib.Core.Path.{_≡_, refl, ap, ap₂, _∙_}
+use mathlib.Core.Path.{_≡_, refl, sym, ap, ap₂, _∙_}
 use mathlib.Core.List.{List, _∷_}
 use Prim.Native.Nat.{ℕ, zero, suc, _+_, _-_, _%_, _^_, _≤_, _<_}
 use native.Mathlib.Omega.{arith}
-use lib.ListN.{length, replicate}
+use lib.ListN.{length, getD, replicate}
 use Rattle.laws.specs.Table.{table}
-use Rattle.laws.proofs.Table.{table-ext}
+use Rattle.laws.proofs.Table.{getD-table, table-ext}
 use Rattle.bits.specs.Bit.{bit, bitsOf}
 use Rattle.bits.proofs.Bitwise.{bit-mod, bit-zero}
+use Rattle.bits.proofs.Number.{number-ext, number-bit}
 
 pub length-bitsOf : (w x : ℕ) → length (bitsOf w x) ≡ w
 length-bitsOf zero x = refl
@@ -34,3 +35,13 @@ bitsOf-table (suc w) x =
 
     rest : (w x j : ℕ) → j < w → bit x (suc w - (suc j + 1)) ≡ bit x (w - (j + 1))
     rest w x j l = let e : suc w - (suc j + 1) ≡ w - (j + 1) = omega arith in ap (bit x) e
+
+-- a number below 2^w is known by its w bits
+pub bitsOf-only : (w x y : ℕ) → x < 2 ^ w → y < 2 ^ w → bitsOf w x ≡ bitsOf w y → x ≡ y
+bitsOf-only w x y l k e = sym (number-bit w x l) ∙ number-ext _ _ w each ∙ number-bit w y k
+  where
+    at : (z j : ℕ) → j < w → getD (bitsOf w z) j 0 ≡ bit z (w - (j + 1))
+    at z j h = ap (λ (l : List ℕ). getD l j 0) (sym (bitsOf-table w z)) ∙ getD-table (λ i. bit z (w - (i + 1))) w j 0 h
+
+    each : (j : ℕ) → j < w → bit x (w - (j + 1)) ≡ bit y (w - (j + 1))
+    each j h = sym (at x j h) ∙ ap (λ (l : List ℕ). getD l j 0) e ∙ at y j h

@@ -11,8 +11,8 @@ use Rattle.bits.specs.Mask.{onesIn}
 use Rattle.bits.proofs.Mask.{ones-le}
 use Rattle.code.specs.declared.Code.{Code}
 use Rattle.code.specs.declared.Description.the-variants.{Accepted, Refused}
-use Rattle.code.specs.Description.{word, maskOf, codeOf, describe}
-use Rattle.code.specs.Claims.{WellFormed, accepts, Described}
+use Rattle.code.specs.Description.{word, maskAt, maskOf, startOf, codeOf, describe}
+use Rattle.code.specs.Claims.{Laid, WellFormed, accepts, Described}
 use Rattle.code.proofs.WellFormed.{well-formed-fine, well-formed-exactly}
 
 -- eight indices to a byte
@@ -21,6 +21,10 @@ eight-bytes n h =
     let e : n ≡ 3 + (n - 3) = omega arith in
     let p : 2 ^ n ≡ 8 * 2 ^ (n - 3) = ap (λ (k : ℕ). 2 ^ k) e ∙ pow-add 2 3 (n - 3) in
     omega arith
+
+-- the mask has a bit for each index
+pub mask-size : {d : List ℕ} → Laid d → 8 * length (maskOf d) ≡ 2 ^ getD d 4 0
+mask-size {d} w = omega (arith, length-drop (maskAt (word d 2)) d, eight-bytes (getD d 4 0) (w .n-least), w .size)
 
 module _ (d : List ℕ) (c : Code) (e : describe d ≡ Accepted c) where
   well-formed : WellFormed d
@@ -39,14 +43,17 @@ module _ (d : List ℕ) (c : Code) (e : describe d ≡ Accepted c) where
       let en : getD d 4 0 ≡ c .n = ap (λ (x : Code). x .n) code-is in
       let er : getD d 5 0 ≡ c .r = ap (λ (x : Code). x .r) code-is in
       let ep : word d 6 ≡ c .polynomial = ap (λ (x : Code). x .polynomial) code-is in
+      let es : startOf d ≡ c .start = ap (λ (x : Code). x .start) code-is in
       let ek : onesIn (maskOf d) - getD d 5 0 ≡ c .k = ap (λ (x : Code). x .k) code-is in
-      let size : 8 * length (maskOf d) ≡ 2 ^ getD d 4 0 = omega (arith, length-drop 8 d, eight-bytes (getD d 4 0) (w .n-least), w .size) in
+      let l = w .laid in
+      let size = mask-size l in
       record {
         coded = record {
-          n-least = omega arith;
-          n-most = omega arith;
+          n-least = omega (arith, l .n-least);
+          n-most = omega (arith, l .n-most);
           r-least = omega arith;
           r-most = omega arith;
+          start-fits = subst₂ (λ (x y : ℕ). x < 2 ^ y) es er (w .start-fits);
           mask-size = size ∙ ap (λ (x : ℕ). 2 ^ x) en;
           k-least = omega arith;
           K-is = omega arith;
@@ -54,5 +61,5 @@ module _ (d : List ℕ) (c : Code) (e : describe d ≡ Accepted c) where
         };
         polynomial-odd = ap (λ (x : ℕ). bit x 0) (sym ep) ∙ w .polynomial-odd;
         polynomial-fits = subst₂ (λ (x y : ℕ). x < 2 ^ y) ep er (w .polynomial-fits);
-        header = w .header;
+        header = l .header;
       }

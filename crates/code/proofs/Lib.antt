@@ -1,3 +1,4 @@
 pub mod WellFormed
 pub mod Facts
 pub mod Operations
+pub mod TwoKinds

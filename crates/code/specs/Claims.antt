@@ -1,9 +1,13 @@
 -- Which descriptions are accepted, and what an accepted one says, the facts that encoder and decoders build on.
 use mathlib.Core.Path.{_≡_}
 use mathlib.Core.Bool.{Bool, true, false}
-use mathlib.Core.List.{List}
-use Prim.Native.Nat.{ℕ, _+_, _*_, _/_, _^_, _≤_, _<_}
-use lib.ListN.{length, getD}
+use mathlib.Core.List.{List, [], _∷_, _++_}
+use Prim.Native.Nat.{ℕ, _+_, _-_, _*_, _/_, _%_, _^_, _≤_, _<_}
+use lib.Dec.{ltb}
+use lib.ListN.{length, getD, take, drop}
+use Rattle.refusal.specs.declared.Refusal.{Refusal}
+use Rattle.refusal.specs.declared.Refusal.the-variants.{Alone}
+use Rattle.refusal.specs.Judge.{differs, outside, judge, refusedOr}
 use Rattle.arrays.specs.Sizes.{deepest}
 use Rattle.bits.specs.Bit.{bit}
 use Rattle.bits.specs.Mask.{onesIn}
@@ -11,21 +15,26 @@ use Rattle.code.specs.declared.Code.{Code}
 use Rattle.code.specs.Code.{codeLength, informationCount}
 use Rattle.code.specs.declared.Description.{Description}
 use Rattle.code.specs.declared.Description.the-variants.{Accepted, Refused}
-use Rattle.code.specs.Description.{word, maskOf, describe}
+use Rattle.code.specs.Description.{word, isDescription, maskAt, maskOf, startOf, isWide, badPolynomial, describe}
 
--- document 01, "Code description": refusals 1 to 8 in turn do not apply. `well-formed-exactly` of proofs/WellFormed.antt: a description is
--- accepted exactly there.
-pub record WellFormed (d : List ℕ) : Type 0 where
-  pub header : 8 ≤ length d
+-- the layout of a description's bytes: refusals 1 to 5 in turn do not apply
+pub record Laid (d : List ℕ) : Type 0 where
+  pub header : maskAt (word d 2) ≤ length d
   pub length-field : word d 0 ≡ length d
-  pub kind-field : word d 2 ≡ 1
+  pub kind-field : isDescription (word d 2) ≡ true
   pub n-least : 3 ≤ getD d 4 0
   pub n-most : getD d 4 0 ≤ deepest
-  pub size : length d ≡ 8 + 2 ^ getD d 4 0 / 8
+  pub size : length d ≡ maskAt (word d 2) + 2 ^ getD d 4 0 / 8
+
+-- document 01, "Code description", with document 02, request 2.1: refusals 1 to 7, 25 and 8 in turn do not apply. `well-formed-exactly` of
+-- proofs/WellFormed.antt: a description is accepted exactly there.
+pub record WellFormed (d : List ℕ) : Type 0 where
+  pub laid : Laid d
   pub r-least : 1 ≤ getD d 5 0
   pub r-most : getD d 5 0 ≤ 16
   pub polynomial-odd : bit (word d 6) 0 ≡ 1
   pub polynomial-fits : word d 6 < 2 ^ getD d 5 0
+  pub start-fits : startOf d < 2 ^ getD d 5 0
   pub K-least : getD d 5 0 + 1 ≤ onesIn (maskOf d)
 
 abbrev pub accepts : Description → Bool
@@ -45,6 +54,7 @@ pub record Coded (mask : List ℕ) (c : Code) : Type 0 where
   pub n-most : c .n ≤ deepest
   pub r-least : 1 ≤ c .r
   pub r-most : c .r ≤ 16
+  pub start-fits : c .start < 2 ^ c .r
   pub mask-size : 8 * length mask ≡ codeLength c
   pub k-least : 1 ≤ c .k
   pub K-is : onesIn mask ≡ informationCount c
@@ -55,4 +65,41 @@ pub record Described (d : List ℕ) (c : Code) : Type 0 where
   pub coded : Coded (maskOf d) c
   pub polynomial-odd : bit (c .polynomial) 0 ≡ 1
   pub polynomial-fits : c .polynomial < 2 ^ c .r
-  pub header : 8 ≤ length d
+  pub header : maskAt (word d 2) ≤ length d
+
+-- ---- kinds 1 and 4 apart: proofs/TwoKinds.antt
+
+-- Document 01 by itself knows kind 1: refusals 1 to 8, and the mask from byte 8 on.
+abbrev pub kind1Refusals : List ℕ → List (Bool × Refusal)
+kind1Refusals d =
+    let n = getD d 4 0 in
+    let r = getD d 5 0 in
+    (ltb (length d) 8, Alone 1)
+    ∷ (differs (word d 0) (length d), Alone 2)
+    ∷ (differs (word d 2) 1, Alone 3)
+    ∷ (outside n 3 deepest, Alone 4)
+    ∷ (differs (length d) (8 + 2 ^ n / 8), Alone 5)
+    ∷ (outside r 1 16, Alone 6)
+    ∷ (badPolynomial (word d 6) r, Alone 7)
+    ∷ (ltb (onesIn (drop 8 d)) (r + 1), Alone 8)
+    ∷ []
+
+-- its code, with a start value
+abbrev pub kind1Code : ℕ → List ℕ → Code
+kind1Code start d = record { n = getD d 4 0; r = getD d 5 0; polynomial = word d 6; start = start; k = onesIn (drop 8 d) - getD d 5 0 }
+
+-- Its answer, whose start is 0. `kind-1`: the answer to every slice that does not say kind 4.
+abbrev pub describeKind1 : List ℕ → Description
+describeKind1 d = refusedOr (judge (kind1Refusals d)) Refused (Accepted (kind1Code 0 d))
+
+-- the record of kind 4 with the fields and the mask of the record d of kind 1, and a start value
+abbrev pub withStart : ℕ → List ℕ → List ℕ
+withStart start d =
+    let size = word d 0 + 2 in
+    size % 256 ∷ size / 256 ∷ 4 ∷ 0 ∷ getD d 4 0 ∷ getD d 5 0 ∷ getD d 6 0 ∷ getD d 7 0 ∷ start % 256 ∷ start / 256 ∷ drop 8 d
+
+-- Its answer: refusal 25 stands between 7 and 8, and the code has the start. `kind-4`; `start-0`: with start 0 it is the answer to d.
+abbrev pub describeKind4 : ℕ → List ℕ → Description
+describeKind4 start d =
+    refusedOr (judge (take 7 (kind1Refusals d) ++ ((isWide start (getD d 5 0), Alone 25) ∷ drop 7 (kind1Refusals d)))) Refused
+    (Accepted (kind1Code start d))

@@ -1,4 +1,4 @@
--- Document 01, "Code description": the numbers of a code. Its n, r, polynomial and k are fields of `Code`.
+-- Document 01, "Code description", and document 02, request 2.1: the numbers of a code. Its n, r, polynomial, start and k are fields of `Code`.
 use mathlib.Core.List.{List}
 use Prim.Native.Nat.{ℕ, _+_, _^_}
 use Rattle.bits.specs.Bit.{bitsOf}
@@ -18,4 +18,4 @@ divisor c = bitsOf (c .r) (c .polynomial)
 
 -- the r coefficients with which the check starts
 abbrev pub startBits : Code → List ℕ
-startBits c = bitsOf (c .r) 0
+startBits c = bitsOf (c .r) (c .start)

@@ -1,5 +1,6 @@
--- Document 01, "Code description": what the bytes of a record of kind 1 describe, and refusals 1 to 8 in order.
-use mathlib.Core.Bool.{Bool, _||_}
+-- Document 01, "Code description", and document 02, request 2.1: what the bytes of a record of kind 1 or 4 describe, and refusals 1 to 7, 25
+-- and 8 in order.
+use mathlib.Core.Bool.{Bool, not, _||_, cond}
 use mathlib.Core.List.{List, [], _∷_}
 use Prim.Native.Nat.{ℕ, _+_, _-_, _*_, _/_, _^_}
 use lib.Dec.{ltb, eqb}
@@ -18,17 +19,34 @@ use Rattle.code.specs.declared.Description.the-variants.{Accepted, Refus
 abbrev pub word : List ℕ → ℕ → ℕ
 word d i = getD d i 0 + 256 * getD d (i + 1) 0
 
--- where the mask stands in a description of a kind; fewer bytes are refusal 1
+-- kind 4 has kind 1's fields and a start value of the check
+abbrev pub hasStart : ℕ → Bool
+hasStart kind = eqb kind 4
+
+-- a record of kind 1 or 4 is a description
+abbrev pub isDescription : ℕ → Bool
+isDescription kind = eqb kind 1 || hasStart kind
+
+-- where the mask stands in a description of a kind; fewer bytes are refusal 1. Past the end of a slice `word` reads zeros: too few bytes to
+-- say a kind are fewer than 8.
 abbrev pub maskAt : ℕ → ℕ
-maskAt kind = 8
+maskAt kind = cond (hasStart kind) 10 8
 
 -- the mask: the bytes from there on
 abbrev pub maskOf : List ℕ → List ℕ
 maskOf d = drop (maskAt (word d 2)) d
 
+-- the start value: bytes 8 and 9 of kind 4, and 0 for kind 1
+abbrev pub startOf : List ℕ → ℕ
+startOf d = cond (hasStart (word d 2)) (word d 8) 0
+
+-- a bit at r or above is set
+abbrev pub isWide : ℕ → ℕ → Bool
+isWide x r = differs (x / 2 ^ r) 0
+
 -- bit 0 is clear, or a bit at r or above is set
 abbrev pub badPolynomial : ℕ → ℕ → Bool
-badPolynomial p r = eqb (bit p 0) 0 || differs (p / 2 ^ r) 0
+badPolynomial p r = eqb (bit p 0) 0 || isWide p r
 
 -- the refusals in order, each test beside its refusal
 abbrev pub descriptionRefusals : List ℕ → List (Bool × Refusal)
@@ -38,23 +56,24 @@ descriptionRefusals d =
     let r = getD d 5 0 in
     (ltb (length d) (maskAt kind), Alone 1)
     ∷ (differs (word d 0) (length d), Alone 2)
-    ∷ (differs kind 1, Alone 3)
+    ∷ (not (isDescription kind), Alone 3)
     ∷ (outside n 3 deepest, Alone 4)
     ∷ (differs (length d) (maskAt kind + 2 ^ n / 8), Alone 5)
     ∷ (outside r 1 16, Alone 6)
     ∷ (badPolynomial (word d 6) r, Alone 7)
+    ∷ (isWide (startOf d) r, Alone 25)
     ∷ (ltb (onesIn (maskOf d)) (r + 1), Alone 8)
     ∷ []
 
--- n, r, polynomial and k, which is K - r
+-- n, r, polynomial, start and k, which is K - r
 abbrev pub codeOf : List ℕ → Code
-codeOf d = record { n = getD d 4 0; r = getD d 5 0; polynomial = word d 6; k = onesIn (maskOf d) - getD d 5 0 }
+codeOf d = record { n = getD d 4 0; r = getD d 5 0; polynomial = word d 6; start = startOf d; k = onesIn (maskOf d) - getD d 5 0 }
 
 -- the answer
 unfoldable pub describe : List ℕ → Description
 describe d = refusedOr (judge (descriptionRefusals d)) Refused (Accepted (codeOf d))
 
--- Operations that take a description apply refusals 1 to 8 first: `refuse` is their answer to a refusal, `go` what they do with a code.
+-- Operations that take a description apply its refusals first: `refuse` is their answer to a refusal, `go` what they do with a code.
 abbrev pub onDescription : {X : Type 0} → Description → (Refusal → X) → (Code → X) → X
 onDescription (Accepted c) refuse go = go c
 onDescription (Refused x) refuse go = refuse x

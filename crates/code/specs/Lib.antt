@@ -1,3 +1,4 @@
 pub mod Code
 pub mod Description
 pub mod Claims
+pub mod Contracts

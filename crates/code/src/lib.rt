@@ -1,18 +1,23 @@
-// Code descriptions: records of kind 1.
+// Code descriptions: records of kinds 1 and 4.
 use arrays::BYTES;
 use arrays::DEEPEST;
+use refusal::Judgement;
 use refusal::Refusal;
 ghost use mathlib.Core.Path.{_≡_};
 ghost use Prim.Native.Nat.{_+_, _<_, _≤_};
-ghost use lib.ListN.{length};
-ghost use Rattle.refusal.specs.Judge.{outside};
-ghost use Rattle.code.specs.Description.{word, maskOf, badPolynomial, describe};
+ghost use lib.Dec.{ltb};
+ghost use lib.ListN.{length, take, drop};
+ghost use Rattle.refusal.specs.Judge.{outside, judge};
+ghost use Rattle.code.specs.Description.{word, hasStart, isDescription, maskAt, maskOf, startOf, isWide, badPolynomial, descriptionRefusals, describe};
+ghost use Rattle.code.specs.Claims.{Laid};
+ghost use Rattle.code.specs.Contracts.{pastFields};
 
-// A code of length 2^n with r check bits and k payload bits.
+// A code of length 2^n with r check bits and k payload bits. The check is by a polynomial and from a start value.
 pub struct Code {
     pub n: u32,
     pub r: u32,
     pub polynomial: u32,
+    pub start: u32,
     pub k: usize,
 }
 
@@ -22,11 +27,13 @@ pub enum Description {
     Refused(Refusal),
 }
 
-// Where the mask stands in a description.
+// Where the mask stands in a description of kind 1, and in one with a start value.
 const MASK_AT: usize = 8;
 
+const MASK_AFTER_START: usize = 10;
+
 // The longest description: its fixed fields and its mask.
-pub const LONGEST: usize = MASK_AT + BYTES;
+pub const LONGEST: usize = MASK_AFTER_START + BYTES;
 
 // The little-endian number at bytes i and i + 1.
 pub fn read_word(d: &[u8], i: usize) -> u32
@@ -36,12 +43,48 @@ pub fn read_word(d: &[u8], i: usize) -> u32
     d[i] as u32 + 256 * (d[i + 1] as u32)
 }
 
+// Whether descriptions of a kind have a start value.
+fn has_start(kind: u32) -> bool
+    ensures { λ b. ⌜ b ≡ hasStart kind ⌝ }
+{
+    kind == 4
+}
+
+// Whether records of a kind are descriptions.
+pub fn is_description(kind: u32) -> bool
+    ensures { λ b. ⌜ b ≡ isDescription kind ⌝ }
+{
+    kind == 1 || has_start(kind)
+}
+
+// Where the mask stands in a description of a kind.
+fn mask_at(kind: u32) -> usize
+    ensures { λ at. ⌜ at ≡ maskAt kind ⌝ }
+{
+    if has_start(kind) {
+        return MASK_AFTER_START;
+    }
+    MASK_AT
+}
+
 // The mask of a description: its bytes after the fixed fields.
 pub fn mask_of(d: &[u8]) -> &[u8]
-    requires { do ⌜ (← ⟦MASK_AT⟧) ≤ length (now d) ⌝ }
+    requires { ⌜ maskAt (word (now d) 2) ≤ length (now d) ⌝ }
     ensures { λ m. ⌜ now m ≡ maskOf (now (d .entry)) ⌝ }
 {
-    &d[MASK_AT..]
+    let at = mask_at(read_word(d, 2));
+    &d[at..]
+}
+
+// The start value of a description, 0 where its kind has none.
+fn start_of(d: &[u8]) -> u32
+    requires { ⌜ maskAt (word (now d) 2) ≤ length (now d) ⌝ }
+    ensures { λ s. ⌜ s ≡ startOf (now (d .entry)) ⌝ }
+{
+    if has_start(read_word(d, 2)) {
+        return read_word(d, 8);
+    }
+    0
 }
 
 fn is_outside(x: u32, least: u32, most: u32) -> bool
@@ -50,50 +93,99 @@ fn is_outside(x: u32, least: u32, most: u32) -> bool
     x < least || most < x
 }
 
+// Whether a bit at r or above is set.
+fn is_wide(x: u32, r: u32) -> bool
+    requires { ⌜ r < 32 ⌝ }
+    ensures { λ b. ⌜ b ≡ isWide x r ⌝ }
+{
+    x >> r != 0
+}
+
 // Whether bit 0 is clear, or a bit at r or above is set.
 fn is_bad_polynomial(p: u32, r: u32) -> bool
     requires { ⌜ r < 32 ⌝ }
     ensures { λ b. ⌜ b ≡ badPolynomial p r ⌝ }
 {
-    p & 1 == 0 || p >> r != 0
+    p & 1 == 0 || is_wide(p, r)
 }
 
-// Reads a description: refusals 1 to 8 in order, then its code.
-pub fn read_description(d: &[u8]) -> Description
-    ensures { λ a. ⌜ a ≡ describe (now (d .entry)) ⌝ }
+// Whether the fields of the kind that the bytes say do not fit.
+fn is_short(d: &[u8]) -> bool
+    ensures { λ b. ⌜ b ≡ ltb (length (now (d .entry))) (maskAt (word (now (d .entry)) 2)) ⌝ }
 {
-    if d.len() < MASK_AT {
-        return Description::Refused(Refusal::Alone(1));
+    d.len() < MASK_AT || d.len() < mask_at(read_word(d, 2))
+}
+
+// Refusals 1 to 5, of sizes and kind.
+fn judge_layout(d: &[u8]) -> Judgement
+    ensures { λ j. ⌜ j ≡ judge (take 5 (descriptionRefusals (now (d .entry)))) ⌝ }
+{
+    if is_short(d) {
+        return Judgement::Refused(Refusal::Alone(1));
     }
     if read_word(d, 0) as usize != d.len() {
-        return Description::Refused(Refusal::Alone(2));
+        return Judgement::Refused(Refusal::Alone(2));
     }
-    if read_word(d, 2) != 1 {
-        return Description::Refused(Refusal::Alone(3));
+    let kind = read_word(d, 2);
+    if !is_description(kind) {
+        return Judgement::Refused(Refusal::Alone(3));
     }
     let n = d[4] as u32;
     if is_outside(n, 3, DEEPEST) {
-        return Description::Refused(Refusal::Alone(4));
+        return Judgement::Refused(Refusal::Alone(4));
     }
-    if d.len() != MASK_AT + (1usize << n) / 8 {
-        return Description::Refused(Refusal::Alone(5));
+    if d.len() != mask_at(kind) + (1usize << n) / 8 {
+        return Judgement::Refused(Refusal::Alone(5));
     }
+    Judgement::Fine
+}
+
+// Refusals 6, 7 and 25, of the check's fields.
+fn judge_check(d: &[u8]) -> Judgement
+    requires { ⌜ maskAt (word (now d) 2) ≤ length (now d) ⌝ }
+    ensures { λ j. ⌜ j ≡ judge (take 3 (drop 5 (descriptionRefusals (now (d .entry))))) ⌝ }
+{
     let r = d[5] as u32;
     if is_outside(r, 1, 16) {
-        return Description::Refused(Refusal::Alone(6));
+        return Judgement::Refused(Refusal::Alone(6));
     }
-    let polynomial = read_word(d, 6);
-    if is_bad_polynomial(polynomial, r) {
-        return Description::Refused(Refusal::Alone(7));
+    if is_bad_polynomial(read_word(d, 6), r) {
+        return Judgement::Refused(Refusal::Alone(7));
     }
+    if is_wide(start_of(d), r) {
+        return Judgement::Refused(Refusal::Alone(25));
+    }
+    Judgement::Fine
+}
+
+// Past the refusals of all fields: refusal 8, or the code.
+fn read_code(d: &[u8]) -> Description
+    requires { ⌜ Laid (now d) ⌝ }
+    ensures { λ a. ⌜ a ≡ pastFields (now (d .entry)) ⌝ }
+{
+    let r = d[5] as usize;
     let count = bits::ones(mask_of(d));
-    if count < r as usize + 1 {
+    if count < r + 1 {
         return Description::Refused(Refusal::Alone(8));
     }
     Description::Accepted(Code {
-        n,
-        r,
-        polynomial,
-        k: count - r as usize,
+        n: d[4] as u32,
+        r: d[5] as u32,
+        polynomial: read_word(d, 6),
+        start: start_of(d),
+        k: count - r,
     })
+}
+
+// Reads a description: its refusals in order, then its code.
+pub fn read_description(d: &[u8]) -> Description
+    ensures { λ a. ⌜ a ≡ describe (now (d .entry)) ⌝ }
+{
+    match judge_layout(d) {
+        Judgement::Fine => match judge_check(d) {
+            Judgement::Fine => read_code(d),
+            Judgement::Refused(x) => Description::Refused(x),
+        },
+        Judgement::Refused(x) => Description::Refused(x),
+    }
 }

@@ -3,4 +3,5 @@ pub mod Division
 pub mod Register
 pub mod Words
 pub mod Message
-pub mod Published
+pub mod Starts
+pub mod CheckValues

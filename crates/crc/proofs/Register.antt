@@ -19,13 +19,13 @@ abbrev pub run : List ℕ → List ℕ → List ℕ → List ℕ
 run t g [] = g
 run t g (b ∷ bs) = run t (step t g b) bs
 
-length-step : (t g : List ℕ) (b : ℕ) → length g ≡ length t → length (step t g b) ≡ length t
+pub length-step : (t g : List ℕ) (b : ℕ) → length g ≡ length t → length (step t g b) ≡ length t
 length-step t [] b h = h
 length-step t (a ∷ g) b h =
     let k = length-raised g 1 in
     length-add (scale ((a + b) % 2) t) (raised g 1) (omega (arith, length-scale ((a + b) % 2) t)) ∙ omega arith
 
-bits-step : (t g : List ℕ) (b : ℕ) → Bits g → Bits (step t g b)
+pub bits-step : (t g : List ℕ) (b : ℕ) → Bits g → Bits (step t g b)
 bits-step t [] b d = d
 bits-step t (a ∷ g) b d = bits-add (scale ((a + b) % 2) t) (raised g 1) (bits-raised g 1 (bits-tail d))
 

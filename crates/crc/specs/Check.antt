@@ -1,5 +1,5 @@
--- The check of document 01, "Check and encoder". Bit i of the polynomial field is the coefficient of z^i for i < r, and z^r is understood:
--- the divisor is z^r + t, where t is `bitsOf r poly`.
+-- The check of document 01, "Check and encoder", with the start value of document 02, request 2.1. Bit i of the polynomial field is the
+-- coefficient of z^i for i < r, and z^r is understood: the divisor is z^r + t, where t is `bitsOf r poly`.
 use mathlib.Core.Bool.{Bool, true, false, _&&_}
 use mathlib.Core.List.{List, [], _∷_}
 use Prim.Native.Nat.{ℕ}

@@ -14,7 +14,7 @@ use Rattle.encoder.specs.Encode.{messageOf}
 
 module _ (c : Code) (payload : List ℕ) where
   same-width : length (startBits c) ≡ length (divisor c)
-  same-width = length-bitsOf (c .r) 0 ∙ sym (length-bitsOf (c .r) (c .polynomial))
+  same-width = length-bitsOf (c .r) (c .start) ∙ sym (length-bitsOf (c .r) (c .polynomial))
 
   pub length-message : length (messageOf c payload) ≡ length payload + c .r
   length-message =

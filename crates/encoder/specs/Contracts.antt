@@ -1,7 +1,7 @@
 -- What only contracts below the public operations cite. Nothing here need be believed.
 use mathlib.Core.Path.{_≡_}
 use mathlib.Core.List.{List}
-use Prim.Native.Nat.{ℕ, _*_, _≤_}
+use Prim.Native.Nat.{ℕ, _*_, _^_, _≤_, _<_}
 use lib.ListN.{length}
 use Rattle.arrays.specs.Sizes.{deepest}
 use Rattle.bits.specs.Claims.{Bits}
@@ -14,6 +14,7 @@ use Rattle.encoder.specs.Claims.{WellFormed}
 pub record MessagePre (c : Code) (payload message : List ℕ) : Type 0 where
   pub r-least : 1 ≤ c .r
   pub r-most : c .r ≤ 16
+  pub start-fits : c .start < 2 ^ c .r
   pub payload-size : c .k ≤ 8 * length payload
   pub message-size : length message ≡ informationCount c
 

@@ -1,4 +1,4 @@
--- Document 01, "Check and encoder": encode, with refusals 1 to 8, 9, 10 and 11 in order.
+-- Document 01, "Check and encoder": encode, with the refusals of a description, 9, 10 and 11 in order.
 use mathlib.Core.Bool.{Bool}
 use mathlib.Core.List.{List, [], _∷_, _++_}
 use Prim.Native.Nat.{ℕ, _/_}
@@ -37,7 +37,7 @@ unfoldable pub encodedBy : List ℕ → Code → List ℕ → List ℕ → Encod
 encodedBy mask c payload output =
     refusedOr (judge (encodingRefusals c payload output)) (λ x. (Refused x, output)) (Done, codeword mask c payload)
 
--- the same for a description: refusals 1 to 8 first
+-- the same for a description: its refusals first
 unfoldable pub encoded : List ℕ → List ℕ → List ℕ → Encoded × List ℕ
 encoded d payload output =
     onDescription (describe d) (λ x. (Refused x, output)) (λ c. encodedBy (maskOf d) c payload output)

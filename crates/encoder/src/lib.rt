@@ -28,7 +28,7 @@ fn message_of(code: Code, payload: &[u8], message: &mut [u8])
 {
     let k = code.k;
     bits::unpack(payload, &mut message[..k]);
-    crc::append_check(message, k, code.r, code.polynomial, 0);
+    crc::append_check(message, k, code.r, code.polynomial, code.start);
 }
 
 // The codeword of a message: placed by the mask, then transformed.

@@ -85,7 +85,7 @@ module _ (plan : Plan) (d channel output : List ℕ) where
   abbrev by : Description → Decoded × List ℕ
   by x = onDescription x (λ y. (Refused y, output)) (λ c. decodedBy plan (maskOf d) c channel output)
 
-  -- refusals 1 to 8
+  -- the refusals of a description
   pub description-refused : (x : Refusal) → describe d ≡ NoCode x → decodedWith plan d channel output ≡ (Refused x, output)
   unfolding decodedWith
   description-refused x e = ap by e

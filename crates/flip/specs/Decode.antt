@@ -1,4 +1,4 @@
--- Document 01, "Flip decoding, full and restarted": both decoders, with refusals 1 to 8, 12, 13, 14, 15 and 16 in order.
+-- Document 01, "Flip decoding, full and restarted": both decoders, with the refusals of a description, 12, 13, 14, 15 and 16 in order.
 use mathlib.Core.Bool.{Bool}
 use mathlib.Core.List.{List, [], _∷_, _++_}
 use Prim.Native.Nat.{ℕ, _+_}
@@ -36,7 +36,7 @@ decodedBy plan mask c channel output =
     refusedOr (judge (decodingRefusals plan c channel output)) (λ x. (Refused x, output))
     (answerOf mask c output (run (trialPasses mask c) 0 0 (trials plan mask c (channelValues channel))))
 
--- the same for a description: refusals 1 to 8 first
+-- the same for a description: its refusals first
 unfoldable pub decodedWith : Plan → List ℕ → List ℕ → List ℕ → Decoded × List ℕ
 decodedWith plan d channel output =
     onDescription (describe d) (λ x. (Refused x, output)) (λ c. decodedBy plan (maskOf d) c channel output)

@@ -1,5 +1,5 @@
 -- What the exports for tests promise. Nothing here need be believed.
-use Prim.Native.Nat.{ℕ, _+_, _*_, _^_}
+use Prim.Native.Nat.{ℕ, _*_}
 use mathlib.Core.Bool.{Bool, true, _&&_, cond}
 use mathlib.Core.List.{List, [], _∷_}
 use lib.Dec.{ltb, eqb}
@@ -21,10 +21,10 @@ abbrev pub indexOf : Refusal → ℕ
 indexOf (Alone i) = 0
 indexOf (At i index) = index
 
--- bits 0-7 the refusal or 0, 8-15 n, 16-23 r, 24-39 the polynomial, 40-63 k
-abbrev pub descriptionNumber : Description → ℕ
-descriptionNumber (Accepted c) = c .n * 2 ^ 8 + c .r * 2 ^ 16 + c .polynomial * 2 ^ 24 + c .k * 2 ^ 40
-descriptionNumber (Refused x) = numberOf x
+-- 0 with n, r, polynomial, start and k in the numbers, in this order; or the refusal with the numbers as they were
+abbrev pub descriptionNumbers : Description → List ℕ → ℕ × List ℕ
+descriptionNumbers (Accepted c) numbers = (0, set (set (set (set (set numbers 0 (c .n)) 1 (c .r)) 2 (c .polynomial)) 3 (c .start)) 4 (c .k))
+descriptionNumbers (Refused x) numbers = (numberOf x, numbers)
 
 -- whether each number is 0 or 1
 abbrev pub allBits : List ℕ → Bool

@@ -7,7 +7,7 @@ ghost use mathlib.Core.Path.{_≡_};
 ghost use Rattle.refusal.specs.Judge.{numberOf};
 ghost use Rattle.code.specs.Description.{describe};
 ghost use Rattle.quantiser.specs.Quantise.{quantised};
-ghost use Rattle.probe.specs.Contracts.{indexOf, descriptionNumber, allBits, packing, unpacking, bitAt, onesAnswer, probeAnswerBy};
+ghost use Rattle.probe.specs.Contracts.{indexOf, descriptionNumbers, allBits, packing, unpacking, bitAt, onesAnswer, probeAnswerBy};
 
 // A refusal's number.
 fn refusal_number(x: Refusal) -> u64
@@ -26,16 +26,19 @@ fn refusal_index(x: Refusal) -> u64
     }
 }
 
+// The refusal or 0 comes back; numbers hold n, r, polynomial, start and k of an accepted description.
 #[no_mangle]
-pub extern "C" fn probe_description(d: &[u8]) -> u64
-    ensures { λ x. ⌜ x ≡ descriptionNumber (describe (now (d .entry))) ⌝ }
+pub extern "C" fn probe_description(d: &[u8], numbers: &mut [u64; 5]) -> u64
+    ensures { λ x. ⌜ (x, now (numbers .exit)) ≡ descriptionNumbers (describe (now (d .entry))) (now (numbers .entry)) ⌝ }
 {
     match code::read_description(d) {
         Description::Accepted(code) => {
-            code.n as u64 * 0x100
-                + code.r as u64 * 0x1_0000
-                + code.polynomial as u64 * 0x100_0000
-                + code.k as u64 * 0x100_0000_0000
+            numbers[0] = code.n as u64;
+            numbers[1] = code.r as u64;
+            numbers[2] = code.polynomial as u64;
+            numbers[3] = code.start as u64;
+            numbers[4] = code.k as u64;
+            0
         }
         Description::Refused(x) => refusal_number(x),
     }

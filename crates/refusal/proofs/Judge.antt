@@ -95,6 +95,11 @@ module _ (xs ys : List (Bool × Refusal)) where
       go Fine h f = (h, f)
       go (Refused x) h f = let z : _≡_ {A = ℕ} 0 1 = cc in absurd (omega arith)
 
+-- a test between them that does not hold
+pub judge-without : (xs ys : List (Bool × Refusal)) (t : Bool) (x : Refusal) → t ≡ false → judge (xs ++ ((t, x) ∷ ys)) ≡ judge (xs ++ ys)
+judge-without xs ys t x e =
+    judge-append xs ((t, x) ∷ ys) ∙ ap (refusedOr (judge xs) Refused) (judge-no t x ys e) ∙ sym (judge-append xs ys)
+
 -- what holds of each refusal that a list of tests can give: a test is reached only where those before it fail
 module _ (P : Refusal → Type 0) where
   abbrev pub Reached : List (Bool × Refusal) → Type 0

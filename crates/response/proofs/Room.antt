@@ -6,7 +6,9 @@ use lib.ListN.{length, length-drop}
 use Rattle.arrays.specs.Claims.{longestBytes}
 use Rattle.arrays.proofs.Sizes.{mask-fits}
 use Rattle.code.specs.declared.Code.{Code}
+use Rattle.code.specs.Description.{word, maskAt}
 use Rattle.code.specs.Claims.{Described}
+use Rattle.code.proofs.TwoKinds.{mask-at-most}
 
-pub description-most : {d : List ℕ} {c : Code} → Described d c → length d ≤ 8 + longestBytes
-description-most {d} f = omega (arith, f .header, length-drop 8 d, mask-fits (f .coded .n-most) (f .coded .mask-size))
+pub description-most : {d : List ℕ} {c : Code} → Described d c → length d ≤ 10 + longestBytes
+description-most {d} f = omega (arith, f .header, mask-at-most (word d 2), length-drop (maskAt (word d 2)) d, mask-fits (f .coded .n-most) (f .coded .mask-size))

@@ -1,4 +1,4 @@
--- Document 01, "Program `receive`": what one record does, from the held description and the record's bytes. Nothing held is the empty
+-- Document 01, "Program `receive`", and document 02, request 2.1: what one record does, from the held description and the record's bytes. Nothing held is the empty
 -- list: no accepted description is empty.
 use mathlib.Core.Bool.{cond}
 use mathlib.Core.List.{List}
@@ -6,7 +6,7 @@ use Prim.Native.Nat.{ℕ}
 use lib.Dec.{eqb}
 use Rattle.refusal.specs.Judge.{numberOf}
 use Rattle.code.specs.Code.{codeLength}
-use Rattle.code.specs.Description.{word, describe, onDescription}
+use Rattle.code.specs.Description.{word, isDescription, describe, onDescription}
 use Rattle.lines.specs.Line.{codeLine, noLine, skipLine}
 use Rattle.frames.specs.Frame.{channelLine}
 
@@ -19,4 +19,4 @@ descriptionResponse held bytes =
 unfoldable pub responded : List ℕ → List ℕ → List ℕ × List ℕ
 responded held bytes =
     let kind = word bytes 2 in
-    cond (eqb kind 1) (descriptionResponse held bytes) (cond (eqb kind 2) (channelLine held bytes, held) (skipLine kind, held))
+    cond (isDescription kind) (descriptionResponse held bytes) (cond (eqb kind 2) (channelLine held bytes, held) (skipLine kind, held))

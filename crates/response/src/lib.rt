@@ -57,7 +57,7 @@ pub fn respond(held: &mut [u8], size: usize, bytes: &[u8], line: &mut [u8]) -> R
     ensures { λ a. ⌜ RespondPost (responded (take size (now (held .entry))) (now (bytes .entry))) (now (line .exit)) (now (held .exit)) a ⌝ }
 {
     let kind = read_header(bytes).kind;
-    if kind == 1 {
+    if code::is_description(kind) {
         return respond_description(held, size, bytes, line);
     }
     if kind == 2 {

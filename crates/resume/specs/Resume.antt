@@ -48,7 +48,7 @@ resumedBy mask c channel prefix output =
     let o = resumePass mask c channel prefix in
     refusedOr (judge (resumingRefusals mask c channel prefix output)) (λ x. (Refused x, output)) (Done (o .work .steps), o .bits)
 
--- refusals 1 to 8 first
+-- the same for a description: its refusals first
 unfoldable pub resumed : List ℕ → List ℕ → List ℕ → List ℕ → Resumed × List ℕ
 resumed d channel prefix output =
     onDescription (describe d) (λ x. (Refused x, output)) (λ c. resumedBy (maskOf d) c channel prefix output)

@@ -177,5 +177,11 @@ pub fn trial_passes(mask: &[u8], code: Code, bits: &BitArray, message: &mut [u8]
 {
     placing::take_out(mask, bits, message);
     let size = code.k + code.r as usize;
-    crc::passes(&message[..size], code.k, code.r, code.polynomial, 0)
+    crc::passes(
+        &message[..size],
+        code.k,
+        code.r,
+        code.polynomial,
+        code.start,
+    )
 }

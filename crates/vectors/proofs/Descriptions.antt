@@ -20,9 +20,9 @@ D = starredD 0xE8
 abbrev pub starredV : ℕ → List ℕ
 starredV last = 0xFF ∷ 0x03 ∷ 0x02 ∷ 0x02 ∷ 0xFE ∷ 0xFE ∷ 0x03 ∷ last ∷ []
 
--- n = 3, r = 1, and the polynomial z + 1
+-- n = 3, r = 1, the polynomial z + 1, and start 0
 abbrev pub starredCode : ℕ → Code
-starredCode k = record { n = 3; r = 1; polynomial = 1; k = k }
+starredCode k = record { n = 3; r = 1; polynomial = 1; start = 0; k = k }
 
 -- D has N = 2^3 and k = 3; with `C0` k is 1; with `80` it is refused
 abbrev pub StarredDescriptions : Type 0

@@ -2,6 +2,8 @@ pub mod Descriptions
 pub mod Decoding
 pub mod Encoding
 pub mod Receive
+pub mod Kind4
+pub mod Published
 pub mod Resume
 pub mod Instances
 pub mod Starred

@@ -1,6 +1,6 @@
 -- The starred rows of document 01, "Vectors at the edges", as one theorem.
 use Prim.Native.Nat.{ℕ}
-use Rattle.crc.proofs.Published.{StarredCheck, lone-one}
+use Rattle.crc.proofs.CheckValues.{StarredCheck, lone-one}
 use Rattle.tree.proofs.Steps.{StarredSkipped, skipped-starred}
 use Rattle.vectors.proofs.Descriptions.{StarredDescriptions, starred-descriptions}
 use Rattle.vectors.proofs.Encoding.{StarredEncoding, starred-encoding}

@@ -13,7 +13,7 @@ static size_t first_outside(const int8_t *channel, size_t len)
     return i;
 }
 
-/* Reads what resume and the decoders are lent; gives the answer of refusals 1 to 8, 12 and 13, or 0. */
+/* Reads what resume and the decoders are lent; gives the answer of the description's refusals, 12 and 13, or 0. */
 static uint64_t read_call(const uint8_t *description, size_t description_len, const int8_t *channel, size_t channel_len, struct code *code)
 {
     unsigned refusal = read_description(description, description_len, code);

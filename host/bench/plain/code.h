@@ -10,10 +10,13 @@
 
 enum { SIZE = 1 << DEEPEST, HEADER = 8 };
 
+/* The kinds of descriptions; the second has a start, two bytes, before its mask. */
+enum { WITHOUT_START = 1, WITH_START = 4 };
+
 /* What a description says. */
 struct code {
     unsigned n, r;
-    uint32_t polynomial;
+    uint32_t polynomial, start;
     size_t size, k;
     const uint8_t *mask;
 };
@@ -51,15 +54,19 @@ static unsigned read_description(const uint8_t *d, size_t len, struct code *code
 {
     if (len < HEADER)
         return 1;
+    unsigned kind = word(d + 2);
+    size_t header = kind == WITH_START ? HEADER + 2 : HEADER;
+    if (len < header)
+        return 1;
     if (word(d) != len)
         return 2;
-    if (word(d + 2) != 1)
+    if (kind != WITHOUT_START && kind != WITH_START)
         return 3;
     code->n = d[4];
     if (code->n < 3 || code->n > DEEPEST)
         return 4;
     code->size = (size_t)1 << code->n;
-    if (len != HEADER + code->size / 8)
+    if (len != header + code->size / 8)
         return 5;
     code->r = d[5];
     if (code->r < 1 || code->r > 16)
@@ -67,7 +74,10 @@ static unsigned read_description(const uint8_t *d, size_t len, struct code *code
     code->polynomial = word(d + 6);
     if (!(code->polynomial & 1) || code->polynomial >> code->r)
         return 7;
-    code->mask = d + HEADER;
+    code->start = kind == WITH_START ? word(d + HEADER) : 0;
+    if (code->start >> code->r)
+        return 25;
+    code->mask = d + header;
     size_t ones = count_ones(code->mask, code->size / 8);
     if (ones < code->r + 1)
         return 8;

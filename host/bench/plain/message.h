@@ -22,7 +22,7 @@ static void pack(const uint8_t *bits, size_t count, uint8_t *bytes)
 /* The check of k payload bits, as a number of r bits. */
 static uint32_t check(const struct code *code, const uint8_t *payload)
 {
-    uint32_t rest = 0;
+    uint32_t rest = code->start;
     for (size_t i = 0; i < code->k; i++) {
         uint32_t out = (rest >> (code->r - 1) ^ payload[i]) & 1;
         rest = rest << 1 ^ (-out & code->polynomial);

@@ -3,14 +3,19 @@
 use crate::answer::refuse_if;
 use crate::DEEPEST;
 
-/// Bytes of a description before its mask.
+/// Bytes of a description before its mask, or before its start.
 const HEADER: usize = 8;
+
+/// The kinds of descriptions; the second has a start, two bytes, before its mask.
+const WITHOUT_START: u16 = 1;
+const WITH_START: u16 = 4;
 
 /// What a description says.
 pub struct Code<'a> {
     pub size: usize,
     pub r: u32,
     pub polynomial: u32,
+    pub start: u32,
     pub k: usize,
     pub mask: &'a [u8],
 }
@@ -18,23 +23,31 @@ pub struct Code<'a> {
 impl<'a> Code<'a> {
     pub fn read(d: &'a [u8]) -> Result<Self, u64> {
         refuse_if(d.len() < HEADER, 1)?;
+        let kind = word(d, 2);
+        let has_start = kind == WITH_START;
+        let header = if has_start { HEADER + 2 } else { HEADER };
+        refuse_if(d.len() < header, 1)?;
         refuse_if(usize::from(word(d, 0)) != d.len(), 2)?;
-        refuse_if(word(d, 2) != 1, 3)?;
+        refuse_if(kind != WITHOUT_START && !has_start, 3)?;
         let n = d[4];
         refuse_if(!(3..=DEEPEST).contains(&n), 4)?;
         let size = 1 << n;
-        refuse_if(d.len() != HEADER + size / 8, 5)?;
+        refuse_if(d.len() != header + size / 8, 5)?;
         let r = u32::from(d[5]);
         refuse_if(!(1..=16).contains(&r), 6)?;
         let polynomial = u32::from(word(d, 6));
         refuse_if(polynomial & 1 == 0 || polynomial >> r != 0, 7)?;
-        let mask = &d[HEADER..];
+        let start = if has_start { word(d, HEADER) } else { 0 };
+        let start = u32::from(start);
+        refuse_if(start >> r != 0, 25)?;
+        let mask = &d[header..];
         let ones: u32 = mask.iter().map(|byte| byte.count_ones()).sum();
         refuse_if(ones < r + 1, 8)?;
         Ok(Code {
             size,
             r,
             polynomial,
+            start,
             k: (ones - r) as usize,
             mask,
         })

@@ -22,7 +22,7 @@ pub fn pack(bits: &[u8], bytes: &mut [u8]) {
 
 /// The check of payload bits, as a number of r bits.
 fn check(code: &Code, payload: &[u8]) -> u32 {
-    let mut rest = 0u32;
+    let mut rest = code.start;
     for bit in payload {
         let out = (rest >> (code.r - 1) ^ u32::from(*bit)) & 1;
         rest = rest << 1 ^ (out.wrapping_neg() & code.polynomial);

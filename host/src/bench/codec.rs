@@ -1,10 +1,9 @@
 //! The codecs that are compared.
 
-use crate::testing::library::{self, call};
+use crate::testing::library::{self, call, Decoder};
 
 type Encode = fn(&[u8], &[u8], &mut [u8]) -> u64;
 type Resume = fn(&[u8], &[u8], &[u8], &mut [u8]) -> u64;
-pub type Decode = fn(&[u8], &[u8], u32, &mut [u8]) -> u64;
 type Quantise = fn(f32, &[f32], &mut [u8], &mut [u64; 2]) -> f32;
 
 /// A codec with the calls and answers of `library`.
@@ -12,8 +11,8 @@ pub struct Codec {
     pub name: &'static str,
     pub encode: Encode,
     pub resume: Resume,
-    pub decode_full: Decode,
-    pub decode_restarted: Decode,
+    pub decode_full: Decoder,
+    pub decode_restarted: Decoder,
     pub quantise: Quantise,
 }
 
@@ -25,7 +24,7 @@ pub enum Way {
 }
 
 impl Codec {
-    pub fn decoder(&self, way: Way) -> Decode {
+    pub fn decoder(&self, way: Way) -> Decoder {
         match way {
             Way::Full => self.decode_full,
             Way::Restarted => self.decode_restarted,

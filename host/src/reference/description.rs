@@ -1,14 +1,15 @@
-//! Code descriptions: document 01, "Code description".
+//! Code descriptions: document 01, "Code description", and document 02, request 2.1.
 
 use crate::reference::sizes::{LAYERS, LONGEST_BYTES};
 
-/// What an accepted description says: n, the check width r, the check polynomial, and the payload
-/// size k in bits.
+/// What an accepted description says: n, the check width r, the check polynomial, the start of the
+/// check, and the payload size k in bits.
 #[derive(Clone, Copy, Debug, PartialEq, Eq)]
 pub struct Code {
     pub n: usize,
     pub r: usize,
     pub polynomial: u16,
+    pub start: u16,
     pub k: usize,
 }
 
@@ -27,40 +28,51 @@ impl Code {
 /// A code, or the number of the refusal.
 pub type Description = Result<Code, u8>;
 
-/// Bytes before the mask.
+/// The refusals of a description, in the order in which they apply.
+pub const REFUSALS: [usize; 9] = [1, 2, 3, 4, 5, 6, 7, 25, 8];
+
+/// The kinds of descriptions: document 01's, which means start 0, and request 2.1's, which says its
+/// start.
+const WITHOUT_START: u16 = 1;
+const WITH_START: u16 = 4;
+
+/// Bytes before the mask of each kind.
 const HEADER: usize = 8;
+const HEADER_WITH_START: usize = 10;
 
 /// The bytes of the longest description.
-pub const LONGEST_DESCRIPTION: usize = HEADER + LONGEST_BYTES;
+pub const LONGEST_DESCRIPTION: usize = HEADER_WITH_START + LONGEST_BYTES;
 
-/// Reads a description; the refusals stand in the paper's order.
+/// Bytes before the mask of a description of this kind; nothing where no description has it.
+pub fn header_length(kind: u16) -> Option<usize> {
+    match kind {
+        WITHOUT_START => Some(HEADER),
+        WITH_START => Some(HEADER_WITH_START),
+        _ => None,
+    }
+}
+
+/// Reads a description; the refusals stand in the order of `REFUSALS`.
 pub fn describe(bytes: &[u8]) -> Description {
-    if bytes.len() < HEADER {
+    if is_too_short(bytes) {
         return Err(1);
     }
-    let length = usize::from(little_endian(bytes[0], bytes[1]));
+    let length = usize::from(word(bytes, 0));
     if length != bytes.len() {
         return Err(2);
     }
-    if little_endian(bytes[2], bytes[3]) != 1 {
+    let Some(header) = header_length(kind_of(bytes)) else {
         return Err(3);
-    }
+    };
     let n = usize::from(bytes[4]);
     if !LAYERS.contains(&n) {
         return Err(4);
     }
     let size = 1 << n;
-    if length != HEADER + size / 8 {
+    if length != header + size / 8 {
         return Err(5);
     }
-    let r = usize::from(bytes[5]);
-    if !(1..=16).contains(&r) {
-        return Err(6);
-    }
-    let polynomial = little_endian(bytes[6], bytes[7]);
-    if !has_term(polynomial, 0) || (r..16).any(|i| has_term(polynomial, i)) {
-        return Err(7);
-    }
+    let (r, polynomial, start) = read_check(bytes)?;
     let information = count_information(mask_of(bytes));
     if information < r + 1 {
         return Err(8);
@@ -69,13 +81,55 @@ pub fn describe(bytes: &[u8]) -> Description {
         n,
         r,
         polynomial,
+        start,
         k: information - r,
     })
 }
 
-/// The mask: the bytes from 8 on.
+/// Fewer than 8 bytes, or fewer than 10 where bytes 2 and 3 say kind 4.
+fn is_too_short(bytes: &[u8]) -> bool {
+    bytes.len() < HEADER || has_start(bytes) && bytes.len() < HEADER_WITH_START
+}
+
+/// The check's width, polynomial and start, or their refusal.
+fn read_check(bytes: &[u8]) -> Result<(usize, u16, u16), u8> {
+    let r = usize::from(bytes[5]);
+    if !(1..=16).contains(&r) {
+        return Err(6);
+    }
+    let polynomial = word(bytes, 6);
+    if !has_term(polynomial, 0) || has_term_from(polynomial, r) {
+        return Err(7);
+    }
+    let start = start_of(bytes);
+    if has_term_from(start, r) {
+        return Err(25);
+    }
+    Ok((r, polynomial, start))
+}
+
+/// Bytes 2 and 3.
+fn kind_of(description: &[u8]) -> u16 {
+    word(description, 2)
+}
+
+/// Whether bytes 2 and 3 say kind 4.
+pub fn has_start(description: &[u8]) -> bool {
+    kind_of(description) == WITH_START
+}
+
+/// Bytes 8 and 9 of kind 4; kind 1 means 0.
+fn start_of(description: &[u8]) -> u16 {
+    match has_start(description) {
+        true => word(description, 8),
+        false => 0,
+    }
+}
+
+/// The mask: the bytes from 8 on, or from 10 on where the kind is 4.
 pub fn mask_of(description: &[u8]) -> &[u8] {
-    &description[HEADER..]
+    let header = header_length(kind_of(description));
+    &description[header.expect("a description's kind")..]
 }
 
 /// Bit b of byte m, b = 0 being the least bit, stands for index 8m + b; one marks an information
@@ -98,18 +152,38 @@ pub fn count_information(mask: &[u8]) -> usize {
         .count()
 }
 
-/// The record of a code; `mask` says of each of the N indices whether it is an information index.
+/// The record of a code, of kind 1; `mask` says of each of the N indices whether it is an
+/// information index.
 pub fn record(n: usize, r: usize, polynomial: u16, mask: &[bool]) -> Vec<u8> {
     assert_eq!(mask.len(), 1 << n, "one mask bit for each index");
-    let length = (HEADER + mask.len() / 8) as u16;
-    let kind = 1u16;
-    let mut bytes = Vec::with_capacity(usize::from(length));
-    bytes.extend(length.to_le_bytes());
-    bytes.extend(kind.to_le_bytes());
-    bytes.extend([n as u8, r as u8]);
-    bytes.extend(polynomial.to_le_bytes());
-    bytes.extend(mask.chunks(8).map(mask_byte));
-    bytes
+    let mask: Vec<u8> = mask.chunks(8).map(mask_byte).collect();
+    laid_out(WITHOUT_START, [n as u8, r as u8], &[polynomial], &mask)
+}
+
+/// The same of kind 4.
+pub fn record_with_start(
+    n: usize,
+    r: usize,
+    polynomial: u16,
+    start: u16,
+    mask: &[bool],
+) -> Vec<u8> {
+    with_start(&record(n, r, polynomial, mask), start)
+}
+
+/// The record of kind 4 that has this start, and all else from a description of either kind.
+pub fn with_start(description: &[u8], start: u16) -> Vec<u8> {
+    let sizes = [description[4], description[5]];
+    let words = [word(description, 6), start];
+    laid_out(WITH_START, sizes, &words, mask_of(description))
+}
+
+/// A record of a kind: its length, the kind, n and r, the words that follow them, the mask.
+fn laid_out(kind: u16, sizes: [u8; 2], words: &[u16], mask: &[u8]) -> Vec<u8> {
+    let words: Vec<u8> = words.iter().flat_map(|word| word.to_le_bytes()).collect();
+    let body = [&kind.to_le_bytes()[..], &sizes, &words, mask].concat();
+    let length = 2 + body.len() as u16;
+    [&length.to_le_bytes()[..], &body].concat()
 }
 
 fn mask_byte(ones: &[bool]) -> u8 {
@@ -119,8 +193,9 @@ fn mask_byte(ones: &[bool]) -> u8 {
         .sum()
 }
 
-fn little_endian(low: u8, high: u8) -> u16 {
-    u16::from(low) + 256 * u16::from(high)
+/// Two bytes from `place` on, little-endian.
+fn word(bytes: &[u8], place: usize) -> u16 {
+    u16::from(bytes[place]) + 256 * u16::from(bytes[place + 1])
 }
 
 /// Whether the coefficient of z^i is one.
@@ -128,31 +203,40 @@ pub fn has_term(polynomial: u16, i: usize) -> bool {
     polynomial >> i & 1 == 1
 }
 
+/// Whether a coefficient at z^r or above is one.
+fn has_term_from(polynomial: u16, r: usize) -> bool {
+    (r..16).any(|i| has_term(polynomial, i))
+}
+
 #[cfg(test)]
 mod tests {
     use super::*;
     use crate::reference::sizes::DEEPEST;
     use crate::testing::hex::parse;
-
-    const D: &str = "09 00 01 00 03 01 01 00 E8";
+    use crate::testing::paper::{D, D_WITH_START};
 
     fn refused(bytes: &[u8], number: u8) {
         assert_eq!(describe(bytes), Err(number), "{bytes:02x?}");
     }
 
-    fn accepted(bytes: &[u8], n: usize, r: usize, polynomial: u16, k: usize) {
-        let code = Code {
-            n,
-            r,
-            polynomial,
-            k,
-        };
+    fn accepted(bytes: &[u8], code: Code) {
         assert_eq!(describe(bytes), Ok(code), "{bytes:02x?}");
     }
 
-    /// D with the bytes from `place` on replaced.
-    fn with(place: usize, bytes: &[u8]) -> Vec<u8> {
-        let mut d = parse(D);
+    /// A code whose check starts at 0.
+    fn code(n: usize, r: usize, polynomial: u16, k: usize) -> Code {
+        Code {
+            n,
+            r,
+            polynomial,
+            start: 0,
+            k,
+        }
+    }
+
+    /// A description with the bytes from `place` on replaced.
+    fn with(d: &[u8], place: usize, bytes: &[u8]) -> Vec<u8> {
+        let mut d = d.to_vec();
         d[place..place + bytes.len()].copy_from_slice(bytes);
         d
     }
@@ -164,10 +248,28 @@ mod tests {
 
     #[test]
     fn rows_of_the_paper() {
-        accepted(&parse(D), 3, 1, 1, 3);
-        assert_eq!(count_information(&parse(D)[8..]), 4);
-        accepted(&with(8, &[0xC0]), 3, 1, 1, 1);
-        refused(&with(8, &[0x80]), 8);
+        accepted(&D, code(3, 1, 1, 3));
+        assert_eq!(count_information(&D[8..]), 4);
+        accepted(&with(&D, 8, &[0xC0]), code(3, 1, 1, 1));
+        refused(&with(&D, 8, &[0x80]), 8);
+    }
+
+    #[test]
+    fn a_start_is_little_endian_and_its_mask_follows() {
+        let start = |start| Code {
+            start,
+            ..code(3, 1, 1, 3)
+        };
+        accepted(&D_WITH_START, start(1));
+        accepted(&with(&D_WITH_START, 8, &[0]), start(0));
+        refused(&with(&D_WITH_START, 10, &[0x80]), 8);
+        let wide = record_with_start(4, 10, 1, 0x0234, &[true; 16]);
+        let expected = Code {
+            start: 0x0234,
+            ..code(4, 10, 1, 6)
+        };
+        assert_eq!(wide, parse("0C 00 04 00 04 0A 01 00 34 02 FF FF"));
+        accepted(&wide, expected);
     }
 
     #[test]
@@ -181,52 +283,80 @@ mod tests {
 
     #[test]
     fn sizes_of_a_code() {
-        let code = describe(&parse(D)).expect("a code");
-        assert_eq!((code.size(), code.information()), (8, 4));
-        assert_eq!(mask_of(&parse(D)), [0xE8]);
+        for d in [&D[..], &D_WITH_START] {
+            let code = describe(d).expect("a code");
+            assert_eq!((code.size(), code.information()), (8, 4));
+            assert_eq!(mask_of(d), [0xE8]);
+        }
     }
 
     #[test]
     fn a_record_is_laid_out_as_in_the_paper() {
         let mask: Vec<bool> = (0..8).map(|i| [3, 5, 6, 7].contains(&i)).collect();
-        assert_eq!(record(3, 1, 1, &mask), parse(D));
+        assert_eq!(record(3, 1, 1, &mask), D);
+        assert_eq!(record_with_start(3, 1, 1, 1, &mask), D_WITH_START);
         let long = record(10, 11, 0x0621, &last(10, 512));
         assert_eq!(long[..8], parse("88 00 01 00 0A 0B 21 06"));
         assert_eq!(long[8..], [[0x00; 64], [0xFF; 64]].concat());
+        let long = with_start(&long, 0x0456);
+        assert_eq!(long[..10], parse("8A 00 04 00 0A 0B 21 06 56 04"));
+        assert_eq!(long[10..], [[0x00; 64], [0xFF; 64]].concat());
+        assert_eq!(with_start(&long, 0x0456), long);
     }
 
     #[test]
     fn refusal_1_short() {
         for length in 0..8 {
-            refused(&parse(D)[..length], 1);
+            refused(&D[..length], 1);
         }
-        refused(&parse(D)[..8], 2);
+        refused(&D[..8], 2);
+    }
+
+    /// A slice that says kind 4 has 10 bytes at least, whatever its length field says.
+    #[test]
+    fn refusal_1_short_of_kind_4() {
+        for length in 0..10 {
+            refused(&D_WITH_START[..length], 1);
+            if length >= 2 {
+                refused(&with(&D_WITH_START[..length], 0, &[length as u8, 0]), 1);
+            }
+        }
+        refused(&D_WITH_START[..10], 2);
+        refused(&with(&D_WITH_START[..10], 0, &[10, 0]), 5);
+        refused(&with(&D_WITH_START[..9], 2, &[5]), 2);
+        refused(&parse("09 00 05 00 03 01 01 00 01"), 3);
     }
 
     #[test]
     fn refusal_2_length_field() {
         for field in [[8, 0], [10, 0], [9, 1], [0, 9], [0, 0], [255, 255]] {
-            refused(&with(0, &field), 2);
+            refused(&with(&D, 0, &field), 2);
+            refused(&with(&D_WITH_START, 0, &field), 2);
         }
-        let mut long = parse(D);
+        let mut long = D.to_vec();
         long.resize(65536 + 9, 0);
         refused(&long, 2);
     }
 
     #[test]
     fn refusal_3_kind() {
-        for kind in [[0, 0], [2, 0], [1, 1], [0, 1], [255, 255]] {
-            refused(&with(2, &kind), 3);
+        let kinds = [0, 2, 3, 5, 0x0101, 0x0104, 0x0401, 0x0100, 0x0400, 0xFFFF];
+        for kind in kinds.map(u16::to_le_bytes) {
+            refused(&with(&D, 2, &kind), 3);
+            refused(&with(&D_WITH_START, 2, &kind), 3);
         }
     }
 
     #[test]
     fn refusal_4_n() {
         for n in [0, 1, 2, DEEPEST + 1, DEEPEST + 2, 64, 255] {
-            refused(&with(4, &[n as u8]), 4);
+            refused(&with(&D, 4, &[n as u8]), 4);
+            refused(&with(&D_WITH_START, 4, &[n as u8]), 4);
         }
         for n in LAYERS {
-            accepted(&record(n, 1, 1, &last(n, 5)), n, 1, 1, 4);
+            let d = record(n, 1, 1, &last(n, 5));
+            accepted(&d, code(n, 1, 1, 4));
+            accepted(&with_start(&d, 0), code(n, 1, 1, 4));
         }
     }
 
@@ -234,18 +364,36 @@ mod tests {
     fn refusal_5_length_and_n() {
         refused(&parse("08 00 01 00 03 01 01 00"), 5);
         refused(&parse("0A 00 01 00 03 01 01 00 E8 00"), 5);
+        refused(&parse("0A 00 04 00 03 01 01 00 01 00"), 5);
+        refused(&parse("0C 00 04 00 03 01 01 00 01 00 E8 00"), 5);
         for n in LAYERS.skip(1) {
-            refused(&with(4, &[n as u8]), 5);
+            refused(&with(&D, 4, &[n as u8]), 5);
+            refused(&with(&D_WITH_START, 4, &[n as u8]), 5);
+        }
+    }
+
+    /// A length that only the other kind has; of the shortest one 9 bytes are too few for kind 4.
+    #[test]
+    fn refusal_5_length_of_the_other_kind() {
+        refused(&with(&D, 2, &[4]), 1);
+        for n in LAYERS {
+            let d = record(n, 1, 1, &last(n, 5));
+            refused(&with(&with_start(&d, 1), 2, &[1]), 5);
+            if n > 3 {
+                refused(&with(&d, 2, &[4]), 5);
+            }
         }
     }
 
     #[test]
     fn refusal_6_r() {
         for r in [0, 17, 18, 255] {
-            refused(&with(5, &[r]), 6);
+            refused(&with(&D, 5, &[r]), 6);
+            refused(&with(&D_WITH_START, 5, &[r]), 6);
         }
         for r in 1..=16 {
-            accepted(&record(5, r, 1, &last(5, 20)), 5, r, 1, 20 - r);
+            let d = record(5, r, 1, &last(5, 20));
+            accepted(&d, code(5, r, 1, 20 - r));
         }
     }
 
@@ -256,14 +404,31 @@ mod tests {
             let all = (0xFFFFu32 % (1 << r)) as u16;
             refused(&of(0), 7);
             refused(&of(all - 1), 7);
-            accepted(&of(1), 5, r, 1, 32 - r);
-            accepted(&of(all), 5, r, all, 32 - r);
+            accepted(&of(1), code(5, r, 1, 32 - r));
+            accepted(&of(all), code(5, r, all, 32 - r));
             for i in 1..16 {
                 let two_terms = 1 | 1 << i;
                 if i < r {
-                    accepted(&of(two_terms), 5, r, two_terms, 32 - r);
+                    accepted(&of(two_terms), code(5, r, two_terms, 32 - r));
                 } else {
                     refused(&of(two_terms), 7);
+                }
+            }
+        }
+    }
+
+    #[test]
+    fn refusal_25_start() {
+        for r in 1..=16 {
+            let of = |start| record_with_start(5, r, 1, start, &last(5, 32));
+            let all = (0xFFFFu32 % (1 << r)) as u16;
+            let starts = (0..16).map(|i| 1 << i);
+            for start in starts.chain([0, 1, all, 0xFFFF]) {
+                if start <= all {
+                    let code = code(5, r, 1, 32 - r);
+                    accepted(&of(start), Code { start, ..code });
+                } else {
+                    refused(&of(start), 25);
                 }
             }
         }
@@ -274,9 +439,10 @@ mod tests {
         for r in 1..=16 {
             for ones in 0..=r {
                 refused(&record(6, r, 1, &last(6, ones)), 8);
+                refused(&record_with_start(6, r, 1, 1, &last(6, ones)), 8);
             }
-            accepted(&record(6, r, 1, &last(6, r + 1)), 6, r, 1, 1);
-            accepted(&record(6, r, 1, &last(6, 64)), 6, r, 1, 64 - r);
+            accepted(&record(6, r, 1, &last(6, r + 1)), code(6, r, 1, 1));
+            accepted(&record(6, r, 1, &last(6, 64)), code(6, r, 1, 64 - r));
         }
     }
 
@@ -291,6 +457,21 @@ mod tests {
         refused(&parse("09 00 01 00 03 FF FE FF 00"), 6);
         refused(&parse("09 00 01 00 03 01 FE FF 00"), 7);
         refused(&parse("09 00 01 00 03 01 01 00 00"), 8);
-        accepted(&parse("09 00 01 00 03 01 01 00 03"), 3, 1, 1, 1);
+        accepted(&parse("09 00 01 00 03 01 01 00 03"), code(3, 1, 1, 1));
+    }
+
+    /// The same of kind 4; r is 0 in place of FF, so that any start bit stands above it.
+    #[test]
+    fn the_first_fault_of_kind_4_decides() {
+        refused(&parse("FF FF 04 00 FF 00 FE FF FF"), 1);
+        refused(&parse("FF FF FF FF FF 00 FE FF FF FF 00"), 2);
+        refused(&parse("0B 00 FF FF FF 00 FE FF FF FF 00"), 3);
+        refused(&parse("0B 00 04 00 FF 00 FE FF FF FF 00"), 4);
+        refused(&parse("0B 00 04 00 04 00 FE FF FF FF 00"), 5);
+        refused(&parse("0B 00 04 00 03 00 FE FF FF FF 00"), 6);
+        refused(&parse("0B 00 04 00 03 01 FE FF FF FF 00"), 7);
+        refused(&parse("0B 00 04 00 03 01 01 00 FF FF 00"), 25);
+        refused(&parse("0B 00 04 00 03 01 01 00 00 00 00"), 8);
+        accepted(&parse("0B 00 04 00 03 01 01 00 00 00 03"), code(3, 1, 1, 1));
     }
 }

@@ -26,7 +26,7 @@ pub fn encode(description: &[u8], payload: &[u8], output: &mut [u8]) -> Result<(
 
 /// The codeword of k payload bits: payload, then check, placed by the mask and transformed.
 pub fn codeword(code: &Code, mask: &[u8], payload: &[u8]) -> Vec<u8> {
-    let check = check(payload, code.r, code.polynomial);
+    let check = check(payload, code.r, code.polynomial, code.start);
     transform(&place(mask, &[payload, &check].concat()))
 }
 
@@ -39,7 +39,7 @@ fn has_unused_bit(payload: &[u8], k: usize) -> bool {
 mod tests {
     use super::*;
     use crate::testing::hex::parse;
-    use crate::testing::paper::D;
+    use crate::testing::paper::{D, D_WITH_START};
 
     /// Encodes under D into a buffer that holds `before`.
     fn encode_d(payload: &[u8], before: &[u8]) -> (Result<(), Refusal>, Vec<u8>) {
@@ -58,6 +58,16 @@ mod tests {
         assert_eq!(encode_d(&[0xA0], &[0xEE]), (Ok(()), vec![0x5A]));
         assert_eq!(encode_d(&[0x80], &[0xEE]), (Ok(()), vec![0x0F]));
         refused(&[0xB0], &[0xEE], 10);
+    }
+
+    /// The opposite parity stands at index 7, which is in every bit of the codeword.
+    #[test]
+    fn a_start_of_1_under_d() {
+        for (payload, codeword) in [(0xA0, !0x5A), (0x80, !0x0F), (0x00, !0x00)] {
+            let mut output = [0xEE];
+            assert_eq!(encode(&D_WITH_START, &[payload], &mut output), Ok(()));
+            assert_eq!(output, [codeword]);
+        }
     }
 
     #[test]

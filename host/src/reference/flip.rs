@@ -136,12 +136,11 @@ fn restarted_trial(frame: &Frame, first: &Pass, flipped: usize) -> Pass {
 
 /// The payload bits of a pass, where their check equals its check bits.
 fn passing_payload(frame: &Frame, bits: &[u8]) -> Option<Vec<u8>> {
-    let Code {
-        r, polynomial, k, ..
-    } = frame.code;
+    let code = &frame.code;
     let mut payload = take(frame.mask, bits);
-    let check_bits = payload.split_off(k);
-    (check(&payload, r, polynomial) == check_bits).then_some(payload)
+    let check_bits = payload.split_off(code.k);
+    let expected = check(&payload, code.r, code.polynomial, code.start);
+    (expected == check_bits).then_some(payload)
 }
 
 #[cfg(test)]
@@ -151,23 +150,33 @@ mod tests {
     use crate::reference::pass::skipped_steps;
     use crate::reference::sizes::LAYERS;
     use crate::testing::hex::parse;
-    use crate::testing::paper::{D, MASK_OF_D, V};
+    use crate::testing::paper::{D, D_WITH_START, MASK_OF_D, V};
     use crate::testing::random::Random;
     use crate::testing::samples;
 
     type Decoder = fn(&[u8], &[u8], u32, &mut [u8]) -> Result<Accepted, Refusal>;
     const BOTH: [Decoder; 2] = [decode_full, decode_restarted];
 
-    /// Decodes under D into a buffer that holds `before`.
-    fn decode_d(
+    /// Decodes into a buffer that holds `before`.
+    fn decode_under(
+        d: &[u8],
         decoder: Decoder,
         channel: &[u8],
         limit: u32,
         before: &[u8],
     ) -> (Result<Accepted, Refusal>, Vec<u8>) {
         let mut output = before.to_vec();
-        let answer = decoder(&D, channel, limit, &mut output);
+        let answer = decoder(d, channel, limit, &mut output);
         (answer, output)
+    }
+
+    fn decode_d(
+        decoder: Decoder,
+        channel: &[u8],
+        limit: u32,
+        before: &[u8],
+    ) -> (Result<Accepted, Refusal>, Vec<u8>) {
+        decode_under(&D, decoder, channel, limit, before)
     }
 
     fn accepted(trial: usize, steps: usize, payload: u8) -> (Result<Accepted, Refusal>, Vec<u8>) {
@@ -212,6 +221,21 @@ mod tests {
             &[0xEE],
             Refusal::At(13, 7),
         );
+    }
+
+    /// Request 2.1: eight zeros fail trial 1. Trial 2 flips index 3; restarted, it resumes at 5.
+    #[test]
+    fn silence_under_d_with_start_1() {
+        let failed = Refusal::AllFailed {
+            limit: 1,
+            steps: 24,
+        };
+        for (decoder, later) in BOTH.into_iter().zip([24, 24 - skipped_steps(3, 5)]) {
+            let of = |limit| decode_under(&D_WITH_START, decoder, &[0; 8], limit, &[0xEE]);
+            assert_eq!(of(1), (Err(failed), vec![0xEE]));
+            assert_eq!(of(2), accepted(2, 24 + later, 0x80));
+            assert_eq!(of(5), of(2));
+        }
     }
 
     #[test]

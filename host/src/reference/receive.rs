@@ -1,4 +1,4 @@
-//! The program `receive`: document 01, "Program `receive`".
+//! The program `receive`: document 01, "Program `receive`", and document 02, request 2.1.
 
 use crate::reference::description::{describe, Code};
 use crate::reference::flip::decode_restarted;
@@ -24,7 +24,7 @@ pub fn receive(input: &[u8]) -> String {
 
 /// The first record, and what follows it; nothing where the input ends inside it, or where its
 /// length is below 4.
-fn first_record(input: &[u8]) -> Option<(&[u8], &[u8])> {
+pub fn first_record(input: &[u8]) -> Option<(&[u8], &[u8])> {
     let length = usize::from(word(input, 0)?);
     if length < 4 {
         return None;
@@ -49,7 +49,7 @@ impl<'a> Receiver<'a> {
     /// The line for one record of at least 4 bytes.
     fn respond(&mut self, record: &'a [u8]) -> String {
         match word(record, 2).expect("a kind") {
-            1 => self.respond_to_description(record),
+            1 | 4 => self.respond_to_description(record),
             2 => self.respond_to_channel(record),
             kind => format!("skip {kind}"),
         }
@@ -84,7 +84,7 @@ impl<'a> Receiver<'a> {
 }
 
 /// Two lower-case digits for each byte.
-fn hexadecimal(bytes: &[u8]) -> String {
+pub fn hexadecimal(bytes: &[u8]) -> String {
     bytes.iter().map(|byte| format!("{byte:02x}")).collect()
 }
 
@@ -93,7 +93,7 @@ mod tests {
     use super::*;
     use crate::reference::sizes::LONGEST_RECORD;
     use crate::testing::hex::parse;
-    use crate::testing::paper::{D, V};
+    use crate::testing::paper::{D, D_WITH_START, V};
     use crate::testing::streams::channel;
 
     fn prints(input: &[Vec<u8>], lines: &[&str]) {
@@ -105,6 +105,22 @@ mod tests {
     fn the_example_of_the_paper() {
         let input = [D.to_vec(), channel(2, &V), channel(1, &V)];
         prints(&input, &["code 8 3 1", "ok 2 32 00", "no 16", "end 3"]);
+    }
+
+    /// Request 2.1: silence under D with start 1, and then under D.
+    #[test]
+    fn silence() {
+        let [once, twice] = [1, 2].map(|limit| channel(limit, &[0; 8]));
+        let input = [D_WITH_START.to_vec(), once.clone(), twice, D.to_vec(), once];
+        let lines = [
+            "code 8 3 1",
+            "no 16",
+            "ok 2 35 80",
+            "code 8 3 1",
+            "ok 1 24 00",
+            "end 5",
+        ];
+        prints(&input, &lines);
     }
 
     #[test]
@@ -139,6 +155,8 @@ mod tests {
     fn other_kinds_are_skipped() {
         let input = ["04 00 00 00", "05 00 03 00 FF", "06 00 FF FF 01 00"].map(parse);
         prints(&input, &["skip 0", "skip 3", "skip 65535", "end 3"]);
+        let input = ["04 00 05 00", "04 00 04 01", "04 00 01 08"].map(parse);
+        prints(&input, &["skip 5", "skip 260", "skip 2049", "end 3"]);
     }
 
     #[test]
@@ -157,10 +175,31 @@ mod tests {
     #[test]
     fn a_refused_description_changes_nothing() {
         let bad = parse("09 00 01 00 03 01 01 00 80");
+        let bad_start = parse("0B 00 04 00 03 01 01 00 02 00 E8");
         prints(
-            &[D.to_vec(), bad, channel(2, &V)],
-            &["code 8 3 1", "no 8", "ok 2 32 00", "end 3"],
+            &[D.to_vec(), bad.clone(), bad_start.clone(), channel(2, &V)],
+            &["code 8 3 1", "no 8", "no 25", "ok 2 32 00", "end 4"],
         );
+        let silence = channel(2, &[0; 8]);
+        prints(
+            &[D_WITH_START.to_vec(), bad, bad_start, silence],
+            &["code 8 3 1", "no 8", "no 25", "ok 2 35 80", "end 4"],
+        );
+    }
+
+    /// Of 8 and of 9 bytes kind 4 is refused 1; of the other kind's length a description is refused
+    /// 5.
+    #[test]
+    fn refused_lengths_of_kind_4() {
+        let input = [
+            "04 00 04 00",
+            "08 00 04 00 03 01 01 00",
+            "09 00 04 00 03 01 01 00 E8",
+            "0A 00 04 00 04 01 01 00 FF FF",
+            "0B 00 01 00 03 01 01 00 01 00 E8",
+        ];
+        let lines = ["no 1", "no 1", "no 1", "no 5", "no 5", "end 5"];
+        prints(&input.map(parse), &lines);
     }
 
     #[test]

@@ -14,6 +14,28 @@ pub fn lend_output<A>(content: &[u8], call: impl FnOnce(&mut [u8]) -> A) -> (A, 
     (answer, guarded(&black_box(buffer)).to_vec())
 }
 
+/// Lends a copy of some numbers for writing. Answers what the call answered and the numbers after it.
+pub fn lend_numbers<A, const COUNT: usize>(
+    before: [u64; COUNT],
+    call: impl FnOnce(&mut [u64; COUNT]) -> A,
+) -> (A, [u64; COUNT]) {
+    let bytes = before.map(u64::to_ne_bytes).concat();
+    let ((answer, after), _) = lend_output(&bytes, |lent| {
+        let numbers = numbers_in(lent);
+        let answer = call(numbers);
+        (answer, *black_box(numbers))
+    });
+    (answer, after)
+}
+
+/// The numbers in lent bytes.
+fn numbers_in<const COUNT: usize>(bytes: &mut [u8]) -> &mut [u64; COUNT] {
+    // SAFETY: any bytes are a number.
+    let (before, numbers, after) = unsafe { bytes.align_to_mut() };
+    assert!(before.is_empty() && after.is_empty(), "lent out of place");
+    numbers.try_into().expect("as many numbers")
+}
+
 /// Lends a copy of `content` for reading. Answers what the call answered; panics where any byte
 /// was written.
 pub fn lend_input<A>(content: &[u8], call: impl FnOnce(&[u8]) -> A) -> A {
@@ -66,6 +88,11 @@ mod tests {
         assert_eq!(lend_input(&[1, 2, 3], |lent| lent[2]), 3);
         assert_eq!(guarded(&written_at(64)), [7, 2, 3]);
         assert_eq!(guarded(&written_at(66)), [1, 2, 7]);
+        let write = |numbers: &mut [u64; 3]| {
+            numbers[1] = 7;
+            numbers[2]
+        };
+        assert_eq!(lend_numbers([1, 2, 3], write), (3, [1, 7, 3]));
     }
 
     #[test]

@@ -13,10 +13,11 @@ pub use encode::encode;
 pub use quantise::quantise;
 pub use resume::resume;
 
-use crate::reference::description::Description;
+/// A decoder with the call of `decode_full`.
+pub type Decoder = fn(&[u8], &[u8], u32, &mut [u8]) -> u64;
 
 extern "C" {
-    fn probe_description(d: *const u8, len: usize) -> u64;
+    fn probe_description(d: *const u8, len: usize, numbers: *mut u64) -> u64;
     fn probe_pack(bits: *const u8, bits_len: usize, bytes: *mut u8, bytes_len: usize) -> u64;
     fn probe_unpack(bytes: *const u8, bytes_len: usize, bits: *mut u8, bits_len: usize) -> u64;
     fn probe_mask_bit(mask: *const u8, len: usize, index: usize) -> u64;
@@ -27,9 +28,10 @@ extern "C" {
 // length of the slice that it comes from, the library reads and writes these bytes only, and it
 // keeps no pointer.
 
-/// Reads a description; the answer is as in `description_number`.
-pub fn description(d: &[u8]) -> u64 {
-    unsafe { probe_description(d.as_ptr(), d.len()) }
+/// Reads a description. Answers the refusal, or 0 where it is accepted: then the numbers become n, r,
+/// the polynomial, the start and k.
+pub fn description(d: &[u8], numbers: &mut [u64; 5]) -> u64 {
+    unsafe { probe_description(d.as_ptr(), d.len(), numbers.as_mut_ptr()) }
 }
 
 /// Packs bits, one per byte, into exactly as many bytes as they take. Answers 0, or 1 where a
@@ -51,18 +53,4 @@ pub fn mask_bit(mask: &[u8], index: usize) -> u64 {
 /// The number of ones in a mask of at most 65,536 bytes; the largest number for a longer one.
 pub fn ones(mask: &[u8]) -> u64 {
     unsafe { probe_ones(mask.as_ptr(), mask.len()) }
-}
-
-/// A description as one number: bits 0–7 the refusal or 0, 8–15 n, 16–23 r, 24–39 the polynomial,
-/// 40–63 k.
-pub fn description_number(description: &Description) -> u64 {
-    match description {
-        Err(refusal) => u64::from(*refusal),
-        Ok(code) => {
-            (code.n as u64) << 8
-                | (code.r as u64) << 16
-                | u64::from(code.polynomial) << 24
-                | (code.k as u64) << 40
-        }
-    }
 }

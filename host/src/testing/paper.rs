@@ -1,7 +1,12 @@
-//! The inputs that document 01 names.
+//! The inputs that document 01 names, and D as request 2.1 of document 02 has it.
 
 /// The description D: N = 8, information indices 3, 5, 6 and 7, k = 3, r = 1.
 pub const D: [u8; 9] = [0x09, 0x00, 0x01, 0x00, 0x03, 0x01, 0x01, 0x00, 0xE8];
+
+/// D as kind 4, with start 1.
+pub const D_WITH_START: [u8; 11] = [
+    0x0B, 0x00, 0x04, 0x00, 0x03, 0x01, 0x01, 0x00, 0x01, 0x00, 0xE8,
+];
 
 /// The mask of D.
 pub const MASK_OF_D: [u8; 1] = [0xE8];

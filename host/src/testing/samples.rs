@@ -3,7 +3,9 @@
 use std::cmp::Reverse;
 use std::ops::RangeInclusive;
 
-use crate::reference::description::{describe, record, Code};
+use crate::reference::description::{
+    describe, has_start, header_length, is_information, mask_of, record, with_start, Code, REFUSALS,
+};
 use crate::reference::packing::pack;
 use crate::reference::sizes::{DEEPEST, LAYERS};
 use crate::testing::random::Random;
@@ -13,21 +15,52 @@ pub fn layers(random: &mut Random) -> usize {
     random.between(*LAYERS.start(), DEEPEST)
 }
 
-/// A description that is accepted, of any check width and any number of information indices.
+/// A description that is accepted, of either kind, any check width and any number of information
+/// indices.
 pub fn description(random: &mut Random, n: usize) -> Vec<u8> {
+    let d = description_of_kind_1(random, n);
+    either_kind(random, d)
+}
+
+pub fn description_of_kind_1(random: &mut Random, n: usize) -> Vec<u8> {
     let size = 1 << n;
     let r = random.between(1, 16.min(size - 1));
     let ones = random.between(r + 1, size);
     record(n, r, polynomial(random, r), &mask(random, size, ones))
 }
 
-/// An accepted description whose information indices are the better ones, so that channel values
-/// with some noise are decoded.
+/// An accepted description of either kind whose information indices are the better ones, so that
+/// channel values with some noise are decoded.
 pub fn useful_description(random: &mut Random, n: usize) -> Vec<u8> {
+    let d = useful_description_of_kind_1(random, n);
+    either_kind(random, d)
+}
+
+pub fn useful_description_of_kind_1(random: &mut Random, n: usize) -> Vec<u8> {
     let size = 1 << n;
     let r = random.between(1, 16.min(size / 4));
     let ones = random.between(r + 1, size / 2 + r);
     record(n, r, polynomial(random, r), &useful_mask(size, ones))
+}
+
+/// A description of kind 1 as it is, or of kind 4 with any start.
+pub fn either_kind(random: &mut Random, d: Vec<u8>) -> Vec<u8> {
+    match random.bit() {
+        true => with_start(&d, start(random, d[5].into())),
+        false => d,
+    }
+}
+
+/// A start of a check of width r, now and then 0.
+pub fn start(random: &mut Random, r: usize) -> u16 {
+    match random.below(8) {
+        0 => 0,
+        _ => nonzero_start(random, r),
+    }
+}
+
+pub fn nonzero_start(random: &mut Random, r: usize) -> u16 {
+    random.between(1, (1 << r) - 1) as u16
 }
 
 /// Gives accepted descriptions and their codes to a test, `count` for each n of a range.
@@ -54,7 +87,7 @@ pub fn for_refused_descriptions(
     mut test: impl FnMut(&mut Random, &[u8], usize),
 ) {
     let mut random = Random::new(seed);
-    for refusal in 1..=8 {
+    for refusal in REFUSALS {
         for _ in 0..count {
             let d = refused_description(&mut random, refusal);
             test(&mut random, &d, refusal);
@@ -65,8 +98,7 @@ pub fn for_refused_descriptions(
 /// Now and then replaces a description by a refused one.
 pub fn spoil_description(random: &mut Random, d: &mut Vec<u8>) {
     if random.below(4) == 0 {
-        let refusal = random.between(1, 8);
-        *d = refused_description(random, refusal);
+        *d = any_refused_description(random);
     }
 }
 
@@ -81,28 +113,97 @@ pub fn spoil_channel(random: &mut Random, channel: &mut Vec<u8>) {
     }
 }
 
-/// A description, of any n, to which the refusal given applies first.
+/// A description, of any n and of either kind, with one fault or more.
+pub fn any_refused_description(random: &mut Random) -> Vec<u8> {
+    loop {
+        let n = layers(random);
+        let mut d = description(random, n);
+        let chosen = |refusal: &usize| random.below(6) == 0 && can_break(&d, *refusal);
+        let faults: Vec<usize> = REFUSALS.into_iter().filter(chosen).collect();
+        if !faults.is_empty() {
+            put_faults(random, &mut d, &faults);
+            return d;
+        }
+    }
+}
+
+/// A description, of any n and of either kind, to which the refusal given applies first.
 pub fn refused_description(random: &mut Random, refusal: usize) -> Vec<u8> {
-    let n = layers(random);
-    let size = 1 << n;
-    let mut d = description(random, n);
+    loop {
+        let n = layers(random);
+        let mut d = description(random, n);
+        if can_break(&d, refusal) {
+            put_fault(random, &mut d, refusal);
+            return d;
+        }
+    }
+}
+
+/// Whether an accepted description can be changed so that this refusal applies: 25 needs a start,
+/// and a bit that it may not have.
+pub fn can_break(d: &[u8], refusal: usize) -> bool {
+    refusal != 25 || has_start(d) && d[5] < 16
+}
+
+/// Changes an accepted description so that these refusals apply, which stand in their order, and none
+/// before the first of them: those of later ones first.
+pub fn put_faults(random: &mut Random, d: &mut Vec<u8>, refusals: &[usize]) {
+    for &refusal in refusals.iter().rev() {
+        put_fault(random, d, refusal);
+    }
+}
+
+/// Changes a description so that this refusal applies, and none that stands before it.
+fn put_fault(random: &mut Random, d: &mut Vec<u8>, refusal: usize) {
     let r = usize::from(d[5]);
     match refusal {
-        1 => d.truncate(random.below(8)),
-        2 => add_to_word(&mut d, 0, random.between(1, 65_535)),
-        3 => add_to_word(&mut d, 2, random.between(1, 65_535)),
-        4 => d[4] = random.between(DEEPEST + 1, 255 + LAYERS.start()) as u8,
-        5 => d[4] = other_layers(random, n) as u8,
-        6 => d[5] = random.between(17, 255 + 1) as u8,
-        7 if r < 16 && random.bit() => set_bit(&mut d, 6, random.between(r, 15)),
-        7 => d[6] -= 1,
-        8 => {
-            let ones = random.below(r + 1);
-            d = record(n, r, polynomial(random, r), &mask(random, size, ones));
+        1 => d.truncate(random.below(if has_start(d) { 10 } else { 8 })),
+        2 => {
+            let length = word(d, 0).wrapping_add(random.between(1, 65_535) as u16);
+            put_word(d, 0, length);
         }
+        3 => put_word(d, 2, other_kind(random)),
+        4 => d[4] = random.between(DEEPEST + 1, 255 + LAYERS.start()) as u8,
+        5 => put_other_length(random, d),
+        6 => d[5] = random.between(17, 255 + 1) as u8,
+        7 if r < 16 && random.bit() => set_bit(d, 6, random.between(r, 15)),
+        7 => d[6] &= 0xFE,
+        25 => set_bit(d, 8, random.between(r, 15)),
+        8 => put_few_ones(random, d),
         _ => panic!("a description has no refusal {refusal}"),
     }
-    d
+}
+
+/// Makes the length another than that of kind and n: by the kind, where that leaves enough bytes, by
+/// a byte more or less, or by n.
+fn put_other_length(random: &mut Random, d: &mut Vec<u8>) {
+    match random.below(4) {
+        0 if d.len() >= 10 => d[2] = if has_start(d) { 1 } else { 4 },
+        1 => d.push(random.byte()),
+        2 => d.truncate(d.len() - 1),
+        _ => d[4] = other_layers(random, d[4].into()) as u8,
+    }
+    let length = d.len() as u16;
+    put_word(d, 0, length);
+}
+
+/// Puts a mask of at most r ones in the place of a description's.
+fn put_few_ones(random: &mut Random, d: &mut [u8]) {
+    let (n, r) = (usize::from(d[4]), usize::from(d[5]));
+    let ones = random.below(r + 1);
+    let few = record(n, r, 1, &mask(random, 1 << n, ones));
+    let first = d.len() - (1 << n) / 8;
+    d[first..].copy_from_slice(mask_of(&few));
+}
+
+/// A kind that no description has, half of them near to one that has.
+fn other_kind(random: &mut Random) -> u16 {
+    const NEAR: [u16; 8] = [0, 2, 3, 5, 0x0101, 0x0104, 0x0401, 0x0400];
+    let kind = random.below(65_536) as u16;
+    match header_length(kind) {
+        None if random.bit() => kind,
+        _ => NEAR[random.below(NEAR.len())],
+    }
 }
 
 /// Any n but this one.
@@ -111,11 +212,13 @@ fn other_layers(random: &mut Random, n: usize) -> usize {
     least + (n - least + random.between(1, count - 1)) % count
 }
 
-/// Adds to the two bytes from `place` on, little-endian, without a carry out of them.
-fn add_to_word(bytes: &mut [u8], place: usize, number: usize) {
-    let word = u16::from_le_bytes([bytes[place], bytes[place + 1]]);
-    let sum = word.wrapping_add(number as u16);
-    bytes[place..place + 2].copy_from_slice(&sum.to_le_bytes());
+/// Two bytes from `place` on, little-endian.
+fn word(bytes: &[u8], place: usize) -> u16 {
+    u16::from_le_bytes([bytes[place], bytes[place + 1]])
+}
+
+fn put_word(bytes: &mut [u8], place: usize, word: u16) {
+    bytes[place..place + 2].copy_from_slice(&word.to_le_bytes());
 }
 
 /// Sets bit i of the little-endian number from `place` on.
@@ -156,6 +259,14 @@ pub fn mask_with(size: usize, information: &[usize]) -> Vec<bool> {
 /// A packed payload of k bits.
 pub fn payload(random: &mut Random, k: usize) -> Vec<u8> {
     pack(&random.bits(k))
+}
+
+/// A prefix of q bits without a one at a frozen index.
+pub fn prefix(random: &mut Random, d: &[u8], q: usize) -> Vec<u8> {
+    let mask = mask_of(d);
+    (0..q)
+        .map(|index| u8::from(is_information(mask, index) && random.bit()))
+        .collect()
 }
 
 /// Channel values of a magnitude up to `largest`, at most 31.
@@ -210,31 +321,51 @@ pub fn value_byte(value: i64) -> u8 {
 #[cfg(test)]
 mod tests {
     use super::*;
-    use crate::reference::description::{information_indices, mask_of};
+    use crate::reference::description::information_indices;
+    use std::collections::BTreeSet;
 
+    /// Of each n some have no start, some start 0, and most of the others another start.
     #[test]
     fn descriptions_are_accepted() {
         let mut random = Random::new(1);
         for n in LAYERS {
+            let mut met = [0; 3];
             for _ in 0..100 {
                 for d in [
                     description(&mut random, n),
                     useful_description(&mut random, n),
                 ] {
-                    assert_eq!(describe(&d).map(|code| code.n), Ok(n), "{d:02x?}");
+                    let code = describe(&d).expect("an accepted description");
+                    assert_eq!(code.n, n, "{d:02x?}");
+                    met[usize::from(has_start(&d)) + usize::from(code.start != 0)] += 1;
                 }
             }
+            let [without, zero, others] = met;
+            assert!(without >= 60 && zero >= 1 && others >= 60, "{met:?}");
         }
     }
 
     #[test]
     fn refused_descriptions_are_refused() {
-        let mut random = Random::new(2);
-        for refusal in 1..=8 {
-            for _ in 0..1000 {
-                let d = refused_description(&mut random, refusal);
-                assert_eq!(describe(&d), Err(refusal as u8), "{d:02x?}");
+        for_refused_descriptions(2, 1_000, |_, d, refusal| {
+            assert_eq!(describe(d), Err(refusal as u8), "{d:02x?}");
+        });
+    }
+
+    /// Also those of 8 and of 9 bytes, which only kind 4 has too few of.
+    #[test]
+    fn refused_descriptions_are_of_both_kinds() {
+        let (mut lengths, mut kinds) = (BTreeSet::new(), BTreeSet::new());
+        for_refused_descriptions(3, 1_000, |_, d, refusal| {
+            if refusal == 1 {
+                lengths.insert(d.len());
+            } else {
+                kinds.insert((refusal, has_start(d)));
             }
+        });
+        assert!(lengths.into_iter().eq(0..10));
+        for refusal in [2, 4, 5, 6, 7, 8] {
+            assert!(kinds.contains(&(refusal, false)) && kinds.contains(&(refusal, true)));
         }
     }
 

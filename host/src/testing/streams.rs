@@ -1,11 +1,11 @@
 //! Streams of records for the program `receive`: the cases in tests/cases, the recording that is
 //! shipped, and random ones.
 
-use crate::reference::description::{describe, mask_of, record, Code};
+use crate::reference::description::{describe, mask_of, record, record_with_start, Code};
 use crate::reference::encode::codeword;
 use crate::reference::sizes::{DEEPEST, LAYERS, LONGEST, LONGEST_RECORD};
 use crate::testing::hex::parse;
-use crate::testing::paper::{D, V};
+use crate::testing::paper::{D, D_WITH_START, V};
 use crate::testing::random::Random;
 use crate::testing::samples;
 
@@ -29,6 +29,11 @@ fn frame(random: &mut Random, d: &[u8], code: &Code, strength: usize, noise: usi
     samples::noisy(random, &sent, strength, noise)
 }
 
+/// A channel record of eight zeros.
+fn silence(limit: u16) -> Vec<u8> {
+    channel(limit, &[0; 8])
+}
+
 /// The recording: a code of N = 128, k = 40, r = 11 and then 300 frames, sixty at each of five
 /// noise levels.
 pub fn recording() -> Vec<u8> {
@@ -50,6 +55,8 @@ pub fn cases() -> Vec<(String, Vec<u8>)> {
     cases.extend(refused_frames());
     cases.extend(cuts());
     cases.extend(accepted());
+    cases.extend(with_a_start());
+    cases.extend(frames_with_a_start());
     cases
 }
 
@@ -57,24 +64,76 @@ fn case(name: &str, records: &[&[u8]]) -> (String, Vec<u8>) {
     (name.to_string(), records.concat())
 }
 
-/// A description refused by each number that a record can meet, while D is held. Lengths agree with
-/// the bytes in a stream and the kind is 1, so that 2 and 3 do not occur.
+/// A description of each kind refused by each number that a record can meet, while D is held. Lengths
+/// agree with the bytes in a stream and the kind is 1 or 4, so that 2 and 3 do not occur.
 fn refused_descriptions() -> Vec<(String, Vec<u8>)> {
     let refused = [
-        (1, "04 00 01 00"),
-        (4, "09 00 01 00 02 01 01 00 E8"),
-        (5, "0A 00 01 00 03 01 01 00 E8 00"),
-        (6, "09 00 01 00 03 11 01 00 E8"),
-        (7, "09 00 01 00 03 01 02 00 E8"),
-        (8, "09 00 01 00 03 01 01 00 80"),
+        ("description-refused-1", "04 00 01 00"),
+        ("description-refused-4", "09 00 01 00 02 01 01 00 E8"),
+        ("description-refused-5", "0A 00 01 00 03 01 01 00 E8 00"),
+        ("description-refused-6", "09 00 01 00 03 11 01 00 E8"),
+        ("description-refused-7", "09 00 01 00 03 01 02 00 E8"),
+        ("description-refused-8", "09 00 01 00 03 01 01 00 80"),
+        (
+            "description-refused-5-length-of-kind-4",
+            "0B 00 01 00 03 01 01 00 01 00 E8",
+        ),
+        ("kind-4-refused-1", "04 00 04 00"),
+        ("kind-4-refused-1-of-8-bytes", "08 00 04 00 03 01 01 00"),
+        ("kind-4-refused-1-of-9-bytes", "09 00 04 00 03 01 01 00 E8"),
+        ("kind-4-refused-4", "0B 00 04 00 02 01 01 00 01 00 E8"),
+        ("kind-4-refused-5", "0C 00 04 00 03 01 01 00 01 00 E8 00"),
+        (
+            "kind-4-refused-5-length-of-kind-1",
+            "0A 00 04 00 04 01 01 00 FF FF",
+        ),
+        ("kind-4-refused-6", "0B 00 04 00 03 11 01 00 01 00 E8"),
+        ("kind-4-refused-7", "0B 00 04 00 03 01 02 00 01 00 E8"),
+        ("kind-4-refused-25", "0B 00 04 00 03 01 01 00 02 00 E8"),
+        ("kind-4-refused-8", "0B 00 04 00 03 01 01 00 01 00 80"),
     ];
     let frame = channel(2, &V);
     refused
-        .map(|(number, bytes)| {
-            let name = format!("description-refused-{number}");
-            case(&name, &[&D, &parse(bytes), &frame])
-        })
+        .map(|(name, bytes)| case(name, &[&D, &parse(bytes), &frame]))
         .to_vec()
+}
+
+/// D with a start: silence at two limits and with start 0, a start that stays held when others are
+/// refused, and kinds that are nearly 4.
+fn with_a_start() -> Vec<(String, Vec<u8>)> {
+    let [once, twice] = [1, 2].map(silence);
+    let start_0 = parse("0B 00 04 00 03 01 01 00 00 00 E8");
+    let refused = parse("0B 00 04 00 03 01 01 00 02 00 E8 09 00 01 00 03 01 01 00 80");
+    let near = [3, 5, 0x0104, 0x0401].map(|kind: u16| {
+        let mut d = D_WITH_START;
+        d[2..4].copy_from_slice(&kind.to_le_bytes());
+        d
+    });
+    vec![
+        case("kind-4-silence", &[&D_WITH_START, &once, &twice]),
+        case("kind-4-silence-start-0", &[&start_0, &once, &D, &once]),
+        case("kind-4-held", &[&D_WITH_START, &refused, &once, &twice]),
+        case("kind-4-nearly", &[&D, &near.concat(), &once]),
+    ]
+}
+
+/// Frames under the recording's code with a start, under more and more noise and of zeros alone, and
+/// the longest description.
+fn frames_with_a_start() -> Vec<(String, Vec<u8>)> {
+    let mut random = Random::new(21);
+    let d = record_with_start(7, 11, 0x621, 0x5A5, &samples::useful_mask(128, 51));
+    let code = describe(&d).expect("an accepted description");
+    let noise = [1, 5, 6, 7, 7, 7, 7, 8];
+    let noisy = noise.map(|noise| channel(16, &frame(&mut random, &d, &code, 7, noise)));
+    let zeros = channel(16, &[0; 128]);
+    let mask = samples::useful_mask(LONGEST, LONGEST / 2);
+    let longest = record_with_start(DEEPEST, 16, 0x8005, 0xFFFF, &mask);
+    let code = describe(&longest).expect("an accepted description");
+    let clear = channel(1, &frame(&mut random, &longest, &code, 20, 1));
+    vec![
+        case("kind-4-frames", &[&d, &noisy.concat(), &zeros]),
+        case("kind-4-largest-code", &[&longest, &clear]),
+    ]
 }
 
 /// A channel record refused by each number that it can meet.
@@ -115,7 +174,7 @@ fn cuts() -> Vec<(String, Vec<u8>)> {
 /// Streams without a refusal of theirs, or with many records.
 fn accepted() -> Vec<(String, Vec<u8>)> {
     let mut random = Random::new(1024);
-    let long = samples::useful_description(&mut random, DEEPEST);
+    let long = samples::useful_description_of_kind_1(&mut random, DEEPEST);
     let code = describe(&long).expect("an accepted description");
     let clear = frame(&mut random, &long, &code, 20, 1);
     let longest = blank(LONGEST_RECORD, 2);
@@ -138,13 +197,16 @@ pub fn every_sort() -> Vec<u8> {
     let d = samples::useful_description(&mut random, 4);
     let code = describe(&d).expect("an accepted description");
     let clear = frame(&mut random, &d, &code, 20, 1);
-    let refused = parse("09 00 01 00 03 01 01 00 80");
+    let refused = ["09 00 01 00 03 01 01 00 80", "08 00 04 00 03 01 01 00"].map(parse);
     [
         channel(2, &V), // refused 23
         D.to_vec(),
         channel(2, &V),
         channel(1, &V), // refused 16
-        refused,
+        refused.concat(),
+        D_WITH_START.to_vec(),
+        silence(1), // refused 16
+        silence(2),
         blank(4, 7),
         blank(5, 2), // refused 24
         channel(5, &[0x20; 8]),
@@ -212,16 +274,20 @@ fn random_record(random: &mut Random, held: &[u8]) -> Vec<u8> {
             samples::useful_description(random, n)
         }
         4 => {
-            let refusal = random.between(4, 8);
+            let refusal = [4, 5, 6, 7, 25, 8][random.below(6)];
             samples::refused_description(random, refusal)
         }
-        5 => blank(random.between(4, 40), random.below(65_536) as u16),
+        5 => {
+            let kinds = [7, 65_536][random.below(2)];
+            blank(random.between(4, 40), random.below(kinds) as u16)
+        }
         6 => {
             let length = random.between(1, 12);
             random.bytes(length)
         }
         7 => blank(random.between(4, 6), 2),
         8 => channel(1, &random.bytes(code.size())),
+        9 => channel(random.between(1, 4) as u16, &vec![0; code.size()]),
         _ => {
             let noise = random.below(10);
             let limit = random.below(code.information() + 3) as u16;

@@ -9,13 +9,13 @@ static uint8_t sent[POLAR_LONGEST_PAYLOAD], received[POLAR_LONGEST_PAYLOAD];
 static uint8_t codeword[POLAR_LONGEST_CODEWORD];
 static uint8_t channel[POLAR_LONGEST_CODE], bits[POLAR_LONGEST_CODE];
 
-/* All indices are information indices, and the check is a parity. */
+/* All indices are information indices, and the check is a parity that starts at 1: of the two kinds, 4 is the longer. */
 static void describe(void)
 {
     uint8_t n = 0;
     while (1 << n < POLAR_LONGEST_CODE)
         n++;
-    const uint8_t header[8] = {sizeof description & 0xff, sizeof description >> 8, 1, 0, n, 1, 1, 0};
+    const uint8_t header[10] = {sizeof description & 0xff, sizeof description >> 8, 4, 0, n, 1, 1, 0, 1, 0};
     memset(description, 0xFF, sizeof description);
     memcpy(description, header, sizeof header);
 }

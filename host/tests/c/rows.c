@@ -1,4 +1,4 @@
-/* Rows of document 01 by each function of the header: each answer in its parts, then the output. */
+/* Rows of document 01, and of request 2.1, by each function of the header: each answer in its parts, then the output. */
 #include "polar.h"
 
 #include <inttypes.h>
@@ -8,6 +8,9 @@
 typedef uint64_t decoder(const uint8_t *, size_t, const uint8_t *, size_t, uint32_t, uint8_t *, size_t);
 
 static const uint8_t D[9] = {0x09, 0, 1, 0, 3, 1, 1, 0, 0xE8};
+static const uint8_t D_MASK_80[9] = {0x09, 0, 1, 0, 3, 1, 1, 0, 0x80};
+static const uint8_t D_START_1[11] = {0x0B, 0, 4, 0, 3, 1, 1, 0, 1, 0, 0xE8};
+static const uint8_t D_START_2[11] = {0x0B, 0, 4, 0, 3, 1, 1, 0, 2, 0, 0xE8};
 static const uint8_t V[8] = {0xFF, 3, 2, 2, 0xFE, 0xFE, 3, 2};
 static const uint8_t RIGHT[8] = {4, 0xFC, 4, 0xFC, 0xFC, 4, 0xFC, 4};
 static const uint8_t ZEROS[8] = {0};
@@ -23,12 +26,10 @@ static void print(const char *name, uint64_t answer, const uint8_t *output, size
     putchar('\n');
 }
 
-static void encode(const char *name, uint8_t mask, uint8_t payload)
+static void encode(const char *name, const uint8_t *description, size_t len, uint8_t payload)
 {
-    uint8_t description[sizeof D], codeword[1] = {0xEE};
-    memcpy(description, D, sizeof D);
-    description[8] = mask;
-    uint64_t answer = polar_encode(description, sizeof description, &payload, 1, codeword, sizeof codeword);
+    uint8_t codeword[1] = {0xEE};
+    uint64_t answer = polar_encode(description, len, &payload, 1, codeword, sizeof codeword);
     print(name, answer, codeword, sizeof codeword);
 }
 
@@ -40,19 +41,26 @@ static void resume(const char *name, const uint8_t *channel, const uint8_t *pref
     print(name, answer, bits, sizeof bits);
 }
 
-static void decode(const char *name, decoder *by, const uint8_t *channel, uint32_t limit)
+static void decode_under(const uint8_t *description, size_t len, const char *name, decoder *by, const uint8_t *channel, uint32_t limit)
 {
     uint8_t payload[1] = {0xEE};
-    uint64_t answer = by(D, sizeof D, channel, 8, limit, payload, sizeof payload);
+    uint64_t answer = by(description, len, channel, 8, limit, payload, sizeof payload);
     print(name, answer, payload, sizeof payload);
+}
+
+static void decode(const char *name, decoder *by, const uint8_t *channel, uint32_t limit)
+{
+    decode_under(D, sizeof D, name, by, channel, limit);
 }
 
 static void encode_rows(void)
 {
-    encode("encode A0", 0xE8, 0xA0);
-    encode("encode 80", 0xE8, 0x80);
-    encode("encode B0", 0xE8, 0xB0);
-    encode("mask 80", 0x80, 0x80);
+    encode("encode A0", D, sizeof D, 0xA0);
+    encode("encode 80", D, sizeof D, 0x80);
+    encode("encode B0", D, sizeof D, 0xB0);
+    encode("mask 80", D_MASK_80, sizeof D_MASK_80, 0x80);
+    encode("start 1", D_START_1, sizeof D_START_1, 0xA0);
+    encode("start 2", D_START_2, sizeof D_START_2, 0xA0);
 }
 
 static void resume_rows(void)
@@ -78,6 +86,8 @@ static void decode_rows(decoder *by)
     decode("V, T = 6", by, V, 6);
     decode("zeros", by, ZEROS, 1);
     decode("32", by, LAST_32, 1);
+    decode_under(D_START_1, sizeof D_START_1, "start 1, zeros, T = 1", by, ZEROS, 1);
+    decode_under(D_START_1, sizeof D_START_1, "start 1, zeros, T = 2", by, ZEROS, 2);
 }
 
 int main(void)

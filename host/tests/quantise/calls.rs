@@ -2,7 +2,7 @@
 
 use host::reference::number::quantise_numbers;
 use host::reference::quantise::quantise;
-use host::testing::guard::{lend_input, lend_output, lend_reference};
+use host::testing::guard::{lend_input, lend_numbers, lend_output, lend_reference};
 use host::testing::library;
 
 /// The bits of the peak; the refusal or 0, then the clipped count, a refusal's first index, or 0;
@@ -20,28 +20,17 @@ fn samples_in(bytes: &[u8]) -> &[f32] {
     samples
 }
 
-/// The two numbers in lent bytes.
-fn numbers_in(bytes: &mut [u8]) -> &mut [u64; 2] {
-    // SAFETY: any bytes are a number.
-    let (before, numbers, after) = unsafe { bytes.align_to_mut() };
-    assert!(before.is_empty() && after.is_empty(), "lent out of place");
-    numbers.try_into().expect("two numbers")
-}
-
 /// The library's answer.
 fn run(scale: f32, samples: &[f32], before: &[u8]) -> Answer {
     let bytes: Vec<u8> = samples.iter().flat_map(|y| y.to_ne_bytes()).collect();
-    let call = |samples: &[u8], output: &mut [u8], numbers: &mut [u8]| {
-        let numbers = numbers_in(numbers);
-        let peak = library::quantise(scale, samples_in(samples), output, numbers);
-        (peak.to_bits(), *numbers)
-    };
-    let (((peak, numbers), _), output) = lend_input(&bytes, |samples| {
+    let ((peak, numbers), output) = lend_input(&bytes, |lent| {
         lend_output(before, |output| {
-            lend_output(&[0xEE; 16], |numbers| call(samples, output, numbers))
+            lend_numbers([0xEE; 2], |numbers| {
+                library::quantise(scale, samples_in(lent), output, numbers)
+            })
         })
     });
-    (peak, numbers, output)
+    (peak.to_bits(), numbers, output)
 }
 
 /// The reference's answer.

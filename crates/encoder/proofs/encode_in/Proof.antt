@@ -30,6 +30,7 @@ message-of-requires c κs =
     record {
       r-least = p .coded .r-least;
       r-most = p .coded .r-most;
+      start-fits = p .coded .start-fits;
       payload-size = omega (arith, p .well-formed .payload-size);
       message-size = part-length c;
     }

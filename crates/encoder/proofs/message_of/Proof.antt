@@ -2,7 +2,6 @@
 use mathlib.Core.Path.{_≡_, sym, ap, _∙_}
 use mathlib.Core.List.{List, _++_}
 use Prim.Native.Nat.{ℕ, _+_}
-use lib.Pow.{pow-pos}
 use native.Mathlib.Omega.{arith}
 use borrow.Author.Needs.{needs}
 use denote.Ref.{now}
@@ -52,6 +51,6 @@ message-of-spec =
     (λ c κs. omega (arith, part-length c, c .before .before .before .pre .payload-size))
     (λ c κs.
     let p = c .before .before .before .before .before .before .before .pre in
-    (record { some = p .r-least; most = p .r-most; fits = pow-pos _ }, whole-length (c .before .before .before)))
+    (record { some = p .r-least; most = p .r-most; fits = p .start-fits }, whole-length (c .before .before .before)))
     (λ c. search needs)
     returns)

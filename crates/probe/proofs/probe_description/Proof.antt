@@ -1,34 +1,30 @@
--- `probe::probe_description` meets its contract: an accepted k is small enough for its field.
-use mathlib.Core.Path.{_≡_, sym, ap, _∙_}
-use Prim.Native.Nat.{_≤_}
-use native.Mathlib.Omega.{arith}
+-- `probe::probe_description` meets its contract: the definition goes by what the description says.
+use mathlib.Core.Path.{sym, ap, _∙_}
+use mathlib.Core.List.{List}
+use Prim.Native.Nat.{ℕ}
 use borrow.Author.Needs.{needs}
 use denote.Ref.{now}
-use Rattle.arrays.specs.Claims.{longest}
-use Rattle.arrays.proofs.Sizes.{fits}
-use Rattle.code.specs.declared.Description.the-variants.{Accepted}
-use Rattle.code.specs.Description.{describe}
-use Rattle.code.proofs.Facts.{described}
-use Rattle.probe.specs.Contracts.{descriptionNumber}
+use Rattle.code.specs.declared.Description.{Description}
+use Rattle.probe.specs.Contracts.{descriptionNumbers}
 use Rattle.probe.proofs.probe_description.Statement.{statement}
 use Rattle.probe.proofs.probe_description.Tie as tie
 
--- the description is a code's
-is-code : (c : tie.After-code) → describe (now (c .before .before .before .before .args .d)) ≡ Accepted (c .code .given .0 .0)
-is-code c = sym (c .before .before .read-description .ensures) ∙ c .code .given .1
-
-k-small : (c : tie.After-code) → c .code .given .0 .0 .k ≤ longest
-k-small c =
-    let f = described _ _ (is-code c) .coded in
-    omega (arith, f .K-most, fits (f .n-most))
+-- by an answer of `describe`
+abbrev by : List ℕ → Description → ℕ × List ℕ
+by numbers x = descriptionNumbers x numbers
 
 returns : tie.Need-returns
-returns c = ap descriptionNumber (sym (is-code (c .before .before .before .before)))
+returns c =
+    let a = c .before .before .before .before .before in
+    let r = a .before .before in
+    ap (by (now (r .before .before .args .numbers))) (sym (a .code .given .1) ∙ r .read-description .ensures)
 
 returns-2 : tie.Need-returns-2
 returns-2 c =
     let x = c .before .before in
-    c .refusal-number .ensures ∙ ap descriptionNumber (sym (x .x .given .1) ∙ x .before .before .read-description .ensures)
+    let r = x .before .before in
+    let numbers = now (r .before .before .args .numbers) in
+    ap (λ (i : ℕ). (i, numbers)) (c .refusal-number .ensures) ∙ ap (by numbers) (sym (x .x .given .1) ∙ r .read-description .ensures)
 
 pub probe-description-spec : {M : Type 1} → statement M
 probe-description-spec =
@@ -44,8 +40,7 @@ probe-description-spec =
     (λ c. search needs)
     (λ c. search needs)
     (λ c. search needs)
-    (λ c. omega (arith, k-small (c .before .before .before .before)))
-    (λ c. omega (arith, k-small (c .before .before .before .before)))
+    (λ c. search needs)
     (λ c. search needs)
     (λ c κs. search needs)
     returns

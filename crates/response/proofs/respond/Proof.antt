@@ -9,7 +9,7 @@ use denote.Ref.{now}
 use lib.Dec.{eqb}
 use lib.ListN.{take}
 use lib.Seq.{length-take-le}
-use Rattle.code.specs.Description.{word}
+use Rattle.code.specs.Description.{word, isDescription}
 use Rattle.lines.specs.Line.{skipLine}
 use Rattle.frames.specs.Frame.{channelLine}
 use Rattle.response.specs.declared.Header.{Header}
@@ -18,7 +18,7 @@ use Rattle.response.proofs.Answers.{answers-line, answers-as}
 use Rattle.response.proofs.respond.Statement.{statement}
 use Rattle.response.proofs.respond.Tie as tie
 
--- the answer by what the tests of kind 1 and of kind 2 say
+-- the answer by what the tests of a description and of kind 2 say
 abbrev by-2 : List ℕ → List ℕ → Bool → List ℕ × List ℕ
 by-2 held bytes t = cond t (channelLine held bytes, held) (skipLine (word bytes 2), held)
 
@@ -38,28 +38,32 @@ module _ (c : tie.After-read-header) where
   kind-is : c .read-header .result .kind ≡ word bytes 2
   kind-is = ap (λ (h : Header). h .kind) (c .read-header .ensures .0)
 
-past-1 : (c : tie.Else1) → responded (held (c .before)) (bytes (c .before)) ≡ past (held (c .before)) (bytes (c .before))
+-- whether the record is a description
+described : (c : tie.After-is-description) → c .is-description .result ≡ isDescription (word (bytes (c .before)) 2)
+described c = c .is-description .ensures ∙ ap isDescription (kind-is (c .before))
+
+past-1 : (c : tie.Else1) → let h = c .before .before in responded (held h) (bytes h) ≡ past (held h) (bytes h)
 unfolding responded
-past-1 c = ap (by-1 (held (c .before)) (bytes (c .before))) (ne-eqb _ _ (λ e. c .if1 .left (kind-is (c .before) ∙ e)))
+past-1 c = let h = c .before .before in ap (by-1 (held h) (bytes h)) (sym (described (c .before)) ∙ c .if1 .left)
 
 returns : tie.Need-returns
 unfolding responded
 returns c =
     let t = c .before .before .before .before .before .before .before in
-    let h = t .before in
-    answers-as (c .before .before .before .before .respond-description .ensures) _ (sym (ap (by-1 (held h) (bytes h)) (eq-eqb _ _ (sym (kind-is h) ∙ t .if1 .taken))))
+    let h = t .before .before in
+    answers-as (c .before .before .before .before .respond-description .ensures) _ (ap (by-1 (held h) (bytes h)) (sym (t .if1 .taken) ∙ described (t .before)))
 
 returns-2 : tie.Need-returns-2
 returns-2 c =
     let t = c .before .before .before .before .before in
-    let h = t .before .before in
+    let h = t .before .before .before in
     answers-as (answers-line (c .before .before .put-channel .ensures) (h .before .before .before .before .pre .size-most)) _
     (sym (past-1 (t .before) ∙ ap (by-2 (held h) (bytes h)) (eq-eqb _ _ (sym (kind-is h) ∙ t .if2 .taken))))
 
 returns-3 : tie.Need-returns-3
 returns-3 c =
     let e = c .before .before .before .before .before in
-    let h = e .before .before in
+    let h = e .before .before .before in
     answers-as (answers-line (c .before .before .put-line .ensures) (h .before .before .before .before .pre .size-most)) _
     (ap (λ (kind : ℕ). (skipLine kind, held h)) (kind-is h)
     ∙ sym (past-1 (e .before) ∙ ap (by-2 (held h) (bytes h)) (ne-eqb _ _ (λ q. e .if2 .left (kind-is h ∙ q)))))
@@ -70,11 +74,12 @@ respond-spec =
     (tie.spec
     (λ c κs. search needs)
     (λ c κs. search needs)
+    (λ c κs. search needs)
     (λ c. search needs)
     (λ c. search needs)
     returns
     (λ c. search needs)
-    (λ c. sym (length-take-le _ _ (c .before .before .before .before .before .before .before .before .pre .size-most)))
+    (λ c. sym (length-take-le _ _ (c .before .before .before .before .before .before .before .before .before .pre .size-most)))
     (λ c κs. search needs)
     (λ c. search needs)
     (λ c. search needs)

@@ -4,7 +4,6 @@ use Prim.Native.Nat.{ℕ}
 use borrow.Author.Needs.{needs}
 use denote.Ref.{now}
 use lib.ListN.{length, take}
-use lib.Pow.{pow-pos}
 use Rattle.code.specs.Code.{codeLength, informationCount, divisor, startBits}
 use Rattle.crc.specs.Check.{passes}
 use Rattle.trial.specs.Trial.{messageIn}
@@ -30,7 +29,7 @@ passes-requires : tie.Need-passes-requires
 passes-requires c κs =
     let t = c .before .before .before .before .before in
     let p = s t .pre .0 in
-    (record { some = p .r-least; most = p .r-most; fits = pow-pos (s t .args .code .r) }, taken-length t)
+    (record { some = p .r-least; most = p .r-most; fits = p .start-fits }, taken-length t)
 
 returns : tie.Need-returns
 returns c =

@@ -1,0 +1,2 @@
+pub mod Silence
+pub mod Claims

@@ -1,0 +1,100 @@
+-- Document 02, request 2.1, at descriptions of kind 4: refusals at their edges, silence, and demand 3.
+use mathlib.Core.Path.{_≡_, refl}
+use mathlib.Core.List.{List, [], _∷_, _++_}
+use Prim.Native.Nat.{ℕ, _≤_}
+use native.Mathlib.Omega.{arith}
+use lib.ListN.{take, replicate}
+use Rattle.laws.specs.First.{firstWhere}
+use Rattle.laws.specs.Table.{table}
+use Rattle.refusal.specs.declared.Refusal.the-variants.{Alone}
+use Rattle.refusal.specs.Judge.{judge, refusedOr}
+use Rattle.bits.specs.Bit.{number}
+use Rattle.bits.specs.Mask.{onesBelow}
+use Rattle.bits.specs.Packing.{packed}
+use Rattle.code.specs.declared.Code.{Code}
+use Rattle.code.specs.declared.Description.the-variants.{Accepted as Coding, Refused as NoCode}
+use Rattle.code.specs.Description.{describe}
+use Rattle.code.specs.Claims.{withStart}
+use Rattle.crc.specs.Check.{checkOf}
+use Rattle.transform.specs.Transform.{covers, parity, transformed, xors}
+use Rattle.placing.specs.Place.{taken}
+use Rattle.values.specs.Values.{f, g, leftValues, rightValues}
+use Rattle.channel.specs.Channel.{channelValue}
+use Rattle.tree.specs.Node.{node}
+use Rattle.order.specs.Order.{information, insert, ordered}
+use Rattle.run.specs.declared.Decoded.the-variants.{Accepted, Failed}
+use Rattle.run.specs.Trials.{run}
+use Rattle.run.specs.WellFormed.{WellFormed}
+use Rattle.flip.specs.Decode.{decodedBy, decodedWith, decodedFull, decodedRestarted}
+use Rattle.demands.specs.Demand3.{BothDecode}
+use Rattle.demands.proofs.Demand3.{demand-3}
+use Rattle.start.specs.Silence.{silence}
+use Rattle.start.proofs.Silence.{silence-fails}
+use Rattle.lines.specs.Text.{text}
+use Rattle.lines.specs.Line.{decimalIn}
+use Rattle.frames.specs.Frame.{decodingLine, channelLine}
+use Rattle.response.specs.Respond.{descriptionResponse, responded}
+use Rattle.records.specs.Stream.{recordsIn, responses, printedFrom, printed}
+use Rattle.vectors.proofs.Descriptions.{D}
+
+-- D as a record of kind 4, with a start value of one byte
+abbrev D4 : ℕ → List ℕ
+D4 start = 0x0B ∷ 0x00 ∷ 0x04 ∷ 0x00 ∷ 0x03 ∷ 0x01 ∷ 0x01 ∷ 0x00 ∷ start ∷ 0x00 ∷ 0xE8 ∷ []
+
+-- n = 3, r = 1, k = 3, the polynomial z + 1, and start 1
+abbrev code4 : Code
+code4 = record { n = 3; r = 1; polynomial = 1; start = 1; k = 3 }
+
+-- D with another kind
+abbrev ofKind : ℕ → List ℕ
+ofKind kind = 0x09 ∷ 0x00 ∷ kind ∷ 0x00 ∷ 0x03 ∷ 0x01 ∷ 0x01 ∷ 0x00 ∷ 0xE8 ∷ []
+
+-- It is accepted, and its bytes are those of D with start 1. A start of 2 has a bit at r. Its first 8 or 9 bytes are too few, and 10 differ
+-- from the length field. Kinds 0, 2, 3 and 5 are no descriptions. With a polynomial of 0 and start 2, 7 comes before 25; with start 2 and
+-- one information index, 25 before 8.
+pub kind-4-rows :
+    (describe (D4 1) ≡ Coding code4)
+    × (withStart 1 D ≡ D4 1)
+    × (describe (D4 2) ≡ NoCode (Alone 25))
+    × (describe (take 8 (D4 1)) ≡ NoCode (Alone 1))
+    × (describe (take 9 (D4 1)) ≡ NoCode (Alone 1))
+    × (describe (take 10 (D4 1)) ≡ NoCode (Alone 2))
+    × (describe (ofKind 0) ≡ NoCode (Alone 3))
+    × (describe (ofKind 2) ≡ NoCode (Alone 3))
+    × (describe (ofKind 3) ≡ NoCode (Alone 3))
+    × (describe (ofKind 5) ≡ NoCode (Alone 3))
+    × (describe (0x0B ∷ 0x00 ∷ 0x04 ∷ 0x00 ∷ 0x03 ∷ 0x01 ∷ 0x00 ∷ 0x00 ∷ 0x02 ∷ 0x00 ∷ 0xE8 ∷ []) ≡ NoCode (Alone 7))
+    × (describe (0x0B ∷ 0x00 ∷ 0x04 ∷ 0x00 ∷ 0x03 ∷ 0x01 ∷ 0x01 ∷ 0x00 ∷ 0x02 ∷ 0x00 ∷ 0x80 ∷ []) ≡ NoCode (Alone 25))
+unfolding describe judge refusedOr onesBelow
+kind-4-rows = (refl, refl, refl, refl, refl, refl, refl, refl, refl, refl, refl, refl)
+
+describes : describe (D4 1) ≡ Coding code4
+describes = kind-4-rows .0
+
+-- ---- silence under it
+
+-- with T = 1 it is refused, by the theorem
+pub silent-at-1 : (byte : ℕ) → (decodedFull (D4 1) (silence code4) 1 (byte ∷ []) ≡ (Failed 1 24, byte ∷ [])) × (decodedRestarted (D4 1) (silence code4) 1 (byte ∷ []) ≡ (Failed 1 24, byte ∷ []))
+silent-at-1 byte = silence-fails (D4 1) code4 (byte ∷ []) describes (omega arith) refl
+
+-- with T = 2 it is accepted on trial 2, by computation: a start does not keep later trials from accepting silence
+pub heard-at-2 : (byte : ℕ) → (decodedFull (D4 1) (silence code4) 2 (byte ∷ []) ≡ (Accepted 2 48, 0x80 ∷ [])) × (decodedRestarted (D4 1) (silence code4) 2 (byte ∷ []) ≡ (Accepted 2 35, 0x80 ∷ []))
+unfolding judge refusedOr table number onesBelow packed describe checkOf covers parity transformed xors taken channelValue f g leftValues rightValues firstWhere node information insert ordered run decodedBy decodedWith
+heard-at-2 byte = (refl, refl)
+
+-- demand 3 there, for every T
+well-formed : (T byte : ℕ) → 1 ≤ T → T ≤ 5 → WellFormed code4 (silence code4) T (byte ∷ [])
+unfolding firstWhere channelValue
+well-formed T byte least most = record { channel-size = refl; in-range = refl; limit-least = least; limit-most = most; output-size = refl }
+
+pub both-decode-4 : (T byte byte′ : ℕ) → 1 ≤ T → T ≤ 5 → BothDecode (D4 1) code4 (silence code4) T (byte ∷ []) (byte′ ∷ [])
+both-decode-4 T byte byte′ least most =
+    demand-3 (D4 1) code4 (silence code4) T (byte ∷ []) (byte′ ∷ []) describes (well-formed T byte least most) (well-formed T byte′ least most)
+
+-- `receive` on D, silence with T = 1, D as kind 4, silence with T = 1 and with T = 2, and a refused start, which leaves the description held
+abbrev silent : ℕ → List ℕ
+silent T = 0x0E ∷ 0x00 ∷ 0x02 ∷ 0x00 ∷ T ∷ 0x00 ∷ replicate 8 0
+
+pub example-4 : printed (D ++ (silent 1 ++ (D4 1 ++ (silent 1 ++ (silent 2 ++ (D4 2 ++ silent 1)))))) ≡ text "code 8 3 1\nok 1 24 00\ncode 8 3 1\nno 16\nok 2 35 80\nno 25\nno 16\nend 7\n"
+unfolding judge refusedOr table number onesBelow packed describe checkOf covers parity transformed xors taken channelValue f g leftValues rightValues firstWhere node information insert ordered run decodedBy decodedWith decimalIn descriptionResponse decodingLine channelLine responded recordsIn responses printedFrom
+example-4 = refl

@@ -1,0 +1,31 @@
+//! Calls of the library on buffers that are lent between guard bytes. Each gives the answer, and the
+//! output after it.
+
+use crate::testing::guard::{lend_input, lend_output};
+use crate::testing::library::{self, Decoder};
+
+pub fn encode(d: &[u8], payload: &[u8], before: &[u8]) -> (u64, Vec<u8>) {
+    lend_input(d, |d| {
+        lend_input(payload, |payload| {
+            lend_output(before, |output| library::encode(d, payload, output))
+        })
+    })
+}
+
+pub fn resume(d: &[u8], channel: &[u8], prefix: &[u8], before: &[u8]) -> (u64, Vec<u8>) {
+    lend_input(d, |d| {
+        lend_input(channel, |channel| {
+            lend_input(prefix, |prefix| {
+                lend_output(before, |output| library::resume(d, channel, prefix, output))
+            })
+        })
+    })
+}
+
+pub fn decode(by: Decoder, d: &[u8], channel: &[u8], limit: u32, before: &[u8]) -> (u64, Vec<u8>) {
+    lend_input(d, |d| {
+        lend_input(channel, |channel| {
+            lend_output(before, |output| by(d, channel, limit, output))
+        })
+    })
+}
