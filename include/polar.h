@@ -16,7 +16,7 @@
  * coefficient of z^i, and z^r is understood. Bit b of byte m of the mask, b = 0 being the least bit, stands for index 8m + b: 1 for an
  * information index, 0 for a frozen one. K is the number of ones in the mask, and k = K - r the number of payload bits. The check is the
  * remainder of start * z^k + payload * z^r on division by the polynomial. Refusals of the description come first, in this order:
- *   1  fewer than 8 bytes, or fewer than 10 that say kind 4
+ *   1  fewer than 8 bytes, or fewer than 10 where bytes 2 and 3 say kind 4
  *   2  length field unequal to the bytes lent
  *   3  kind neither 1 nor 4
  *   4  n outside 3..10
@@ -29,7 +29,7 @@
  * Silence: with start 0, N zero values are accepted on trial 1 as a payload of zeros, so a receiver with a broken lead looks like a cab
  * that sends zeros. With a nonzero start they fail trial 1 under every code. A later trial may still accept them: whether and when is up
  * to the code and the start value. To know it, decode N zeros once with trial_limit K + 1: the trial that accepts them is the least limit
- * at which silence is accepted, and refusal 16 says that none does. Choose a start and a limit below that trial.
+ * at which silence is accepted, and refusal 16 says that none does. Choose a start, and a trial_limit below that trial.
  */
 #ifndef POLAR_H
 #define POLAR_H

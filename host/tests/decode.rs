@@ -1,5 +1,5 @@
-//! The library's decoders, held to the reference and to each other on more than 250,000 calls, half
-//! of them under descriptions of kind 4.
+//! The library's decoders, held to the reference and to each other on more than 250,000 calls, more
+//! than 120,000 of them under descriptions of kind 4.
 
 use host::reference::description::{describe, mask_of, record, with_start, Code, REFUSALS};
 use host::reference::encode::codeword;
@@ -13,7 +13,7 @@ use host::testing::decoders::{check, Pair, FULL, RESTARTED};
 use host::testing::met::Met;
 use host::testing::paper::{D, D_WITH_START, V};
 use host::testing::random::Random;
-use host::testing::samples::{self, for_refused_descriptions};
+use host::testing::samples::{self, for_descriptions, for_refused_descriptions};
 
 /// How often frames were accepted on trial 1, on a later trial, and not at all.
 #[derive(Default, Debug)]
@@ -99,37 +99,35 @@ fn silence_under_d_with_start_1() {
     assert_eq!(of(RESTARTED, 2), (number(0, 2, 35), vec![0x80]));
 }
 
-/// Every vector of −1, 0 and 1 with every T under D, and under D with start 1: nothing but zeros and
-/// ties.
 #[test]
 fn every_small_vector_of_the_paper_s_code() {
-    for d in [&D[..], &D_WITH_START] {
-        let mut outcomes = Outcomes::default();
-        for channel in samples::small_vectors() {
-            for limit in 1..=5 {
-                outcomes.count(check(d, &channel, limit, &[0xEE]));
-            }
+    every_small_vector(&D);
+    every_small_vector(&D_WITH_START);
+}
+
+/// Every vector of −1, 0 and 1 with every T: nothing but zeros and ties.
+fn every_small_vector(d: &[u8]) {
+    let mut outcomes = Outcomes::default();
+    for channel in samples::small_vectors() {
+        for limit in 1..=5 {
+            outcomes.count(check(d, &channel, limit, &[0xEE]));
         }
-        outcomes.at_least(1_000);
     }
+    outcomes.at_least(1_000);
 }
 
 #[test]
 fn every_limit_of_small_codes() {
-    let mut random = Random::new(1);
-    for n in 3..=5 {
-        for _ in 0..200 {
-            let d = samples::description(&mut random, n);
-            let largest = [1, 3, 31][random.below(3)];
-            let channel = samples::channel(&mut random, 1 << n, largest);
-            let most = code_of(&d).information() as u32 + 1;
-            for limit in 0..=most + 1 {
-                let allowed = (1..=most).contains(&limit);
-                let answer = check(&d, &channel, limit, &room(&mut random, &d));
-                assert_eq!(refusal_number(&answer) == 14, !allowed);
-            }
+    for_descriptions(1, 3..=5, 200, |random, d, code| {
+        let largest = [1, 3, 31][random.below(3)];
+        let channel = samples::channel(random, code.size(), largest);
+        let most = code.information() as u32 + 1;
+        for limit in 0..=most + 1 {
+            let allowed = (1..=most).contains(&limit);
+            let answer = check(d, &channel, limit, &room(random, d));
+            assert_eq!(refusal_number(&answer) == 14, !allowed);
         }
-    }
+    });
 }
 
 #[test]
@@ -138,19 +136,25 @@ fn limits_at_their_edges() {
     for n in LAYERS {
         for _ in 0..(3_000 >> n).max(3) {
             let d = samples::description(&mut random, n);
-            let channel = samples::channel(&mut random, 1 << n, 31);
-            let before = room(&mut random, &d);
-            let most = code_of(&d).information() as u32 + 1;
-            let largest = if n > 8 { 40 } else { most };
-            for limit in [1, 2, largest.min(most - 1), largest.min(most)] {
-                assert_ne!(refusal_number(&check(&d, &channel, limit, &before)), 14);
-            }
-            let beyond = [8, 16, 24, 31].map(|i| (1 << i) + 1).into_iter();
-            let beyond = beyond.filter(|&limit| limit > most);
-            for limit in beyond.chain([0, most + 1, u32::MAX]) {
-                assert_eq!(refusal_number(&check(&d, &channel, limit, &before)), 14);
-            }
+            check_limits(&mut random, &d);
         }
+    }
+}
+
+/// The least limits and the largest, of long codes at most 40, and some that are refused.
+fn check_limits(random: &mut Random, d: &[u8]) {
+    let code = code_of(d);
+    let channel = samples::channel(random, code.size(), 31);
+    let before = room(random, d);
+    let most = code.information() as u32 + 1;
+    let largest = if code.n > 8 { 40 } else { most };
+    for limit in [1, 2, largest.min(most - 1), largest.min(most)] {
+        assert_ne!(refusal_number(&check(d, &channel, limit, &before)), 14);
+    }
+    let beyond = [8, 16, 24, 31].map(|i| (1 << i) + 1).into_iter();
+    let beyond = beyond.filter(|&limit| limit > most);
+    for limit in beyond.chain([0, most + 1, u32::MAX]) {
+        assert_eq!(refusal_number(&check(d, &channel, limit, &before)), 14);
     }
 }
 
@@ -191,15 +195,21 @@ fn right_signs() {
     for n in LAYERS {
         for _ in 0..(20_000 >> n).max(50) {
             let d = samples::description(&mut random, n);
-            let (x, payload) = sent(&mut random, &d);
-            let channel = samples::noiseless(&mut random, &x);
-            let limit = limit(&mut random, &d, usize::MAX);
-            let accepted = number(0, 1, (n << n) as u64);
-            for decoder in [FULL, RESTARTED] {
-                let answer = decoder.run(&d, &channel, limit, &room(&mut random, &d));
-                assert_eq!(answer, (accepted, payload.clone()));
-            }
+            check_right_signs(&mut random, &d);
         }
+    }
+}
+
+/// The payload on trial 1, by both decoders.
+fn check_right_signs(random: &mut Random, d: &[u8]) {
+    let (x, payload) = sent(random, d);
+    let channel = samples::noiseless(random, &x);
+    let limit = limit(random, d, usize::MAX);
+    let n = code_of(d).n;
+    let accepted = number(0, 1, (n << n) as u64);
+    for decoder in [FULL, RESTARTED] {
+        let answer = decoder.run(d, &channel, limit, &room(random, d));
+        assert_eq!(answer, (accepted, payload.clone()));
     }
 }
 
@@ -254,44 +264,35 @@ fn garbage() {
 
 #[test]
 fn values_out_of_range() {
-    let mut random = Random::new(7);
-    for n in LAYERS {
-        for _ in 0..100 {
-            let d = samples::description(&mut random, n);
-            let size = 1 << n;
-            let before = room(&mut random, &d);
-            for place in [0, size - 1, random.below(size)] {
-                let mut channel = samples::channel(&mut random, size, 31);
-                channel[place] = [32, 224, 127, 128][random.below(4)];
-                let refused = Err(Refusal::At(13, place));
-                assert_eq!(check(&d, &channel, 1, &before), refused);
-            }
+    for_descriptions(7, LAYERS, 100, |random, d, code| {
+        let size = code.size();
+        let before = room(random, d);
+        for place in [0, size - 1, random.below(size)] {
+            let mut channel = samples::channel(random, size, 31);
+            channel[place] = [32, 224, 127, 128][random.below(4)];
+            let refused = Err(Refusal::At(13, place));
+            assert_eq!(check(d, &channel, 1, &before), refused);
         }
-    }
+    });
 }
 
 #[test]
 fn wrong_lengths() {
-    let mut random = Random::new(8);
-    for n in LAYERS {
-        for _ in 0..50 {
-            let d = samples::description(&mut random, n);
-            let size = 1 << n;
-            let channel = samples::channel(&mut random, size, 31);
-            let before = room(&mut random, &d);
-            for length in [0, 1, size / 2, size - 1, size + 1, 2 * size, 65_536] {
-                let answer = check(&d, &vec![0; length], 1, &before);
-                assert_eq!(refusal_number(&answer), 12);
-            }
-            let right = before.len();
-            for length in [0, right - 1, right + 1, 2 * right, size, 65_536] {
-                let before = random.bytes(length);
-                if length != right {
-                    assert_eq!(refusal_number(&check(&d, &channel, 1, &before)), 15);
-                }
-            }
+    for_descriptions(8, LAYERS, 50, |random, d, code| {
+        let size = code.size();
+        let channel = samples::channel(random, size, 31);
+        let before = room(random, d);
+        for length in [0, 1, size / 2, size - 1, size + 1, 2 * size, 65_536] {
+            let answer = check(d, &vec![0; length], 1, &before);
+            assert_eq!(refusal_number(&answer), 12);
         }
-    }
+        let right = before.len();
+        let lengths = [0, right - 1, right + 1, 2 * right, size, 65_536];
+        for length in lengths.into_iter().filter(|&length| length != right) {
+            let answer = check(d, &channel, 1, &random.bytes(length));
+            assert_eq!(refusal_number(&answer), 15);
+        }
+    });
 }
 
 #[test]

@@ -1,8 +1,9 @@
-//! The library's reading of descriptions, held to the reference on more than 400,000 inputs, half of
-//! them of kind 4 or nearly so.
+//! The library's reading of descriptions, held to the reference on more than 400,000 inputs, more
+//! than 200,000 of which say kind 4.
 
 use host::reference::description::{
-    describe, has_start, header_length, record, with_start, Code, LONGEST_DESCRIPTION, REFUSALS,
+    describe, has_start, header_length, record, with_start, word, Code, LONGEST_DESCRIPTION,
+    REFUSALS,
 };
 use host::reference::sizes::{DEEPEST, LAYERS, LONGEST, LONGEST_RECORD};
 use host::testing::guard::{lend_input, lend_numbers};
@@ -62,8 +63,9 @@ fn length_field(bytes: usize) -> [u8; 2] {
     (bytes as u16).to_le_bytes()
 }
 
-/// Each row with its refusal, or 0: those of the paper, each rule at its edges, several faults.
-const ROWS: [(usize, &str); 28] = [
+/// Each row with its refusal, or 0: those of the paper and each rule at its edges; then every rule
+/// is broken, and they are mended one by one.
+const ROWS: [(usize, &str); 31] = [
     (0, "09 00 01 00 03 01 01 00 E8"),
     (0, "09 00 01 00 03 01 01 00 C0"),
     (8, "09 00 01 00 03 01 01 00 80"),
@@ -86,16 +88,20 @@ const ROWS: [(usize, &str); 28] = [
     (0, "09 00 01 00 03 03 05 00 E8"),
     (8, "0A 00 01 00 04 03 03 00 01 C0"),
     (0, "0A 00 01 00 04 03 03 00 01 E0"),
+    (1, "FF FF FF FF FF FF FE"),
     (2, "FF FF FF FF FF FF FE FF 00"),
     (3, "09 00 FF FF FF FF FE FF 00"),
     (4, "09 00 01 00 FF FF FE FF 00"),
     (5, "09 00 01 00 04 FF FE FF 00"),
     (6, "09 00 01 00 03 FF FE FF 00"),
     (7, "09 00 01 00 03 01 FE FF 00"),
+    (8, "09 00 01 00 03 01 01 00 00"),
+    (0, "09 00 01 00 03 01 01 00 03"),
 ];
 
-/// The same of kind 4, and what is nearly of kind 4.
-const ROWS_OF_KIND_4: [(usize, &str); 28] = [
+/// The same of kind 4, and what is nearly of kind 4. Where every rule is broken r is 0, so that any
+/// start bit stands above it.
+const ROWS_OF_KIND_4: [(usize, &str); 38] = [
     (0, "0B 00 04 00 03 01 01 00 01 00 E8"),
     (0, "0B 00 04 00 03 01 01 00 00 00 E8"),
     (0, "0B 00 04 00 03 01 01 00 01 00 C0"),
@@ -124,6 +130,16 @@ const ROWS_OF_KIND_4: [(usize, &str); 28] = [
     (0, "0B 00 04 00 03 03 05 00 07 00 E8"),
     (25, "0B 00 04 00 03 03 05 00 01 80 E8"),
     (0, "0E 00 04 00 05 10 05 80 FF FF FF FF FF 0F"),
+    (1, "FF FF 04 00 FF 00 FE FF FF"),
+    (2, "FF FF FF FF FF 00 FE FF FF FF 00"),
+    (3, "0B 00 FF FF FF 00 FE FF FF FF 00"),
+    (4, "0B 00 04 00 FF 00 FE FF FF FF 00"),
+    (5, "0B 00 04 00 04 00 FE FF FF FF 00"),
+    (6, "0B 00 04 00 03 00 FE FF FF FF 00"),
+    (7, "0B 00 04 00 03 01 FE FF FF FF 00"),
+    (25, "0B 00 04 00 03 01 01 00 FF FF 00"),
+    (8, "0B 00 04 00 03 01 01 00 00 00 00"),
+    (0, "0B 00 04 00 03 01 01 00 00 00 03"),
 ];
 
 /// Of each kind, each refusal with the one that follows it: both apply, and the first is given.
@@ -162,16 +178,20 @@ fn every_set_of_faults() {
         for set in 0..1 << REFUSALS.len() {
             let chosen = (0..REFUSALS.len()).filter(|place| set >> place & 1 == 1);
             let faults: Vec<usize> = chosen.map(|place| REFUSALS[place]).collect();
-            let first = faults.first().copied().unwrap_or(0);
             let plain = samples::description_of_kind_1(&mut random, n);
             let start = samples::start(&mut random, plain[5].into());
-            for mut d in [with_start(&plain, start), plain] {
-                if faults.iter().all(|&fault| samples::can_break(&d, fault)) {
-                    samples::put_faults(&mut random, &mut d, &faults);
-                    assert_eq!(check(&d), first, "{faults:?} {d:02x?}");
-                }
-            }
+            check_faults(&mut random, with_start(&plain, start), &faults);
+            check_faults(&mut random, plain, &faults);
         }
+    }
+}
+
+/// Puts these faults into an accepted description, where it can have them all.
+fn check_faults(random: &mut Random, mut d: Vec<u8>, faults: &[usize]) {
+    if faults.iter().all(|&fault| samples::can_break(&d, fault)) {
+        samples::put_faults(random, &mut d, faults);
+        let first = faults.first().copied().unwrap_or(0);
+        assert_eq!(check(&d), first, "{faults:?} {d:02x?}");
     }
 }
 
@@ -196,35 +216,38 @@ fn start_bits_below_r_and_above() {
         for r in 1..=16.min(size - 1) {
             let polynomial = samples::polynomial(&mut random, r);
             let d = record(n, r, polynomial, &vec![true; size]);
-            for i in 0..16 {
-                let start = 1 << i | random.below(1 << i) as u16;
-                let refusal = if i < r { 0 } else { 25 };
-                assert_eq!(check(&with_start(&d, start)), refusal);
-            }
-            assert_eq!(check(&with_start(&d, 0)), 0);
+            check_start_bits(&mut random, &d, r);
         }
+    }
+}
+
+fn check_start_bits(random: &mut Random, d: &[u8], r: usize) {
+    assert_eq!(check(&with_start(d, 0)), 0);
+    for i in 0..16 {
+        let start = 1 << i | random.below(1 << i) as u16;
+        let refusal = if i < r { 0 } else { 25 };
+        assert_eq!(check(&with_start(d, start)), refusal);
     }
 }
 
 /// Slices that say kind 4 have 10 bytes at least, whatever their length field says.
 #[test]
 fn the_least_bytes_of_kind_4() {
-    let mut random = Random::new(10);
-    for n in LAYERS {
-        for _ in 0..50 {
-            let d = with_start(&samples::description(&mut random, n), 1);
-            for length in 4..11 {
-                for field in [length, d.len(), 8, 9, 10, random.below(65_536)] {
-                    let refusal = match length {
-                        10 if field == length => 5,
-                        10 => 2,
-                        _ => 1,
-                    };
-                    let slice = &d[..length];
-                    assert_eq!(check_with(slice, 0, &length_field(field)), refusal);
-                }
-            }
+    for_accepted(10, 50, |random, d| {
+        let d = with_start(d, 1);
+        for length in 4..10 {
+            check_fields(random, &d, length, [1, 1]);
         }
+        check_fields(random, &d, 10, [5, 2]);
+    });
+}
+
+/// Checks the first bytes of a description: with the right length field for the first refusal, with
+/// others for the second.
+fn check_fields(random: &mut Random, d: &[u8], length: usize, [right, wrong]: [usize; 2]) {
+    for field in [length, d.len(), 8, 9, 10, random.below(65_536)] {
+        let refusal = if field == length { right } else { wrong };
+        assert_eq!(check_with(&d[..length], 0, &length_field(field)), refusal);
     }
 }
 
@@ -291,8 +314,7 @@ fn each_field_at_its_edges() {
         let words: &[usize] = if has_start(d) { &[6, 8] } else { &[6] };
         for &place in words {
             for i in 0..16 {
-                let word = u16::from_le_bytes([d[place], d[place + 1]]) ^ 1 << i;
-                with(place, &word.to_le_bytes());
+                with(place, &(word(d, place) ^ 1 << i).to_le_bytes());
             }
         }
         with(8, &vec![0; size - 8]);
@@ -305,17 +327,21 @@ fn each_field_at_its_edges() {
 fn ones_around_the_check_width() {
     let mut random = Random::new(6);
     for n in LAYERS {
-        let size = 1 << n;
         for r in 1..=16 {
-            for ones in r - 1..=(r + 2).min(size) {
-                for _ in 0..20 {
-                    let polynomial = samples::polynomial(&mut random, r);
-                    let mask = samples::mask(&mut random, size, ones);
-                    let refusal = if ones > r { 0 } else { 8 };
-                    let d = record(n, r, polynomial, &mask);
-                    assert_eq!(check(&samples::either_kind(&mut random, d)), refusal);
-                }
-            }
+            check_ones_around(&mut random, n, r);
+        }
+    }
+}
+
+/// Twenty masks of each number of ones.
+fn check_ones_around(random: &mut Random, n: usize, r: usize) {
+    let size = 1 << n;
+    for ones in r - 1..=(r + 2).min(size) {
+        let refusal = if ones > r { 0 } else { 8 };
+        for _ in 0..20 {
+            let polynomial = samples::polynomial(random, r);
+            let d = record(n, r, polynomial, &samples::mask(random, size, ones));
+            assert_eq!(check(&samples::either_kind(random, d)), refusal);
         }
     }
 }
@@ -330,13 +356,18 @@ fn random_bytes() {
 
         let n = samples::layers(&mut random);
         for kind in [1, 4] {
-            let header = header_length(kind.into()).expect("a description's kind");
-            let d = random.bytes(header + (1 << n) / 8);
-            let [low, high] = length_field(d.len());
-            let header = [low, high, kind, 0, n as u8, random.byte() % 20];
-            for right in [2, 4, 5, 6] {
-                check_with(&d, 0, &header[..right]);
-            }
+            check_headers(&mut random, kind, n);
         }
+    }
+}
+
+/// As many bytes as a description of this kind and n has.
+fn check_headers(random: &mut Random, kind: u8, n: usize) {
+    let header = header_length(kind.into()).expect("a description's kind");
+    let d = random.bytes(header + (1 << n) / 8);
+    let [low, high] = length_field(d.len());
+    let header = [low, high, kind, 0, n as u8, random.byte() % 20];
+    for right in [2, 4, 5, 6] {
+        check_with(&d, 0, &header[..right]);
     }
 }

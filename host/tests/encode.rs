@@ -1,4 +1,4 @@
-//! The library's encoder, held to the reference on more than 350,000 calls, more than half of them
+//! The library's encoder, held to the reference on more than 350,000 calls, more than 250,000 of them
 //! under descriptions of kind 4.
 
 use host::reference::description::{
@@ -59,13 +59,18 @@ fn every_payload_of_every_code_of_length_8() {
         let mask: Vec<bool> = (0..8).map(|index| bits >> index & 1 == 1).collect();
         let ones = bits.count_ones() as usize;
         for r in 1..ones {
-            for half in 0..1 << (r - 1) {
-                let d = record(3, r, 2 * half + 1, &mask);
-                every_payload(&d, ones - r);
-                for start in 0..1 << r {
-                    every_payload(&with_start(&d, start), ones - r);
-                }
-            }
+            every_check(&mask, r, ones - r);
+        }
+    }
+}
+
+/// Every polynomial of width r, without a start and with each.
+fn every_check(mask: &[bool], r: usize, k: usize) {
+    for half in 0..1 << (r - 1) {
+        let d = record(3, r, 2 * half + 1, mask);
+        every_payload(&d, k);
+        for start in 0..1 << r {
+            every_payload(&with_start(&d, start), k);
         }
     }
 }

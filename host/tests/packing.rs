@@ -62,14 +62,19 @@ fn pack_refuses_wrong_lengths() {
 fn pack_refuses_other_bytes_than_0_and_1() {
     let mut random = Random::new(3);
     for count in 1..=MOST {
-        let before = random.bytes(packed_length(count));
         for place in [0, random.below(count), count - 1] {
-            for byte in [2, 3, 128, 255, random.byte() | 2] {
-                let mut bits = random.bits(count);
-                bits[place] = byte;
-                refused(library::pack, &bits, &before);
-            }
+            refuses_at(&mut random, count, place);
         }
+    }
+}
+
+/// Other bytes at one place.
+fn refuses_at(random: &mut Random, count: usize, place: usize) {
+    let before = random.bytes(packed_length(count));
+    for byte in [2, 3, 128, 255, random.byte() | 2] {
+        let mut bits = random.bits(count);
+        bits[place] = byte;
+        refused(library::pack, &bits, &before);
     }
 }
 

@@ -106,7 +106,7 @@ fn plain_quantisers_agree_with_the_reference() {
         let expected = quantised(scale, &samples, room);
         for codec in others() {
             let mut output = vec![0xEE; room];
-            let mut numbers = [7; 2];
+            let mut numbers = [u64::from_ne_bytes([0xEE; 8]); 2];
             let peak = (codec.quantise)(scale, &samples, &mut output, &mut numbers);
             let result = (peak.to_bits(), numbers, output);
             assert_eq!(result, expected, "{}: {scale} {samples:?}", codec.name);

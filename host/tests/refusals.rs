@@ -6,7 +6,7 @@ use host::testing::files::text;
 
 /// Words of the documents for each refusal, from 1 on.
 const WORDS: [&str; 25] = [
-    "fewer than 8 bytes, or fewer than 10 that say kind 4",
+    "fewer than 8 bytes, or fewer than 10 where bytes 2 and 3 say kind 4",
     "length field",
     "neither 1 nor 4",
     "outside 3..",

@@ -12,9 +12,23 @@ use host::reference::sizes::LAYERS;
 use host::silence::{first_accepted, run};
 use host::testing::decoders::{check, FULL, REFERENCE, RESTARTED};
 use host::testing::files::repository;
-use host::testing::library;
+use host::testing::lent;
+use host::testing::library::{self, Decoder};
 use host::testing::random::Random;
 use host::testing::samples;
+
+/// The library's decoders on buffers between guard bytes.
+const LENT_FULL: Decoder =
+    |d, channel, limit, payload| decode_lent(library::decode_full, d, channel, limit, payload);
+const LENT_RESTARTED: Decoder =
+    |d, channel, limit, payload| decode_lent(library::decode_restarted, d, channel, limit, payload);
+
+/// Lends all that a decoder is given, and copies its output back.
+fn decode_lent(by: Decoder, d: &[u8], channel: &[u8], limit: u32, payload: &mut [u8]) -> u64 {
+    let (answer, after) = lent::decode(by, d, channel, limit, payload);
+    payload.copy_from_slice(&after);
+    answer
+}
 
 /// Gives descriptions of kind 4 whose start is not 0 to a test, more of the shorter codes.
 fn for_starts(seed: u64, count: usize, mut test: impl FnMut(&mut Random, &[u8], &Code)) {
@@ -78,22 +92,27 @@ fn silence_is_accepted_where_the_powers_of_z_say() {
     for n in LAYERS {
         for _ in 0..(2_000 >> n).max(4) {
             let d = samples::description(&mut random, n);
-            let code = describe(&d).expect("a code");
-            let passing = passing_starts(&code);
-            let all = 1 << code.r;
-            let some = [0; 8].map(|_| passing[random.below(passing.len())]);
-            let others = (0..all).step_by(1 + all as usize / 24);
-            for start in others.chain(some) {
-                let place = passing.iter().position(|&passing| passing == start);
-                let expected = match start {
-                    0 => Some(1),
-                    _ => place.map(|place| place as u32 + 2),
-                };
-                let d = with_start(&d, start as u16);
-                let accepted = first_accepted(library::decode_restarted, &d);
-                assert_eq!(accepted.map(|found| found.trial), expected, "{d:02x?}");
-            }
+            check_trials(&mut random, &d);
         }
+    }
+}
+
+/// The trial that accepts silence, with each of some starts.
+fn check_trials(random: &mut Random, d: &[u8]) {
+    let code = describe(d).expect("a code");
+    let passing = passing_starts(&code);
+    let all = 1 << code.r;
+    let some = [0; 8].map(|_| passing[random.below(passing.len())]);
+    let others = (0..all).step_by(1 + all as usize / 24);
+    for start in others.chain(some) {
+        let place = passing.iter().position(|&passing| passing == start);
+        let expected = match start {
+            0 => Some(1),
+            _ => place.map(|place| place as u32 + 2),
+        };
+        let d = with_start(d, start as u16);
+        let accepted = first_accepted(LENT_RESTARTED, &d);
+        assert_eq!(accepted.map(|found| found.trial), expected, "{d:02x?}");
     }
 }
 
@@ -103,9 +122,9 @@ fn the_search_agrees_with_the_reference() {
     for n in LAYERS {
         for _ in 0..(800 >> n).max(1) {
             let d = samples::description(&mut random, n);
-            let by_library = first_accepted(library::decode_restarted, &d);
+            let by_library = first_accepted(LENT_RESTARTED, &d);
             assert_eq!(by_library, first_accepted(REFERENCE, &d), "{d:02x?}");
-            assert_eq!(by_library, first_accepted(library::decode_full, &d));
+            assert_eq!(by_library, first_accepted(LENT_FULL, &d), "{d:02x?}");
         }
     }
 }

@@ -68,16 +68,21 @@ fn decoders() {
     ];
     let mut random = Random::new(3);
     for d in descriptions() {
-        let code = describe(&d).expect("a code");
         let channel = samples::channel(&mut random, LONGEST, 31);
-        let mut payload = vec![0; packed_length(code.k)];
-        for limit in [1, 2, code.information() as u32 + 1] {
-            for (name, decode) in both {
-                keeps_to(32 * KIB, &format!("{name}, T = {limit}"), || {
-                    let answer = decode(&d, &channel, limit, &mut payload);
-                    assert!([0, 16].contains(&(answer & 0xFF)));
-                });
-            }
+        for (name, decode) in both {
+            decoder(name, decode, &d, &channel);
         }
+    }
+}
+
+/// A decoder at the least limits and at the largest.
+fn decoder(name: &str, decode: library::Decoder, d: &[u8], channel: &[u8]) {
+    let code = describe(d).expect("a code");
+    let mut payload = vec![0; packed_length(code.k)];
+    for limit in [1, 2, code.information() as u32 + 1] {
+        keeps_to(32 * KIB, &format!("{name}, T = {limit}"), || {
+            let answer = decode(d, channel, limit, &mut payload);
+            assert!([0, 16].contains(&(answer & 0xFF)));
+        });
     }
 }

@@ -1,10 +1,10 @@
 -- Which descriptions are accepted, and what an accepted one says, the facts that encoder and decoders build on.
 use mathlib.Core.Path.{_≡_}
 use mathlib.Core.Bool.{Bool, true, false}
-use mathlib.Core.List.{List, [], _∷_, _++_}
+use mathlib.Core.List.{List, [], _∷_}
 use Prim.Native.Nat.{ℕ, _+_, _-_, _*_, _/_, _%_, _^_, _≤_, _<_}
 use lib.Dec.{ltb}
-use lib.ListN.{length, getD, take, drop}
+use lib.ListN.{length, getD, drop}
 use Rattle.refusal.specs.declared.Refusal.{Refusal}
 use Rattle.refusal.specs.declared.Refusal.the-variants.{Alone}
 use Rattle.refusal.specs.Judge.{differs, outside, judge, refusedOr}
@@ -84,22 +84,39 @@ kind1Refusals d =
     ∷ (ltb (onesIn (drop 8 d)) (r + 1), Alone 8)
     ∷ []
 
--- its code, with a start value
-abbrev pub kind1Code : ℕ → List ℕ → Code
-kind1Code start d = record { n = getD d 4 0; r = getD d 5 0; polynomial = word d 6; start = start; k = onesIn (drop 8 d) - getD d 5 0 }
+-- its code, whose check starts at 0
+abbrev pub kind1Code : List ℕ → Code
+kind1Code d = record { n = getD d 4 0; r = getD d 5 0; polynomial = word d 6; start = 0; k = onesIn (drop 8 d) - getD d 5 0 }
 
--- Its answer, whose start is 0. `kind-1`: the answer to every slice that does not say kind 4.
+-- `kind-1`: the answer to every slice that does not say kind 4
 abbrev pub describeKind1 : List ℕ → Description
-describeKind1 d = refusedOr (judge (kind1Refusals d)) Refused (Accepted (kind1Code 0 d))
+describeKind1 d = refusedOr (judge (kind1Refusals d)) Refused (Accepted (kind1Code d))
 
--- the record of kind 4 with the fields and the mask of the record d of kind 1, and a start value
+-- Document 02, request 2.1, by itself knows kind 4: at least 10 bytes, refusal 25 between 7 and 8, and the mask from byte 10 on.
+abbrev pub kind4Refusals : List ℕ → List (Bool × Refusal)
+kind4Refusals d =
+    let n = getD d 4 0 in
+    let r = getD d 5 0 in
+    (ltb (length d) 10, Alone 1)
+    ∷ (differs (word d 0) (length d), Alone 2)
+    ∷ (outside n 3 deepest, Alone 4)
+    ∷ (differs (length d) (10 + 2 ^ n / 8), Alone 5)
+    ∷ (outside r 1 16, Alone 6)
+    ∷ (badPolynomial (word d 6) r, Alone 7)
+    ∷ (isWide (word d 8) r, Alone 25)
+    ∷ (ltb (onesIn (drop 10 d)) (r + 1), Alone 8)
+    ∷ []
+
+abbrev pub kind4Code : List ℕ → Code
+kind4Code d = record { n = getD d 4 0; r = getD d 5 0; polynomial = word d 6; start = word d 8; k = onesIn (drop 10 d) - getD d 5 0 }
+
+-- `kind-4`: the answer to every slice that says kind 4
+abbrev pub describeKind4 : List ℕ → Description
+describeKind4 d = refusedOr (judge (kind4Refusals d)) Refused (Accepted (kind4Code d))
+
+-- the record of kind 4 with the fields and the mask of the record d of kind 1, and a start value. `start-0`: with start 0 it has the answer
+-- to d, where d has the 8 bytes of its fields.
 abbrev pub withStart : ℕ → List ℕ → List ℕ
 withStart start d =
     let size = word d 0 + 2 in
     size % 256 ∷ size / 256 ∷ 4 ∷ 0 ∷ getD d 4 0 ∷ getD d 5 0 ∷ getD d 6 0 ∷ getD d 7 0 ∷ start % 256 ∷ start / 256 ∷ drop 8 d
-
--- Its answer: refusal 25 stands between 7 and 8, and the code has the start. `kind-4`; `start-0`: with start 0 it is the answer to d.
-abbrev pub describeKind4 : ℕ → List ℕ → Description
-describeKind4 start d =
-    refusedOr (judge (take 7 (kind1Refusals d) ++ ((isWide start (getD d 5 0), Alone 25) ∷ drop 7 (kind1Refusals d)))) Refused
-    (Accepted (kind1Code start d))

@@ -27,8 +27,8 @@ hasStart kind = eqb kind 4
 abbrev pub isDescription : ℕ → Bool
 isDescription kind = eqb kind 1 || hasStart kind
 
--- where the mask stands in a description of a kind; fewer bytes are refusal 1. Past the end of a slice `word` reads zeros: too few bytes to
--- say a kind are fewer than 8.
+-- where the mask stands: at byte 10 for kind 4, at byte 8 for every other kind. A slice with fewer bytes is refused 1. Past its end `word` reads
+-- zeros: a slice too short to say a kind has fewer than 8.
 abbrev pub maskAt : ℕ → ℕ
 maskAt kind = cond (hasStart kind) 10 8
 

@@ -109,7 +109,7 @@ fn is_bad_polynomial(p: u32, r: u32) -> bool
     p & 1 == 0 || is_wide(p, r)
 }
 
-// Whether the fields of the kind that the bytes say do not fit.
+// Whether there are fewer bytes than the fields of the kind take.
 fn is_short(d: &[u8]) -> bool
     ensures { λ b. ⌜ b ≡ ltb (length (now (d .entry))) (maskAt (word (now (d .entry)) 2)) ⌝ }
 {

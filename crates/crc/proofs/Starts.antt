@@ -4,14 +4,14 @@ use mathlib.Core.Path.{_≡_, refl, sym, ap, _∙_}
 use mathlib.Core.List.{List, [], _∷_}
 use Prim.Native.Nat.{ℕ, zero, suc, _+_, _-_, _*_, _%_, _<_}
 use native.Mathlib.Omega.{arith}
-use lib.ListN.{length, replicate, getD, getD-replicate}
+use lib.ListN.{length, replicate, getD, length-replicate, getD-replicate, replicate-append-replicate}
 use lib.Seq.{getD-append-add}
 use Rattle.bits.specs.Claims.{Bits}
 use Rattle.bits.proofs.Lists.{bits-tail}
 use Rattle.crc.specs.Polynomial.{raised, addHighest, scale}
 use Rattle.crc.specs.Check.{checkOf}
 use Rattle.crc.specs.Contracts.{step}
-use Rattle.crc.proofs.Polynomial.{cons, length-scale, length-add, length-raised, bits-raised, bits-add, zeros-add, add-self, add-equal}
+use Rattle.crc.proofs.Polynomial.{cons, length-scale, length-add, length-raised, bits-zeros, bits-raised, bits-add, zeros-add, add-self, add-equal}
 use Rattle.crc.proofs.Register.{run, length-step, bits-step, run-check, step-linear}
 
 -- coefficients of a multiple and of a sum
@@ -57,6 +57,26 @@ run-sum t (b ∷ bs) x y h k p =
     let none : 0 ≡ (b + b) % 2 = omega arith in
     ap (λ (g : List ℕ). run t g (replicate (length bs) 0)) (ap (step t (addHighest x y)) none ∙ step-linear t x y b b h k)
     ∙ run-sum t bs (step t x b) (step t y b) (length-step t x b h) (length-step t y b k) (bits-tail p)
+
+-- zeros step to zeros
+step-none : (t : List ℕ) → 0 < length t → step t (replicate (length t) 0) 0 ≡ replicate (length t) 0
+step-none [] l = absurd (omega arith)
+step-none (a ∷ t) l =
+    let n = length t in
+    let lr = length-replicate {A = ℕ} n 0 in
+    let more : n + 1 ≡ suc n = omega arith in
+    ap (λ (x : List ℕ). addHighest x (raised (replicate n 0) 1)) (scale-zero (a ∷ t))
+    ∙ zeros-add (suc n) (raised (replicate n 0) 1) (omega (arith, length-raised (replicate n 0) 1)) (bits-raised (replicate n 0) 1 (bits-zeros n))
+    ∙ replicate-append-replicate n 1 0 ∙ ap (λ (m : ℕ). replicate m 0) more
+
+run-none : (t : List ℕ) (k : ℕ) → 0 < length t → run t (replicate (length t) 0) (replicate k 0) ≡ replicate (length t) 0
+run-none t zero l = refl
+run-none t (suc k) l = ap (λ (g : List ℕ). run t g (replicate k 0)) (step-none t l) ∙ run-none t k l
+
+-- k zeros with start 0 have the check 0
+pub zeros-check : (t : List ℕ) (k : ℕ) → 0 < length t → checkOf t (replicate (length t) 0) (replicate k 0) ≡ replicate (length t) 0
+zeros-check t k l =
+    sym (run-check t (replicate (length t) 0) (replicate k 0) l (length-replicate {A = ℕ} (length t) 0) (bits-zeros (length t))) ∙ run-none t k l
 
 module _ (t : List ℕ) (odd : lowest t ≡ 1) where
   -- What a step strikes out comes back as the lowest coefficient. So only zeros step to zeros.

@@ -1,4 +1,4 @@
--- Document 01, "Check and encoder": encode, with the refusals of a description, 9, 10 and 11 in order.
+-- Document 01, "Check and encoder", and document 02, request 2.1: encode, with the refusals of a description, 9, 10 and 11 in order.
 use mathlib.Core.Bool.{Bool}
 use mathlib.Core.List.{List, [], _∷_, _++_}
 use Prim.Native.Nat.{ℕ, _/_}

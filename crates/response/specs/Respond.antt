@@ -1,5 +1,5 @@
--- Document 01, "Program `receive`", and document 02, request 2.1: what one record does, from the held description and the record's bytes. Nothing held is the empty
--- list: no accepted description is empty.
+-- Document 01, "Program `receive`", and document 02, request 2.1: what one record does, from the held description and the record's bytes.
+-- Nothing held is the empty list: no accepted description is empty.
 use mathlib.Core.Bool.{cond}
 use mathlib.Core.List.{List}
 use Prim.Native.Nat.{ℕ}

@@ -1,4 +1,5 @@
--- Silence: zero values decode to zeros, and the check of zeros is zero only where the start is. Any bits pass with one start alone.
+-- Silence: zero values decode to zeros, and the check of zeros is zero exactly where the start is. Bits pass with at most one
+-- start.
 use mathlib.Core.Path.{_≡_, refl, sym, ap, ap₂, _∙_}
 use mathlib.Core.Bool.{true, false, true≢false}
 use mathlib.Core.Logic.{⊎-elim}
@@ -10,10 +11,11 @@ use lib.Dec.{ltb}
 use lib.IntN.{ℤ, pos, negsuc, natAbs}
 use lib.ListN.{length, replicate, getD, take, drop, length-replicate, replicate-append-replicate, List·getD-map}
 use Rattle.laws.proofs.First.{first-is}
+use Rattle.laws.proofs.Segment.{take-replicate}
 use Rattle.laws.proofs.Table.{getD-table}
 use Rattle.bits.specs.Bit.{bit, bitsOf}
 use Rattle.bits.specs.Mask.{maskBit, onesBelow}
-use Rattle.bits.specs.Packing.{bytesFor}
+use Rattle.bits.specs.Packing.{bytesFor, packed}
 use Rattle.bits.proofs.BitsOf.{length-bitsOf, bitsOf-zero, bitsOf-table, bitsOf-only}
 use Rattle.bits.specs.Claims.{Bits}
 use Rattle.bits.proofs.Lists.{bits-take, bits-of}
@@ -25,8 +27,8 @@ use Rattle.code.specs.Description.{maskOf, describe}
 use Rattle.code.specs.Claims.{Described}
 use Rattle.code.proofs.Facts.{described}
 use Rattle.crc.specs.Check.{checkOf, passes}
-use Rattle.crc.proofs.Message.{same-iff, changed-check-fails}
-use Rattle.crc.proofs.Starts.{lowest, check-start, check-zeros}
+use Rattle.crc.proofs.Message.{same-iff, check-passes, changed-check-fails}
+use Rattle.crc.proofs.Starts.{lowest, check-start, check-zeros, zeros-check}
 use Rattle.placing.specs.Place.{taken}
 use Rattle.placing.proofs.Placing.{taken-one, taken-none, bits-taken}
 use Rattle.values.specs.Values.{Rule, decided, maskRule}
@@ -40,15 +42,16 @@ use Rattle.tree.proofs.Steps.{steps-whole}
 use Rattle.trial.specs.declared.Restart.{Restart}
 use Rattle.trial.specs.declared.Restart.the-variants.{Root, After}
 use Rattle.trial.specs.Trial.{firstTrial, messageIn, trialPasses}
-use Rattle.run.specs.declared.Decoded.the-variants.{Failed}
-use Rattle.run.specs.Trials.{run, trials}
+use Rattle.run.specs.declared.Decoded.the-variants.{Accepted, Failed}
+use Rattle.run.specs.Trials.{run, trials, answerOf}
 use Rattle.run.specs.WellFormed.{WellFormed}
 use Rattle.flip.specs.Decode.{planOf, decodedWith}
 use Rattle.flip.proofs.WellFormed.{well-formed-answer, decoded-by}
 use Rattle.demands.specs.Claims.{PassedAt}
+use Rattle.demands.proofs.Run.{run-first}
 use Rattle.demands.proofs.Answers.{accepts-passing}
 use Rattle.start.specs.Silence.{silence, Trial1Fails, SilenceFails, SilenceLater}
-use Rattle.start.specs.Claims.{startingAt, OneStart}
+use Rattle.start.specs.Claims.{SilenceAccepted, startingAt, TrialsAlike, OneStart}
 
 -- ---- zero values
 
@@ -153,7 +156,18 @@ module _ {d : List ℕ} {c : Code} (f : Described d c) where
       ap₂ (λ (k : ℕ) (x : List ℕ). passes (divisor c) (startBits c) k x) (sym (length-replicate {A = ℕ} (c .k) 0)) (sym (replicate-append-replicate (c .k) (c .r) 0))
       ∙ changed-check-fails (divisor c) (startBits c) (replicate (c .k) 0) (replicate (c .r) 0) (λ e. start-kept some (sym e))
 
-  -- one start alone makes bits pass
+  -- with start 0 they do
+  zeros-pass : c .start ≡ 0 → passes (divisor c) (startBits c) (c .k) (replicate (informationCount c) 0) ≡ true
+  zeros-pass none =
+      let check : checkOf (divisor c) (startBits c) (replicate (c .k) 0) ≡ replicate (c .r) 0 =
+      ap (λ (x : List ℕ). checkOf (divisor c) x (replicate (c .k) 0))
+      (ap (bitsOf (c .r)) none ∙ bitsOf-zero (c .r) ∙ ap (λ (n : ℕ). replicate n 0) (sym width))
+      ∙ zeros-check (divisor c) (c .k) some-width ∙ ap (λ (n : ℕ). replicate n 0) width in
+      ap₂ (λ (k : ℕ) (x : List ℕ). passes (divisor c) (startBits c) k x) (sym (length-replicate {A = ℕ} (c .k) 0))
+      (sym (ap (λ (x : List ℕ). replicate (c .k) 0 ++ x) check ∙ replicate-append-replicate (c .k) (c .r) 0))
+      ∙ check-passes (divisor c) (startBits c) (replicate (c .k) 0)
+
+  -- bits pass with at most one start
   start-of-bits : (bits : List ℕ) (s s′ : ℕ) → Bits bits → s < 2 ^ c .r → s′ < 2 ^ c .r
       → trialPasses (maskOf d) (startingAt s c) bits ≡ true → trialPasses (maskOf d) (startingAt s′ c) bits ≡ true → s ≡ s′
   start-of-bits bits s s′ b l l′ e e′ =
@@ -167,14 +181,19 @@ module _ {d : List ℕ} {c : Code} (f : Described d c) where
 
 -- ---- decoders
 
+-- the message of trial 1 on silence
+first-message : {d : List ℕ} {c : Code} → Described d c → messageIn (maskOf d) c (firstTrial (maskOf d) c (channelValues (silence c)) .bits) ≡ replicate (informationCount c) 0
+first-message {d} {c} f =
+    taken-zeros (maskOf d) (firstTrial (maskOf d) c (channelValues (silence c)) .bits) (codeLength c) (first-zero (maskOf d) c)
+    ∙ ap (λ (m : ℕ). replicate m 0) (ap (onesBelow (maskOf d)) (sym (f .coded .mask-size)) ∙ f .coded .K-is)
+
 pub trial-1-fails : Trial1Fails
 trial-1-fails d c code some =
     let f : Described d c = described d c code in
-    let bits = firstTrial (maskOf d) c (channelValues (silence c)) .bits in
-    let message : messageIn (maskOf d) c bits ≡ replicate (informationCount c) 0 =
-    taken-zeros (maskOf d) bits (codeLength c) (first-zero (maskOf d) c)
-    ∙ ap (λ (m : ℕ). replicate m 0) (ap (onesBelow (maskOf d)) (sym (f .coded .mask-size)) ∙ f .coded .K-is) in
-    ap (passes (divisor c) (startBits c) (c .k)) message ∙ zeros-fail f some
+    ap (passes (divisor c) (startBits c) (c .k)) (first-message f) ∙ zeros-fail f some
+
+pub trials-alike : TrialsAlike
+trials-alike plan mask c v start = refl
 
 pub one-start : OneStart
 one-start d c bits s s′ code b l l′ e e′ = start-of-bits (described d c code) bits s s′ b l l′ e e′
@@ -199,6 +218,23 @@ module _ (restart : Restart) (d : List ℕ) (c : Code) (output : List ℕ) (code
       decoded-by (planOf restart 1) d (silence c) output c code
       ∙ well-formed-answer (planOf restart 1) mask c (silence c) output well-formed
       ∙ rw (trial-1-fails d c code some) (ap (λ (s : ℕ). (Failed 1 s, output)) steps)
+
+-- with start 0
+module _ (restart : Restart) (d : List ℕ) (c : Code) (limit : ℕ) (output : List ℕ) (code : describe d ≡ Coding c) (none : c .start ≡ 0) (w : WellFormed c (silence c) limit output) where
+  accepted : decodedWith (planOf restart limit) d (silence c) output ≡ (Accepted 1 (c .n * codeLength c), packed (replicate (c .k) 0))
+  accepted =
+      let mask = maskOf d in
+      let v = channelValues (silence c) in
+      let f : Described d c = described d c code in
+      let message = first-message f in
+      decoded-by (planOf restart limit) d (silence c) output c code
+      ∙ well-formed-answer (planOf restart limit) mask c (silence c) output w
+      ∙ ap (answerOf mask c output) (run-first (trialPasses mask c) (firstTrial mask c v) _ (ap (passes (divisor c) (startBits c) (c .k)) message ∙ zeros-pass f none))
+      ∙ ap₂ (λ (s : ℕ) (x : List ℕ). (Accepted 1 s, packed x)) (steps-whole (c .n) (maskRule mask) v)
+      (ap (take (c .k)) message ∙ take-replicate (c .k) (informationCount c) 0 (omega arith))
+
+pub silence-accepted : SilenceAccepted
+silence-accepted d c limit output code none w = (accepted Root d c limit output code none w, accepted After d c limit output code none w)
 
 pub silence-fails : SilenceFails
 silence-fails d c output code some size = (fails Root d c output code some size, fails After d c output code some size)

@@ -2,8 +2,9 @@
 use mathlib.Core.Path.{_≡_}
 use mathlib.Core.Bool.{true}
 use mathlib.Core.List.{List, _++_}
-use Prim.Native.Nat.{ℕ, _^_, _<_}
-use lib.ListN.{drop}
+use Prim.Native.Nat.{ℕ, _*_, _^_, _<_}
+use lib.IntN.{ℤ}
+use lib.ListN.{drop, replicate}
 use Rattle.refusal.specs.Judge.{judge, refusedOr}
 use Rattle.bits.specs.Bit.{bitsOf}
 use Rattle.bits.specs.Claims.{Bits}
@@ -26,23 +27,37 @@ use Rattle.resume.specs.Resume.{resumedBy}
 use Rattle.trial.specs.Trial.{messageIn, trialPasses}
 use Rattle.run.specs.declared.Plan.{Plan}
 use Rattle.run.specs.declared.Decoded.{Decoded}
-use Rattle.run.specs.declared.Decoded.the-variants.{Refused}
+use Rattle.run.specs.declared.Decoded.the-variants.{Accepted, Refused}
 use Rattle.run.specs.Trials.{trials, run, answerOf}
-use Rattle.flip.specs.Decode.{decodingRefusals}
+use Rattle.run.specs.WellFormed.{WellFormed}
+use Rattle.flip.specs.Decode.{decodingRefusals, decodedFull, decodedRestarted}
+use Rattle.start.specs.Silence.{silence}
+
+-- Why a start is wanted: with start 0 silence is accepted on trial 1 as a payload of zeros, by both decoders and with any T that 14 allows.
+-- `silence-accepted` of proofs/Silence.antt
+abbrev pub SilenceAccepted : Type 0
+SilenceAccepted =
+    (d : List ℕ) (c : Code) (limit : ℕ) (output : List ℕ) → describe d ≡ Coding c → c .start ≡ 0 → WellFormed c (silence c) limit output
+    → (decodedFull d (silence c) limit output ≡ (Accepted 1 (c .n * codeLength c), packed (replicate (c .k) 0)))
+    × (decodedRestarted d (silence c) limit output ≡ (Accepted 1 (c .n * codeLength c), packed (replicate (c .k) 0)))
 
 -- a code with another start
 abbrev pub startingAt : ℕ → Code → Code
 startingAt start c = record { n = c .n; r = c .r; polynomial = c .polynomial; start = start; k = c .k }
 
--- The bits of a trial do not depend on the start. Given bits pass with one start alone, so of all starts of a code at most one for each trial
--- accepts silence: `one-start` of proofs/Silence.antt.
+-- The trials of a run do not depend on the start, and given bits pass with at most one start. So of all starts of a code at most one for each
+-- trial accepts silence. `trials-alike`, `one-start` of proofs/Silence.antt
+abbrev pub TrialsAlike : Type 0
+TrialsAlike = (plan : Plan) (mask : List ℕ) (c : Code) (v : List ℤ) (start : ℕ) → trials plan mask (startingAt start c) v ≡ trials plan mask c v
+
 abbrev pub OneStart : Type 0
 OneStart =
     (d : List ℕ) (c : Code) (bits : List ℕ) (s s′ : ℕ) → describe d ≡ Coding c → Bits bits → s < 2 ^ c .r → s′ < 2 ^ c .r
     → trialPasses (maskOf d) (startingAt s c) bits ≡ true → trialPasses (maskOf d) (startingAt s′ c) bits ≡ true → s ≡ s′
 
--- Document 01's operations by themselves: a description of kind 1, its mask from byte 8 on, and a check of payload · z^r. `encode-kind-1`,
--- `resume-kind-1` and `decode-kind-1` of proofs/TwoKinds.antt: these are the answers under every slice that does not say kind 4.
+-- Document 01's operations by themselves: a description of kind 1, its mask from byte 8 on, and the check with start 0, which is the one of
+-- payload · z^r (`check-multiple-zero` and `check-only-zero` of crc/proofs/Message.antt). `encode-kind-1`, `resume-kind-1` and `decode-kind-1`
+-- of proofs/TwoKinds.antt: these are the answers under every slice that does not say kind 4.
 abbrev pub encodedKind1 : List ℕ → List ℕ → List ℕ → Encoded × List ℕ
 encodedKind1 d payload output =
     onDescription (describeKind1 d) (λ x. (NotEncoded x, output))

@@ -1,4 +1,4 @@
--- Document 01, "Flip decoding, full and restarted": one trial, and when it passes.
+-- Document 01, "Flip decoding, full and restarted", and document 02, request 2.1: one trial, and when it passes.
 use mathlib.Core.Bool.{Bool, false, _||_, cond}
 use mathlib.Core.List.{List, [], _∷_, _++_}
 use Prim.Native.Nat.{ℕ, _+_, _-_}
@@ -58,6 +58,6 @@ laterTrial restart mask c v is = trialFrom (restartAt restart mask (codeLength c
 abbrev pub messageIn : List ℕ → Code → List ℕ → List ℕ
 messageIn mask c bits = taken mask bits (codeLength c)
 
--- a trial passes when the remainder of its payload equals its check bits
+-- a trial passes when the check of its payload, from the code's start on, equals its check bits
 abbrev pub trialPasses : List ℕ → Code → List ℕ → Bool
 trialPasses mask c bits = passes (divisor c) (startBits c) (c .k) (messageIn mask c bits)

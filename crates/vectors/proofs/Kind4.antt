@@ -49,7 +49,7 @@ code4 = record { n = 3; r = 1; polynomial = 1; start = 1; k = 3 }
 abbrev ofKind : ℕ → List ℕ
 ofKind kind = 0x09 ∷ 0x00 ∷ kind ∷ 0x00 ∷ 0x03 ∷ 0x01 ∷ 0x01 ∷ 0x00 ∷ 0xE8 ∷ []
 
--- It is accepted, and its bytes are those of D with start 1. A start of 2 has a bit at r. Its first 8 or 9 bytes are too few, and 10 differ
+-- D4 1 is accepted, and its bytes are those of D with start 1. A start of 2 has a bit at r. Its first 8 or 9 bytes are too few, and 10 differ
 -- from the length field. Kinds 0, 2, 3 and 5 are no descriptions. With a polynomial of 0 and start 2, 7 comes before 25; with start 2 and
 -- one information index, 25 before 8.
 pub kind-4-rows :
@@ -82,7 +82,7 @@ pub heard-at-2 : (byte : ℕ) → (decodedFull (D4 1) (silence code4) 2 (byte �
 unfolding judge refusedOr table number onesBelow packed describe checkOf covers parity transformed xors taken channelValue f g leftValues rightValues firstWhere node information insert ordered run decodedBy decodedWith
 heard-at-2 byte = (refl, refl)
 
--- demand 3 there, for every T
+-- demand 3 there, for every T that 14 allows
 well-formed : (T byte : ℕ) → 1 ≤ T → T ≤ 5 → WellFormed code4 (silence code4) T (byte ∷ [])
 unfolding firstWhere channelValue
 well-formed T byte least most = record { channel-size = refl; in-range = refl; limit-least = least; limit-most = most; output-size = refl }

@@ -96,7 +96,7 @@ small [] e m = omega arith
 small (x ∷ xs) e zero = ltb-true x 256 (and-eq-true-iff (ltb x 256) (allBelow xs) .0 e .0)
 small (x ∷ xs) e (suc m) = small xs (and-eq-true-iff (ltb x 256) (allBelow xs) .0 e .1) m
 
--- for every T and every output of nine bytes
+-- for every T that 14 allows and every output of nine bytes
 pub ibm-3740-decoded : (T : ℕ) (output : List ℕ) → 1 ≤ T → T ≤ 89 → length output ≡ 9 → (decodedFull description received T output ≡ (Accepted 1 896, digits)) × (decodedRestarted description received T output ≡ (Accepted 1 896, digits))
 unfolding unpacked table
 ibm-3740-decoded T output least most size =

@@ -128,8 +128,8 @@ mod tests {
     fn start_0_leaves_the_remainder_of_the_payload() {
         for_payloads(2, |_, payload, r, polynomial| {
             let dividend = times_power(payload, r);
-            let old = remainder(dividend, &divisor(r, polynomial));
-            assert_eq!(check(payload, r, polynomial, 0), old);
+            let plain = remainder(dividend, &divisor(r, polynomial));
+            assert_eq!(check(payload, r, polynomial, 0), plain);
         });
     }
 
@@ -181,20 +181,26 @@ mod tests {
     fn zeros_never_check_to_zeros_under_a_start() {
         let mut random = Random::new(5);
         for r in 1..=16 {
-            let any = [0; 2].map(|_| samples::polynomial(&mut random, r));
-            let every = (1u32..1 << r).step_by(2).map(|odd| odd as u16);
-            let polynomials: Vec<u16> = if r <= 6 {
-                every.collect()
-            } else {
-                any.to_vec()
-            };
-            for polynomial in polynomials {
-                for start in 1..1u32 << r {
-                    for k in [1, r, 20] {
-                        let check = check(&vec![0; k], r, polynomial, start as u16);
-                        assert_ne!(check, vec![0; r], "{r} {polynomial:x} {start:x} {k}");
-                    }
-                }
+            for polynomial in polynomials(&mut random, r) {
+                zeros_under_every_start(r, polynomial);
+            }
+        }
+    }
+
+    /// Every polynomial of a small width, two of another.
+    fn polynomials(random: &mut Random, r: usize) -> Vec<u16> {
+        match r {
+            1..=6 => (1..1 << r).step_by(2).collect(),
+            _ => [0; 2].map(|_| samples::polynomial(random, r)).to_vec(),
+        }
+    }
+
+    /// Every start but 0, with few zeros and with more.
+    fn zeros_under_every_start(r: usize, polynomial: u16) {
+        for start in 1..=0xFFFF >> (16 - r) {
+            for k in [1, r, 20] {
+                let check = check(&vec![0; k], r, polynomial, start);
+                assert_ne!(check, vec![0; r], "{r} {polynomial:x} {start:x} {k}");
             }
         }
     }

@@ -194,7 +194,7 @@ fn mask_byte(ones: &[bool]) -> u8 {
 }
 
 /// Two bytes from `place` on, little-endian.
-fn word(bytes: &[u8], place: usize) -> u16 {
+pub fn word(bytes: &[u8], place: usize) -> u16 {
     u16::from(bytes[place]) + 256 * u16::from(bytes[place + 1])
 }
 

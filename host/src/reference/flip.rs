@@ -151,7 +151,6 @@ mod tests {
     use crate::reference::sizes::LAYERS;
     use crate::testing::hex::parse;
     use crate::testing::paper::{D, D_WITH_START, MASK_OF_D, V};
-    use crate::testing::random::Random;
     use crate::testing::samples;
 
     type Decoder = fn(&[u8], &[u8], u32, &mut [u8]) -> Result<Accepted, Refusal>;
@@ -306,23 +305,18 @@ mod tests {
     /// The demand's noiseless clause.
     #[test]
     fn right_signs_pass_on_trial_1() {
-        let mut random = Random::new(1);
-        for n in LAYERS {
-            for _ in 0..10 {
-                let d = samples::description(&mut random, n);
-                let code = describe(&d).expect("a code");
-                let payload = random.bits(code.k);
-                let x = codeword(&code, mask_of(&d), &payload);
-                let channel = samples::noiseless(&mut random, &x);
-                let limit = random.between(1, code.information() + 1) as u32;
-                for decoder in BOTH {
-                    let mut output = random.bytes(packed_length(code.k));
-                    let answer = decoder(&d, &channel, limit, &mut output);
-                    let steps = n << n;
-                    assert_eq!(answer, Ok(Accepted { trial: 1, steps }));
-                    assert_eq!(output, pack(&payload));
-                }
+        samples::for_descriptions(1, LAYERS, 10, |random, d, code| {
+            let payload = random.bits(code.k);
+            let x = codeword(&code, mask_of(d), &payload);
+            let channel = samples::noiseless(random, &x);
+            let limit = random.between(1, code.information() + 1) as u32;
+            for decoder in BOTH {
+                let mut output = random.bytes(packed_length(code.k));
+                let answer = decoder(d, &channel, limit, &mut output);
+                let steps = code.n << code.n;
+                assert_eq!(answer, Ok(Accepted { trial: 1, steps }));
+                assert_eq!(output, pack(&payload));
             }
-        }
+        });
     }
 }

@@ -1,6 +1,6 @@
 //! The program `receive`: document 01, "Program `receive`", and document 02, request 2.1.
 
-use crate::reference::description::{describe, Code};
+use crate::reference::description::{describe, word, Code};
 use crate::reference::flip::decode_restarted;
 use crate::reference::packing::packed_length;
 
@@ -25,19 +25,16 @@ pub fn receive(input: &[u8]) -> String {
 /// The first record, and what follows it; nothing where the input ends inside it, or where its
 /// length is below 4.
 pub fn first_record(input: &[u8]) -> Option<(&[u8], &[u8])> {
-    let length = usize::from(word(input, 0)?);
+    let length = usize::from(word_at(input, 0)?);
     if length < 4 {
         return None;
     }
     input.split_at_checked(length)
 }
 
-/// Two bytes from `place` on, little-endian.
-fn word(bytes: &[u8], place: usize) -> Option<u16> {
-    match bytes.get(place..)? {
-        [low, high, ..] => Some(u16::from(*low) + 256 * u16::from(*high)),
-        _ => None,
-    }
+/// Two bytes from `place` on, little-endian; nothing where the bytes end before.
+fn word_at(bytes: &[u8], place: usize) -> Option<u16> {
+    (place + 2 <= bytes.len()).then(|| word(bytes, place))
 }
 
 /// The last accepted description, and its code.
@@ -48,7 +45,7 @@ struct Receiver<'a> {
 impl<'a> Receiver<'a> {
     /// The line for one record of at least 4 bytes.
     fn respond(&mut self, record: &'a [u8]) -> String {
-        match word(record, 2).expect("a kind") {
+        match word(record, 2) {
             1 | 4 => self.respond_to_description(record),
             2 => self.respond_to_channel(record),
             kind => format!("skip {kind}"),
@@ -69,7 +66,7 @@ impl<'a> Receiver<'a> {
         let Some((description, code)) = self.held else {
             return "no 23".to_string();
         };
-        let Some(limit) = word(record, 4) else {
+        let Some(limit) = word_at(record, 4) else {
             return "no 24".to_string();
         };
         let mut payload = vec![0; packed_length(code.k)];

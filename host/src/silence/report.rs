@@ -62,14 +62,14 @@ pub fn starts(code: &Code, limits: &[Option<u32>]) -> String {
 }
 
 /// How many starts were tried, and where not all, what is known of the others: a trial's bits do not
-/// depend on the start, and z is invertible modulo the divisor, so one start alone makes it pass.
+/// depend on the start, and z is invertible modulo the divisor, so it passes with at most one start.
 fn tried(count: usize, all: usize, most: u32) -> String {
     let of = "The same code as kind 4 with other starts";
     match count == all {
         true => format!("{of}; all {all} were tried.\n\n"),
         false => format!(
             "{of}; the {count} smallest of {all} were tried.\n\
-             One start alone makes a trial pass, so at most {most} of all accept silence.\n\n"
+             A trial passes with at most one start, so at most {most} of all accept silence.\n\n"
         ),
     }
 }
@@ -186,7 +186,7 @@ No start tried keeps silence out whatever T is; 0001 does where T is below 2.
         let limits = [vec![Some(1), None, Some(7)], vec![None; 5]].concat();
         let expected = "\
 The same code as kind 4 with other starts; the 8 smallest of 256 were tried.
-One start alone makes a trial pass, so at most 15 of all accept silence.
+A trial passes with at most one start, so at most 15 of all accept silence.
 
 least T      starts  the smallest
 1                 1  0000

@@ -4,7 +4,8 @@ use std::cmp::Reverse;
 use std::ops::RangeInclusive;
 
 use crate::reference::description::{
-    describe, has_start, header_length, is_information, mask_of, record, with_start, Code, REFUSALS,
+    describe, has_start, header_length, is_information, mask_of, record, with_start, word, Code,
+    REFUSALS,
 };
 use crate::reference::packing::pack;
 use crate::reference::sizes::{DEEPEST, LAYERS};
@@ -145,8 +146,9 @@ pub fn can_break(d: &[u8], refusal: usize) -> bool {
     refusal != 25 || has_start(d) && d[5] < 16
 }
 
-/// Changes an accepted description so that these refusals apply, which stand in their order, and none
-/// before the first of them: those of later ones first.
+/// Puts the faults of these refusals, which stand in their order, into an accepted description,
+/// those of later ones first: the first of these refusals applies and none before it; a later one
+/// may be undone.
 pub fn put_faults(random: &mut Random, d: &mut Vec<u8>, refusals: &[usize]) {
     for &refusal in refusals.iter().rev() {
         put_fault(random, d, refusal);
@@ -157,7 +159,7 @@ pub fn put_faults(random: &mut Random, d: &mut Vec<u8>, refusals: &[usize]) {
 fn put_fault(random: &mut Random, d: &mut Vec<u8>, refusal: usize) {
     let r = usize::from(d[5]);
     match refusal {
-        1 => d.truncate(random.below(if has_start(d) { 10 } else { 8 })),
+        1 => d.truncate(random.below(least_length(word(d, 2)))),
         2 => {
             let length = word(d, 0).wrapping_add(random.between(1, 65_535) as u16);
             put_word(d, 0, length);
@@ -165,7 +167,7 @@ fn put_fault(random: &mut Random, d: &mut Vec<u8>, refusal: usize) {
         3 => put_word(d, 2, other_kind(random)),
         4 => d[4] = random.between(DEEPEST + 1, 255 + LAYERS.start()) as u8,
         5 => put_other_length(random, d),
-        6 => d[5] = random.between(17, 255 + 1) as u8,
+        6 => d[5] = wrong_width(random),
         7 if r < 16 && random.bit() => set_bit(d, 6, random.between(r, 15)),
         7 => d[6] &= 0xFE,
         25 => set_bit(d, 8, random.between(r, 15)),
@@ -174,12 +176,29 @@ fn put_fault(random: &mut Random, d: &mut Vec<u8>, refusal: usize) {
     }
 }
 
-/// Makes the length another than that of kind and n: by the kind, where that leaves enough bytes, by
-/// a byte more or less, or by n.
+/// Bytes that a description needs at least, by what it says as its kind.
+fn least_length(kind: u16) -> usize {
+    header_length(kind).unwrap_or(8)
+}
+
+/// A check width that is refused. It is 0 half of the time: then each bit of polynomial and start
+/// is at r or above, and otherwise none is.
+fn wrong_width(random: &mut Random) -> u8 {
+    match random.bit() {
+        true => 0,
+        false => random.between(17, 255) as u8,
+    }
+}
+
+/// Makes the length another than that of kind and n: by n, by a zero byte more, by a byte less, or
+/// by the kind if there are enough bytes. The kind stays where there is a later fault: another would
+/// undo one of the start or of the mask.
 fn put_other_length(random: &mut Random, d: &mut Vec<u8>) {
+    let swapped = if has_start(d) { 1 } else { 4 };
+    let may_swap = describe(d).is_ok() && d.len() >= least_length(swapped);
     match random.below(4) {
-        0 if d.len() >= 10 => d[2] = if has_start(d) { 1 } else { 4 },
-        1 => d.push(random.byte()),
+        0 if may_swap => put_word(d, 2, swapped),
+        1 => d.push(0),
         2 => d.truncate(d.len() - 1),
         _ => d[4] = other_layers(random, d[4].into()) as u8,
     }
@@ -210,11 +229,6 @@ fn other_kind(random: &mut Random) -> u16 {
 fn other_layers(random: &mut Random, n: usize) -> usize {
     let (least, count) = (*LAYERS.start(), LAYERS.count());
     least + (n - least + random.between(1, count - 1)) % count
-}
-
-/// Two bytes from `place` on, little-endian.
-fn word(bytes: &[u8], place: usize) -> u16 {
-    u16::from_le_bytes([bytes[place], bytes[place + 1]])
 }
 
 fn put_word(bytes: &mut [u8], place: usize, word: u16) {
@@ -321,7 +335,7 @@ pub fn value_byte(value: i64) -> u8 {
 #[cfg(test)]
 mod tests {
     use super::*;
-    use crate::reference::description::information_indices;
+    use crate::reference::description::{count_information, information_indices};
     use std::collections::BTreeSet;
 
     /// Of each n some have no start, some start 0, and most of the others another start.
@@ -330,15 +344,14 @@ mod tests {
         let mut random = Random::new(1);
         for n in LAYERS {
             let mut met = [0; 3];
-            for _ in 0..100 {
-                for d in [
-                    description(&mut random, n),
-                    useful_description(&mut random, n),
-                ] {
-                    let code = describe(&d).expect("an accepted description");
-                    assert_eq!(code.n, n, "{d:02x?}");
-                    met[usize::from(has_start(&d)) + usize::from(code.start != 0)] += 1;
-                }
+            for round in 0..200 {
+                let d = match round % 2 {
+                    0 => description(&mut random, n),
+                    _ => useful_description(&mut random, n),
+                };
+                let code = describe(&d).expect("an accepted description");
+                assert_eq!(code.n, n, "{d:02x?}");
+                met[usize::from(has_start(&d)) + usize::from(code.start != 0)] += 1;
             }
             let [without, zero, others] = met;
             assert!(without >= 60 && zero >= 1 && others >= 60, "{met:?}");
@@ -366,6 +379,45 @@ mod tests {
         assert!(lengths.into_iter().eq(0..10));
         for refusal in [2, 4, 5, 6, 7, 8] {
             assert!(kinds.contains(&(refusal, false)) && kinds.contains(&(refusal, true)));
+        }
+    }
+
+    /// Whether the number from `place` on has a bit at r or above.
+    fn has_high_bit(d: &[u8], place: usize) -> bool {
+        u32::from(word(d, place)) >= 1 << d[5].min(16)
+    }
+
+    /// Whether 7, 25 or 8 applies to a description of kind 4, whatever else is wrong with it.
+    fn applies(d: &[u8], refusal: usize) -> bool {
+        match refusal {
+            7 => d[6] & 1 == 0 || has_high_bit(d, 6),
+            25 => has_start(d) && has_high_bit(d, 8),
+            _ => has_start(d) && count_information(mask_of(d)) <= d[5].into(),
+        }
+    }
+
+    /// Puts the faults of two refusals into 1,000 descriptions of kind 4; to so many the second one
+    /// applies too.
+    fn both(first: usize, second: usize) -> usize {
+        let mut random = Random::new(4);
+        let is_both = |_: &usize| {
+            let mut d = with_start(&description_of_kind_1(&mut random, 4), 1);
+            put_faults(&mut random, &mut d, &[first, second]);
+            assert_eq!(describe(&d), Err(first as u8), "{d:02x?}");
+            applies(&d, second)
+        };
+        (0..1_000).filter(is_both).count()
+    }
+
+    /// A wrong r leaves a later fault half of the time at least.
+    #[test]
+    fn later_faults_stay() {
+        for (first, second) in [(5, 7), (5, 25), (5, 8), (7, 25), (7, 8), (25, 8)] {
+            assert_eq!(both(first, second), 1_000, "{first} and {second}");
+        }
+        for second in [7, 25, 8] {
+            let count = both(6, second);
+            assert!(count >= 400, "6 and {second}: {count}");
         }
     }
 

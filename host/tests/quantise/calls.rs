@@ -12,6 +12,9 @@ type Answer = (u32, [u64; 2], Vec<u8>);
 /// What outputs hold before: no level, so that a byte left out is noticed.
 const BEFORE: u8 = 0x80;
 
+/// What the two numbers hold before, in each of their bytes.
+const NUMBERS_BEFORE: [u64; 2] = [u64::from_ne_bytes([0xEE; 8]); 2];
+
 /// The samples in lent bytes.
 fn samples_in(bytes: &[u8]) -> &[f32] {
     // SAFETY: any bytes are a float.
@@ -25,7 +28,7 @@ fn run(scale: f32, samples: &[f32], before: &[u8]) -> Answer {
     let bytes: Vec<u8> = samples.iter().flat_map(|y| y.to_ne_bytes()).collect();
     let ((peak, numbers), output) = lend_input(&bytes, |lent| {
         lend_output(before, |output| {
-            lend_numbers([0xEE; 2], |numbers| {
+            lend_numbers(NUMBERS_BEFORE, |numbers| {
                 library::quantise(scale, samples_in(lent), output, numbers)
             })
         })

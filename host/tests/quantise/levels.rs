@@ -57,9 +57,9 @@ fn halves_and_one_ulp_around() {
         }
         for whole in 1..=33 {
             let p = f32::from(whole) / 4.0;
-            for near in [p.next_down(), p, p.next_up()] {
-                is_level(near, whole);
-            }
+            is_level(p.next_down(), whole);
+            is_level(p, whole);
+            is_level(p.next_up(), whole);
         }
     }
 }
@@ -71,13 +71,17 @@ fn products_rounded_near_halves() {
     let random_scales = (0..200).map(|_| random.between(1, 1 << 24) as f32 / power_of_two(16));
     for scale in [3.0, 7.0, 0.1, 0.3, 1.7].into_iter().chain(random_scales) {
         for eighth in 0..=67u8 {
-            let y = f32::from(eighth) / 8.0 / scale;
-            let (below, above) = (y.next_down(), y.next_up());
-            for y in [below.next_down(), below, y, above, above.next_up()] {
-                accepted(scale, &[y]);
-                accepted(scale, &[-y]);
-            }
+            accepted_near(scale, f32::from(eighth) / 8.0 / scale);
         }
+    }
+}
+
+/// A sample and the two floats on each side of it, each alone and of both signs.
+fn accepted_near(scale: f32, y: f32) {
+    let (below, above) = (y.next_down(), y.next_up());
+    for y in [below.next_down(), below, y, above, above.next_up()] {
+        accepted(scale, &[y]);
+        accepted(scale, &[-y]);
     }
 }
 
@@ -96,12 +100,11 @@ fn the_edge_of_overflow() {
             let (scale, y) = (a as f32 * power_of_two(41), b as f32 * power_of_two(40));
             let overflows = a * b >= half_more;
             met[usize::from(overflows)] += 1;
-            for (y, level) in [(y, 31), (-y, -31)] {
-                let (levels, peak, clipped) = accepted(scale, &[y]);
-                assert_eq!((levels, clipped), (vec![level], 1));
-                assert_eq!(peak == infinite, overflows, "{a} · {b}");
-                assert!(peak + 4 > largest);
-            }
+            let (levels, peak, clipped) = accepted(scale, &[y]);
+            assert_eq!((levels, clipped), (vec![31], 1));
+            assert_eq!(peak == infinite, overflows, "{a} · {b}");
+            assert!(peak + 4 > largest);
+            assert_eq!(accepted(scale, &[-y]), (vec![-31], peak, 1));
         }
     }
     assert!(met.iter().all(|&count| count > 10_000), "{met:?}");

@@ -11,19 +11,28 @@ fn samples_that_are_no_numbers() {
     let mut random = Random::new(9);
     for count in [1, 2, 3, 4, 7, 8, 9, 16, 17, 33, 100, 1_000] {
         for bits in NOT_A_NUMBER {
-            for place in [0, count / 2, count - 1, random.below(count)] {
-                let scale = right_scale(&mut random);
-                let mut samples = any_samples(&mut random, count);
-                samples[place] = f32::from_bits(bits);
-                refused(scale, &samples, count, [22, place as u64]);
-                // More of them after it change nothing.
-                for y in &mut samples[place + 1..] {
-                    if random.bit() {
-                        *y = any_nan(&mut random);
-                    }
-                }
-                refused(scale, &samples, count, [22, place as u64]);
-            }
+            refused_at_places(&mut random, count, f32::from_bits(bits));
+        }
+    }
+}
+
+/// One sample of `count` that is no number, and then more of them after it, which change nothing.
+fn refused_at_places(random: &mut Random, count: usize, nan: f32) {
+    for place in [0, count / 2, count - 1, random.below(count)] {
+        let scale = right_scale(random);
+        let mut samples = any_samples(random, count);
+        samples[place] = nan;
+        refused(scale, &samples, count, [22, place as u64]);
+        put_more(random, &mut samples[place + 1..]);
+        refused(scale, &samples, count, [22, place as u64]);
+    }
+}
+
+/// Makes about half of these samples no numbers.
+fn put_more(random: &mut Random, samples: &mut [f32]) {
+    for y in samples {
+        if random.bit() {
+            *y = any_nan(random);
         }
     }
 }

@@ -51,6 +51,6 @@ message-of-spec =
     (λ c κs. omega (arith, part-length c, c .before .before .before .pre .payload-size))
     (λ c κs.
     let p = c .before .before .before .before .before .before .before .pre in
-    (record { some = p .r-least; most = p .r-most; fits = p .start-fits }, whole-length (c .before .before .before)))
+    (record { some = p .r-least; most = p .r-most; fits = omega (arith, p .start-fits) }, whole-length (c .before .before .before)))
     (λ c. search needs)
     returns)

@@ -1,6 +1,7 @@
 -- `trial::trial_passes` meets its contract: the message that was taken out is what the check goes by.
 use mathlib.Core.Path.{_≡_, sym, ap, _∙_}
 use Prim.Native.Nat.{ℕ}
+use native.Mathlib.Omega.{arith}
 use borrow.Author.Needs.{needs}
 use denote.Ref.{now}
 use lib.ListN.{length, take}
@@ -29,7 +30,7 @@ passes-requires : tie.Need-passes-requires
 passes-requires c κs =
     let t = c .before .before .before .before .before in
     let p = s t .pre .0 in
-    (record { some = p .r-least; most = p .r-most; fits = p .start-fits }, taken-length t)
+    (record { some = p .r-least; most = p .r-most; fits = omega (arith, p .start-fits) }, taken-length t)
 
 returns : tie.Need-returns
 returns c =
