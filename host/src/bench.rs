@@ -7,6 +7,8 @@ mod frames;
 mod growth;
 mod process;
 mod report;
+mod search;
+mod sets;
 mod task;
 mod timing;
 
@@ -32,16 +34,12 @@ const PROCESSES: usize = 5;
 pub fn run(choice: &Choice, words: &[String]) {
     let mut codecs = vec![LIBRARY];
     codecs.extend(others());
-    let lengths: Vec<Frames> = choice
-        .layers
-        .iter()
-        .map(|&n| Frames::of_length(n))
-        .collect();
+    let frames = choice.frames();
     if choice.times_only {
-        return print_times(choice, &codecs, &lengths);
+        return print_times(choice, &codecs, &frames);
     }
     report::print_setting();
-    let mut rows = rows(choice, &codecs, &lengths);
+    let mut rows = rows(choice, &codecs, &frames);
     for index in 1..=PROCESSES {
         eprintln!("process {index} of {PROCESSES}");
         for (row, times) in rows.iter_mut().zip(process::times(words)) {
@@ -53,22 +51,23 @@ pub fn run(choice: &Choice, words: &[String]) {
     }
     report::print_heading(&codecs);
     rows.iter().for_each(report::print_row);
-    growth::print(choice, &lengths, &rows);
+    growth::print(choice, &frames, &rows);
+    sets::print(choice, &frames, &rows);
 }
 
-fn print_times(choice: &Choice, codecs: &[Codec], lengths: &[Frames]) {
-    for frames in lengths {
-        for &task in &choice.tasks {
+fn print_times(choice: &Choice, codecs: &[Codec], all: &[Frames]) {
+    for frames in all {
+        for task in choice.tasks_on(frames) {
             process::print_row(&timing::take(task, codecs, &frames.list, choice.rounds));
         }
     }
 }
 
 /// The rows, without a time yet.
-fn rows(choice: &Choice, codecs: &[Codec], lengths: &[Frames]) -> Vec<Row> {
+fn rows(choice: &Choice, codecs: &[Codec], all: &[Frames]) -> Vec<Row> {
     let mut rows = Vec::new();
-    for frames in lengths {
-        for &task in &choice.tasks {
+    for frames in all {
+        for task in choice.tasks_on(frames) {
             rows.push(Row {
                 n: frames.n,
                 task,

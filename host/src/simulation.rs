@@ -12,7 +12,7 @@ use std::path::Path;
 use std::thread;
 use std::time::Instant;
 
-pub use link::{Link, Tally};
+pub use link::{ratio, Link, Tally};
 pub use table::{csv, nearest, read_csv, summary};
 
 use crate::testing::files::repository;

@@ -1,12 +1,14 @@
 //! What the tests need: `library` calls the codec, `guard` lends buffers to it, `lent` does both,
-//! `decoders` holds the decoders to the reference, `stack` measures what a call takes, `program`
-//! runs `receive`; `random`, `samples` and `call` make inputs, `streams` what `receive` reads,
-//! `paper` has those that the documents name, `hex` reads bytes, and `met` counts refusals; `files`
-//! has the repository's files, and `belief` what must be believed of the definitions.
+//! `decoders` and `sets` hold the decoders to the reference, `stack` measures what a call takes,
+//! `program` runs `receive`; `random`, `samples` and `call` make inputs, `streams` what `receive`
+//! reads, `paper` has those that the documents name, `examples` those of flip sets by hand, `hex`
+//! reads bytes, and `met` counts refusals; `files` has the repository's files, and `belief` what must
+//! be believed of the definitions.
 
 pub mod belief;
 pub mod call;
 pub mod decoders;
+pub mod examples;
 pub mod files;
 pub mod guard;
 pub mod hex;
@@ -17,5 +19,6 @@ pub mod paper;
 pub mod program;
 pub mod random;
 pub mod samples;
+pub mod sets;
 pub mod stack;
 pub mod streams;

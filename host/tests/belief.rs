@@ -7,17 +7,19 @@ use host::testing::belief::{Cited, Crates};
 use host::testing::files::repository;
 
 /// The public operations, each with its crate.
-const OPERATIONS: [(&str, &str); 6] = [
+const OPERATIONS: [(&str, &str); 8] = [
     ("code", "read_description"),
     ("encoder", "encode"),
     ("resume", "resume"),
     ("flip", "decode_full"),
     ("flip", "decode_restarted"),
+    ("setflip", "decode_sets_full"),
+    ("setflip", "decode_sets_restarted"),
     ("quantiser", "quantise"),
 ];
 
 /// What `receive` prints and how it runs, and the statements of the main theorems.
-const DEFINITIONS: [(&str, &str); 7] = [
+const DEFINITIONS: [(&str, &str); 10] = [
     ("records", "printed"),
     ("records", "Run"),
     ("demands", "Demand3"),
@@ -25,10 +27,13 @@ const DEFINITIONS: [(&str, &str); 7] = [
     ("start", "Trial1Fails"),
     ("start", "SilenceFails"),
     ("start", "SilenceLater"),
+    ("setdemands", "SetsDemand3"),
+    ("setdemands", "SetsNoiseless"),
+    ("setdemands", "StaysAccepted"),
 ];
 
 /// One sitting.
-const MOST_LINES: usize = 540;
+const MOST_LINES: usize = 660;
 
 fn crates() -> Crates {
     Crates::read(&repository().join("crates")).expect("the crates")

@@ -90,11 +90,38 @@ start 1, zeros, T = 1: refusal 16, value 1, steps 24, ee
 start 1, zeros, T = 2: refusal 0, value 2, steps 48, 80
 ";
 
+/// What full decoding with flip sets gives.
+const DECODED_BY_SETS: &str = "\
+V, w = 1, T = 1: refusal 16, value 1, steps 24, ee
+V, w = 1, T = 2: refusal 0, value 2, steps 48, c0
+a pair, w = 1, T = 2: refusal 16, value 2, steps 48, ee
+a pair, w = 2, T = 3: refusal 0, value 3, steps 72, 80
+no set passes, w = 2, T = 512: refusal 16, value 11, steps 264, ee
+w = 0, T = 0: refusal 26, value 0, steps 0, ee
+w = 4, T = 1: refusal 26, value 0, steps 0, ee
+w = 1, T = 6: refusal 14, value 0, steps 0, ee
+w = 2, T = 513: refusal 14, value 0, steps 0, ee
+";
+
+/// What is printed with fewer steps.
+fn restarted(text: &str, steps: &[(&str, &str)]) -> String {
+    let replace = |text: String, (full, fewer): &(&str, &str)| text.replace(full, fewer);
+    steps.iter().fold(text.to_string(), replace)
+}
+
 #[test]
 fn rows_of_the_paper() {
-    let restarted = DECODED.replace("steps 48, 00", "steps 32, 00");
-    let restarted = restarted.replace("steps 48, 80", "steps 35, 80");
-    let expected = [ENCODED_AND_RESUMED, DECODED, &restarted].concat();
+    let expected = [
+        ENCODED_AND_RESUMED,
+        DECODED,
+        &restarted(DECODED, &[("48, 00", "32, 00"), ("48, 80", "35, 80")]),
+        DECODED_BY_SETS,
+        &restarted(
+            DECODED_BY_SETS,
+            &[("48,", "35,"), ("72,", "46,"), ("264,", "106,")],
+        ),
+    ]
+    .concat();
     for language in languages() {
         assert_eq!(run(language, "host/tests/c", "rows"), expected);
     }

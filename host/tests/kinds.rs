@@ -5,20 +5,24 @@ use host::reference::description::with_start;
 use host::reference::sizes::LAYERS;
 use host::testing::call::Call;
 use host::testing::lent;
-use host::testing::library;
+use host::testing::library::{self, Decoder};
 use host::testing::met::Met;
 use host::testing::random::Random;
 use host::testing::samples;
 
 /// Each operation's answer, and its output after it.
-fn answers(call: &Call, d: &[u8]) -> [(u64, Vec<u8>); 4] {
+fn answers(call: &Call, d: &[u8]) -> [(u64, Vec<u8>); 6] {
     let [codeword, bits, payload] = call.room.map(|length| vec![0xEE; length]);
-    let decode = |by| lent::decode(by, d, &call.channel, call.limit, &payload);
+    let (channel, most_flips, limit) = (&call.channel, call.most_flips, call.limit);
+    let decode = |by: Decoder| lent::decode(by, d, channel, limit, &payload);
+    let decode_sets = |by| lent::decode_sets(by, d, channel, most_flips, limit, &payload);
     [
         lent::encode(d, &call.payload, &codeword),
-        lent::resume(d, &call.channel, &call.prefix, &bits),
+        lent::resume(d, channel, &call.prefix, &bits),
         decode(library::decode_full),
         decode(library::decode_restarted),
+        decode_sets(library::decode_sets_full),
+        decode_sets(library::decode_sets_restarted),
     ]
 }
 
@@ -48,7 +52,7 @@ fn damage(random: &mut Random, d: &mut [u8]) {
 
 #[test]
 fn start_0_answers_as_kind_1() {
-    let mut met: [Met; 4] = Default::default();
+    let mut met: [Met; 6] = Default::default();
     for_calls(1, |random, mut call| {
         damage(random, &mut call.description);
         let plain = answers(&call, &call.description);
@@ -57,12 +61,16 @@ fn start_0_answers_as_kind_1() {
             met.count((answer & 0xFF) as usize);
         }
     });
-    let [encoded, resumed, full, restarted] = met;
+    let [encoded, resumed, full, restarted, sets_full, sets_restarted] = met;
     const DESCRIPTION: [usize; 6] = [0, 4, 5, 6, 7, 8];
     encoded.are_all(&[&DESCRIPTION, &[9, 10, 11]]);
     resumed.are_all(&[&DESCRIPTION, &[12, 13, 17, 18, 19]]);
-    full.are_all(&[&DESCRIPTION, &[12, 13, 14, 15, 16]]);
-    restarted.are_all(&[&DESCRIPTION, &[12, 13, 14, 15, 16]]);
+    for met in [full, restarted] {
+        met.are_all(&[&DESCRIPTION, &[12, 13, 14, 15, 16]]);
+    }
+    for met in [sets_full, sets_restarted] {
+        met.are_all(&[&DESCRIPTION, &[12, 13, 26, 14, 15, 16]]);
+    }
 }
 
 /// A start other than 0 makes another check of every payload, and a pass has no check.

@@ -6,6 +6,7 @@ use host::reference::flip::{decode_full, decode_restarted};
 use host::reference::number::{decode_number, encode_number, quantise_numbers, resume_number};
 use host::reference::quantise::quantise;
 use host::reference::resume::resume;
+use host::reference::sets::{decode_sets_full, decode_sets_restarted};
 use host::reference::sizes::LAYERS;
 use host::testing::call::Call;
 use host::testing::random::Random;
@@ -20,6 +21,7 @@ fn check(call: &Call) {
         prefix,
         limit,
         room,
+        ..
     } = call;
     let [mut codeword, mut bits, mut full] = room.map(|length| vec![0xEE; length]);
     let mut restarted = full.clone();
@@ -42,6 +44,26 @@ fn check(call: &Call) {
     }
 }
 
+/// Decoding with flip sets likewise.
+fn check_sets(call: &Call) {
+    let (d, channel) = (&call.description, &call.channel);
+    let (most_flips, limit) = (call.most_flips, call.limit);
+    let [_, _, mut full] = call.room.map(|length| vec![0xEE; length]);
+    let mut restarted = full.clone();
+    let fully = decode_number(&decode_sets_full(d, channel, most_flips, limit, &mut full));
+    let again = decode_sets_restarted(d, channel, most_flips, limit, &mut restarted);
+    let again = decode_number(&again);
+    for codec in others() {
+        let name = codec.name;
+        let mut first = vec![0xEE; full.len()];
+        let mut second = first.clone();
+        let answer = (codec.decode_sets_full)(d, channel, most_flips, limit, &mut first);
+        assert_eq!((answer, &first), (fully, &full), "{name}: {d:02x?}");
+        let answer = (codec.decode_sets_restarted)(d, channel, most_flips, limit, &mut second);
+        assert_eq!((answer, &second), (again, &restarted), "{name}: {d:02x?}");
+    }
+}
+
 /// Codewords under noise, or any values, and descriptions of both kinds; one input in three has a
 /// fault.
 #[test]
@@ -56,6 +78,23 @@ fn plain_codecs_agree_with_the_reference() {
                 call.description = samples::any_refused_description(&mut random);
             }
             check(&call);
+            check_sets(&call);
+        }
+    }
+}
+
+/// Sets of short codes, more trials than in other tests.
+#[test]
+fn plain_codecs_try_the_sets_of_the_reference() {
+    let mut random = Random::new(5);
+    for n in 3..=6 {
+        for round in 0..20_000 >> n {
+            let d = samples::useful_description(&mut random, n);
+            let mut call = Call::new(&mut random, d, [10, 14, 18][round % 3]);
+            if call.most_flips > 1 {
+                call.limit = random.between(1, 100) as u32;
+            }
+            check_sets(&call);
         }
     }
 }
@@ -69,6 +108,7 @@ fn plain_codecs_refuse_descriptions_as_the_reference() {
     samples::for_refused_descriptions(4, 200, |_, d, _| {
         call.description = d.to_vec();
         check(&call);
+        check_sets(&call);
     });
 }
 

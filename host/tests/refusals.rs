@@ -5,7 +5,7 @@ use host::reference::description::REFUSALS as DESCRIPTION;
 use host::testing::files::text;
 
 /// Words of the documents for each refusal, from 1 on.
-const WORDS: [&str; 25] = [
+const WORDS: [&str; 26] = [
     "fewer than 8 bytes, or fewer than 10 where bytes 2 and 3 say kind 4",
     "length field",
     "neither 1 nor 4",
@@ -31,12 +31,14 @@ const WORDS: [&str; 25] = [
     "is held",
     "shorter than 6 bytes",
     "start bit at r or above",
+    "outside 1..3",
 ];
 
 /// The refusals of each operation, after those of a description, in their order.
 const ENCODE: [usize; 3] = [9, 10, 11];
 const RESUME: [usize; 5] = [12, 13, 17, 18, 19];
 const DECODERS: [usize; 5] = [12, 13, 14, 15, 16];
+const SET_DECODERS: [usize; 6] = [12, 13, 26, 14, 15, 16];
 const QUANTISER: [usize; 3] = [20, 21, 22];
 const RECEIVE: [usize; 2] = [23, 24];
 
@@ -56,10 +58,11 @@ fn givers(number: usize) -> String {
     if DESCRIPTION.contains(&number) {
         return "all".to_string();
     }
-    let operations: [(&str, &[usize]); 5] = [
+    let operations: [(&str, &[usize]); 6] = [
         ("encode", &ENCODE),
         ("resume", &RESUME),
         ("decoders", &DECODERS),
+        ("decoders with flip sets", &[26]),
         ("quantiser", &QUANTISER),
         ("`receive`", &RECEIVE),
     ];
@@ -143,4 +146,6 @@ fn operations_in_the_header() {
     assert_eq!(of("polar_resume"), RESUME);
     assert_eq!(of("polar_decode_full"), DECODERS);
     assert_eq!(of("polar_decode_restarted"), DECODERS);
+    assert_eq!(of("polar_decode_sets_full"), SET_DECODERS);
+    assert_eq!(of("polar_decode_sets_restarted"), SET_DECODERS);
 }

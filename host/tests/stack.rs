@@ -3,6 +3,7 @@
 
 use host::reference::description::{describe, record, with_start};
 use host::reference::packing::packed_length;
+use host::reference::sets::{limits, MOST_FLIPS};
 use host::reference::sizes::{DEEPEST, LONGEST, LONGEST_BYTES};
 use host::testing::library;
 use host::testing::random::Random;
@@ -84,5 +85,35 @@ fn decoder(name: &str, decode: library::Decoder, d: &[u8], channel: &[u8]) {
             let answer = decode(d, channel, limit, &mut payload);
             assert!([0, 16].contains(&(answer & 0xFF)));
         });
+    }
+}
+
+#[test]
+fn decoders_with_flip_sets() {
+    let both: [(&str, library::SetDecoder); 2] = [
+        ("full", library::decode_sets_full),
+        ("restarted", library::decode_sets_restarted),
+    ];
+    let mut random = Random::new(4);
+    for d in descriptions() {
+        let channel = samples::channel(&mut random, LONGEST, 31);
+        for (name, decode) in both {
+            set_decoder(name, decode, &d, &channel);
+        }
+    }
+}
+
+/// The same for each number of flips.
+fn set_decoder(name: &str, decode: library::SetDecoder, d: &[u8], channel: &[u8]) {
+    let code = describe(d).expect("a code");
+    let mut payload = vec![0; packed_length(code.k)];
+    for most_flips in MOST_FLIPS {
+        for limit in [1, 2, *limits(&code, most_flips).end()] {
+            let name = format!("{name}, w = {most_flips}, T = {limit}");
+            keeps_to(32 * KIB, &name, || {
+                let answer = decode(d, channel, most_flips, limit, &mut payload);
+                assert!([0, 16].contains(&(answer & 0xFF)));
+            });
+        }
     }
 }

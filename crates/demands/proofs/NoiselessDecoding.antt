@@ -2,7 +2,7 @@
 use mathlib.Core.Path.{_≡_, refl, sym, ap, ap₂, _∙_, subst, subst₂}
 use mathlib.Core.Bool.{true, cond}
 use mathlib.Core.Logic.{⊎-elim}
-use mathlib.Core.List.{List}
+use mathlib.Core.List.{List, _∷_}
 use Prim.Native.Nat.{ℕ, _+_, _*_, _<_}
 use native.Mathlib.Omega.{arith}
 use lib.Dec.{eqb}
@@ -33,13 +33,14 @@ use Rattle.encoder.specs.declared.Encoded.the-variants.{Done}
 use Rattle.encoder.specs.Encode.{messageOf, codeword, encoded}
 use Rattle.encoder.proofs.Message.{length-message, bits-message}
 use Rattle.encoder.proofs.Codeword.{unpacked-codeword, EncodedFrom, encoded-from}
+use Rattle.tree.specs.Node.{Out}
 use Rattle.tree.proofs.Steps.{steps-whole}
 use Rattle.tree.proofs.Noiseless.{Signs, Carries, noiseless}
 use Rattle.trial.specs.declared.Restart.{Restart}
 use Rattle.trial.specs.declared.Restart.the-variants.{Root, After}
 use Rattle.trial.specs.Trial.{firstTrial, messageIn, trialPasses}
 use Rattle.run.specs.declared.Decoded.the-variants.{Accepted}
-use Rattle.run.specs.Trials.{answerOf}
+use Rattle.run.specs.Trials.{run, answerOf}
 use Rattle.run.specs.WellFormed.{WellFormed}
 use Rattle.flip.specs.Decode.{planOf, decodedWith}
 use Rattle.flip.proofs.WellFormed.{well-formed-answer, decoded-by}
@@ -84,42 +85,52 @@ module _ (mask : List ℕ) (c : Code) (payload : List ℕ) (ones : onesBelow mas
       let m : length message ≡ informationCount c = length-message c bits ∙ ap (λ (x : ℕ). x + c .r) (length-unpacked payload (c .k)) in
       taken-placed mask message (codeLength c) (codeLength c) (omega arith) (omega arith) ∙ take-all (onesBelow mask (codeLength c)) message (omega arith)
 
+  -- its check passes
   passes-back : trialPasses mask c u ≡ true
   passes-back =
       ap₂ (λ (x : List ℕ) (m : ℕ). passes (divisor c) (startBits c) m x) message-back (sym (length-unpacked payload (c .k)))
       ∙ check-passes (divisor c) (startBits c) bits
 
+  -- and it holds the payload
   payload-back : (small : (m : ℕ) → getD payload m 0 < 256) → length payload ≡ bytesFor (c .k) → unusedBits payload (c .k) ≡ 0 → packed (take (c .k) (messageIn mask c u)) ≡ payload
   payload-back small size clear =
       ap (λ (x : List ℕ). packed (take (c .k) x)) message-back
       ∙ ap packed (take-at bits (checkOf (divisor c) (startBits c) bits) (c .k) (length-unpacked payload (c .k)))
       ∙ packed-unpacked payload (c .k) small size clear
 
--- a decoder of any restart: the first trial passes
-module _ (restart : Restart) (d : List ℕ) (c : Code) (payload encodeOutput bytes channel : List ℕ) (limit : ℕ) (output : List ℕ)
+-- trials that begin with trial 1, whatever follows: the first one passes, with the payload
+module _ (d : List ℕ) (c : Code) (payload encodeOutput bytes channel : List ℕ)
     (code : describe d ≡ Coding c) (small : (m : ℕ) → getD payload m 0 < 256) (enc : encoded d payload encodeOutput ≡ (Done, bytes))
-    (received : Received (codeLength c) bytes channel) (w : WellFormed c channel limit output) where
+    (received : Received (codeLength c) bytes channel) where
   abbrev mask : List ℕ
   mask = maskOf d
 
-  pub first-accepted : decodedWith (planOf restart limit) d channel output ≡ (Accepted 1 (c .n * codeLength c), payload)
-  first-accepted =
+  abbrev v : List ℤ
+  v = channelValues channel
+
+  pub first-answer : (output : List ℕ) (later : List Out) → answerOf mask c output (run (trialPasses mask c) 0 0 (firstTrial mask c v ∷ later)) ≡ (Accepted 1 (c .n * codeLength c), payload)
+  first-answer output later =
       let p : Described d c = described d c code in
       let e : EncodedFrom mask c payload encodeOutput bytes = encoded-from d c payload encodeOutput bytes code enc in
       let ones : onesBelow mask (codeLength c) ≡ informationCount c = ap (onesBelow mask) (sym (p .coded .mask-size)) ∙ p .coded .K-is in
-      let v : List ℤ = channelValues channel in
       let first : firstTrial mask c v .bits ≡ u mask c payload ones =
       first-recovers mask c payload ones channel (subst (λ (x : List ℕ). Received (codeLength c) x channel) (sym (e .gives)) received) in
       let ok : trialPasses mask c (firstTrial mask c v .bits) ≡ true = ap (trialPasses mask c) first ∙ passes-back mask c payload ones in
-      decoded-by (planOf restart limit) d channel output c code
-      ∙ well-formed-answer (planOf restart limit) mask c channel output w
-      ∙ ap (answerOf mask c output) (run-first (trialPasses mask c) (firstTrial mask c v) _ ok)
+      ap (answerOf mask c output) (run-first (trialPasses mask c) (firstTrial mask c v) later ok)
       ∙ ap₂ (λ (s : ℕ) (x : List ℕ). (Accepted 1 s, x)) (steps-whole (c .n) (maskRule mask) v)
       (ap (λ (b : List ℕ). packed (take (c .k) (messageIn mask c b))) first
       ∙ payload-back mask c payload ones small (e .well-formed .payload-size) (e .well-formed .unused-clear))
 
+  -- a decoder of any restart
+  pub first-accepted : (restart : Restart) (limit : ℕ) (output : List ℕ) → WellFormed c channel limit output → decodedWith (planOf restart limit) d channel output ≡ (Accepted 1 (c .n * codeLength c), payload)
+  first-accepted restart limit output w =
+      decoded-by (planOf restart limit) d channel output c code
+      ∙ well-formed-answer (planOf restart limit) mask c channel output w
+      ∙ first-answer output _
+
+-- full and restarted decoding
 pub noiseless-decoding : NoiselessDecoding
 noiseless-decoding d c payload encodeOutput bytes channel limit output code small enc received w = (
-  first-accepted Root d c payload encodeOutput bytes channel limit output code small enc received w,
-  first-accepted After d c payload encodeOutput bytes channel limit output code small enc received w,
+  first-accepted d c payload encodeOutput bytes channel code small enc received Root limit output w,
+  first-accepted d c payload encodeOutput bytes channel code small enc received After limit output w,
 )

@@ -1,7 +1,7 @@
 -- What a run of trials ends with.
 use mathlib.Core.Path.{_≡_, refl, sym, ap, ap₂, _∙_, subst}
 use mathlib.Core.Bool.{Bool, true, false, cond, true≢false}
-use mathlib.Core.List.{List, [], _∷_}
+use mathlib.Core.List.{List, [], _∷_, _++_}
 use Prim.Native.Nat.{ℕ, zero, suc, _+_, _<_, _≤_}
 use native.Mathlib.Nat.{zero-add}
 use native.Mathlib.Numerals.{add-one}
@@ -19,6 +19,7 @@ abbrev later : ℕ → ℕ → Verdict → Verdict
 later made steps (passed trial s bits) = passed (trial + made) (s + steps) bits
 later made steps (failed all s) = failed (all + made) (s + steps)
 
+-- later, and later again
 later-later : (m m′ s s′ : ℕ) (v : Verdict) → later m s (later m′ s′ v) ≡ later (m + m′) (s + s′) v
 later-later m m′ s s′ (passed trial t bits) = ap₂ (λ (a b : ℕ). passed a b bits) (omega arith) (omega arith)
 later-later m m′ s s′ (failed all t) = ap₂ failed (omega arith) (omega arith)
@@ -60,6 +61,7 @@ module _ (ok : List ℕ → Bool) where
       each (suc zero) l m = f
       each (suc (suc u)) l m = p .each (suc u) (omega arith) (omega arith)
 
+  -- at a first trial that passes
   ends-here : (o : Out) (os : List Out) → ok (o .bits) ≡ true → PassedAt ok (o ∷ os) 1 (o .work .steps) (o .bits)
   ends-here o os e = record { least = omega arith; most = omega arith; bits-are = refl; passes = e; earlier = λ t l m. absurd (omega arith); steps-are = omega arith }
 
@@ -79,11 +81,25 @@ module _ (ok : List ℕ → Bool) where
   unfolding run
   run-first o os e = rw (e, zero-add (o .work .steps))
 
+  -- trials after one that passes change nothing
+  pub run-more : (t s : ℕ) (bits : List ℕ) (made steps : ℕ) (os more : List Out) → run ok made steps os ≡ passed t s bits → run ok made steps (os ++ more) ≡ passed t s bits
+  unfolding run
+  run-more t s bits made steps [] more e = let z : _≡_ {A = ℕ} 0 1 = cc in absurd (omega arith)
+  run-more t s bits made steps (o ∷ os) more e = go (ok (o .bits)) (run-more t s bits (made + 1) (steps + o .work .steps) os more) e
+    where
+      go : (x : Bool) → (run ok (made + 1) (steps + o .work .steps) os ≡ passed t s bits → run ok (made + 1) (steps + o .work .steps) (os ++ more) ≡ passed t s bits)
+          → cond x (passed (made + 1) (steps + o .work .steps) (o .bits)) (run ok (made + 1) (steps + o .work .steps) os) ≡ passed t s bits
+          → cond x (passed (made + 1) (steps + o .work .steps) (o .bits)) (run ok (made + 1) (steps + o .work .steps) (os ++ more)) ≡ passed t s bits
+      go true later e = e
+      go false later e = later e
+
 -- ---- two runs of trials with the same bits
 
+-- they are as many
 same-length : (os os′ : List Out) → bitsOfEach os ≡ bitsOfEach os′ → length os ≡ length os′
 same-length os os′ same = sym (length-map os (λ o. o .bits)) ∙ ap length same ∙ length-map os′ (λ o. o .bits)
 
+-- and each has the bits of the other's
 same-trial : (os os′ : List Out) → bitsOfEach os ≡ bitsOfEach os′ → (t : ℕ) → bitsOfTrial os t ≡ bitsOfTrial os′ t
 same-trial os os′ same zero = refl
 same-trial os os′ same (suc t) = ap (λ (bs : List (List ℕ)). getD bs t []) same
@@ -93,6 +109,7 @@ not-failed : (ok : List ℕ → Bool) (os os′ : List Out) → bitsOfEach os �
 not-failed ok os os′ same t s b p f = true≢false (sym (p .passes) ∙ ap ok (p .bits-are ∙ same-trial os os′ same t) ∙ f)
 
 module _ (ok : List ℕ → Bool) (os os′ : List Out) (same : bitsOfEach os ≡ bitsOfEach os′) where
+  -- their verdicts agree but for the steps
   ends-same : (v v′ : Verdict) → Ends ok os v → Ends ok os′ v′ → SameButSteps v v′
   ends-same (passed t s b) (passed t′ s′ b′) p q =
       let c : t′ ≤ t = lt-cases t t′ (λ l. absurd (not-failed ok os os′ same t s b p (q .earlier t (p .least) l))) (λ l. l) in
@@ -105,5 +122,6 @@ module _ (ok : List ℕ → Bool) (os os′ : List Out) (same : bitsOfEach os �
       not-failed ok os′ os (sym same) t′ s′ b′ q (p .each t′ (q .least) (omega (arith, q .most, same-length os os′ same)))
   ends-same (failed m s) (failed m′ s′) p q = p .all ∙ same-length os os′ same ∙ sym (q .all)
 
+  -- so the runs do
   pub run-same : SameButSteps (run ok 0 0 os) (run ok 0 0 os′)
   run-same = ends-same (run ok 0 0 os) (run ok 0 0 os′) (run-ends ok os) (run-ends ok os′)

@@ -53,7 +53,7 @@ module _ (plan : Plan) (c : Code) (channel output : List ℕ) where
       }
 
 -- a run gives no refusal before 16
-answer-of-run : (mask : List ℕ) (c : Code) (output : List ℕ) (v : Verdict) → ofRun (answerOf mask c output v .0) ≡ true
+pub answer-of-run : (mask : List ℕ) (c : Code) (output : List ℕ) (v : Verdict) → ofRun (answerOf mask c output v .0) ≡ true
 answer-of-run mask c output (passed trial steps bits) = refl
 answer-of-run mask c output (failed made steps) = refl
 
@@ -94,10 +94,6 @@ module _ (plan : Plan) (d channel output : List ℕ) where
   pub decoded-by : (c : Code) → describe d ≡ Coding c → decodedWith plan d channel output ≡ decodedBy plan (maskOf d) c channel output
   unfolding decodedWith
   decoded-by c e = ap by e
-
-  -- refusals 12 to 15
-  pub code-refused : (c : Code) (x : Refusal) → describe d ≡ Coding c → judge (decodingRefusals plan c channel output) ≡ Refusing x → decodedWith plan d channel output ≡ (Refused x, output)
-  code-refused c x e h = decoded-by c e ∙ refused-answer plan (maskOf d) c channel output x h
 
   -- the input is well-formed exactly where nothing before 16 is the answer; `decodedFull` and `decodedRestarted` have a plan each
   pub well-formed-exactly : WellFormedUnder d (λ c. WellFormed c channel (plan .limit) output) ↔ (ofRun (decodedWith plan d channel output .0) ≡ true)

@@ -2,7 +2,7 @@
 use Rattle.trial.specs.declared.Restart.the-variants.{Root, After}
 use Rattle.number.proofs.Fields.{number-fields}
 use Rattle.polar.specs.Claims.{ReadBack}
-use Rattle.polar.proofs.Fitting.{encoded-fits, resumed-fits, decoded-fits}
+use Rattle.polar.proofs.Fitting.{encoded-fits, resumed-fits, decoded-fits, sets-fits}
 
 pub read-back : ReadBack
 read-back = (
@@ -10,4 +10,6 @@ read-back = (
   λ d channel prefix output. number-fields _ (resumed-fits d channel prefix output),
   λ d channel limit output. number-fields _ (decoded-fits Root d channel limit output),
   λ d channel limit output. number-fields _ (decoded-fits After d channel limit output),
+  λ d channel w limit output. number-fields _ (sets-fits Root d channel w limit output),
+  λ d channel w limit output. number-fields _ (sets-fits After d channel w limit output),
 )

@@ -32,10 +32,12 @@ use Rattle.resume.specs.Resume.{firstBad, resumingRefusals, resumedBy, resumed}
 use Rattle.trial.specs.declared.Restart.{Restart}
 use Rattle.trial.specs.Trial.{trialPasses}
 use Rattle.run.specs.declared.Decoded.{Decoded}
-use Rattle.run.specs.declared.Plan.{Plan}
 use Rattle.run.specs.Trials.{trials, Verdict, passed, failed, run, answerOf}
 use Rattle.flip.specs.Decode.{decodingRefusals, planOf, decodedBy, decodedWith}
 use Rattle.demands.proofs.StepBounds.{Bounded, decoded-bounded}
+use Rattle.sets.specs.Tried.{setTrials}
+use Rattle.sets.specs.DecodeSets.{setRefusals, searchOf, setsBy, setsWith}
+use Rattle.setdemands.proofs.StepBounds.{sets-bounded}
 use Rattle.number.specs.Number.{Parts, parts, refusalParts, encodedParts, resumedParts, decodedParts}
 use Rattle.number.specs.Contracts.{Fitting}
 
@@ -116,22 +118,32 @@ resumed-fits d channel prefix output =
       fitting (omega arith) (omega arith) (omega (arith, steps-fit l (steps-most (c .n) prefix (maskRule mask) (channelValues channel)))),
     ))
 
+-- what a run of trials answers, within its bounds
+abbrev BoundedFits : Decoded × List ℕ → Type 0
+BoundedFits a = Bounded a → Fits decodedParts a
+
+ran-fits : (mask : List ℕ) (c : Code) (output : List ℕ) (v : Verdict) → BoundedFits (answerOf mask c output v)
+ran-fits mask c output (passed trial steps bits) b = fitting (omega arith) (omega (arith, b .0)) (omega (arith, b .1))
+ran-fits mask c output (failed made steps) b = fitting (omega arith) (omega (arith, b .0)) (omega (arith, b .1))
+
 pub decoded-fits : (restart : Restart) (d channel : List ℕ) (limit : ℕ) (output : List ℕ) → Fits decodedParts (decodedWith (planOf restart limit) d channel output)
 unfolding decodedWith decodedBy
 decoded-fits restart d channel limit output =
-    on-call Holds _ (λ x f b. f) d (λ c. decodingRefusals plan c channel output)
+    let plan = planOf restart limit in
+    on-call BoundedFits _ (λ x f b. f) d (λ c. decodingRefusals plan c channel output)
     (λ c e. (
       judged-reached RefusalFits (decodingRefusals plan c channel output) (search (needs, alone, outside-fits c (described d c e .coded .n-most) channel)),
-      ran c (run (trialPasses (maskOf d) c) 0 0 (trials plan (maskOf d) c (channelValues channel))),
+      ran-fits (maskOf d) c output (run (trialPasses (maskOf d) c) 0 0 (trials plan (maskOf d) c (channelValues channel))),
     ))
     (decoded-bounded restart d channel limit output)
-  where
-    plan : Plan
-    plan = planOf restart limit
 
-    Holds : Decoded × List ℕ → Type 0
-    Holds a = Bounded a → Fits decodedParts a
-
-    ran : (c : Code) (v : Verdict) → Holds (answerOf (maskOf d) c output v)
-    ran c (passed trial steps bits) b = fitting (omega arith) (omega (arith, b .0)) (omega (arith, b .1))
-    ran c (failed made steps) b = fitting (omega arith) (omega (arith, b .0)) (omega (arith, b .1))
+pub sets-fits : (restart : Restart) (d channel : List ℕ) (w limit : ℕ) (output : List ℕ) → Fits decodedParts (setsWith (searchOf restart w limit) d channel output)
+unfolding setsWith setsBy
+sets-fits restart d channel w limit output =
+    let s = searchOf restart w limit in
+    on-call BoundedFits _ (λ x f b. f) d (λ c. setRefusals s c channel output)
+    (λ c e. (
+      judged-reached RefusalFits (setRefusals s c channel output) (search (needs, alone, outside-fits c (described d c e .coded .n-most) channel) depth 9),
+      ran-fits (maskOf d) c output (run (trialPasses (maskOf d) c) 0 0 (setTrials s (maskOf d) c (channelValues channel))),
+    ))
+    (sets-bounded restart w limit d channel output)

@@ -4,6 +4,7 @@ use mathlib.Core.List.{List}
 use Rattle.encoder.specs.Encode.{encoded}
 use Rattle.resume.specs.Resume.{resumed}
 use Rattle.flip.specs.Decode.{decodedFull, decodedRestarted}
+use Rattle.sets.specs.DecodeSets.{setsFull, setsRestarted}
 use Rattle.number.specs.Number.{encodedParts, resumedParts, decodedParts}
 use Rattle.number.specs.Claims.{Read}
 
@@ -14,3 +15,5 @@ ReadBack =
     × ((d channel prefix output : List ℕ) → Read (resumedParts (resumed d channel prefix output .0)))
     × ((d channel : List ℕ) (limit : ℕ) (output : List ℕ) → Read (decodedParts (decodedFull d channel limit output .0)))
     × ((d channel : List ℕ) (limit : ℕ) (output : List ℕ) → Read (decodedParts (decodedRestarted d channel limit output .0)))
+    × ((d channel : List ℕ) (w limit : ℕ) (output : List ℕ) → Read (decodedParts (setsFull d channel w limit output .0)))
+    × ((d channel : List ℕ) (w limit : ℕ) (output : List ℕ) → Read (decodedParts (setsRestarted d channel w limit output .0)))

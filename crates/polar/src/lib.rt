@@ -6,6 +6,7 @@ ghost use mathlib.Core.Path.{_≡_};
 ghost use Rattle.encoder.specs.Encode.{encoded};
 ghost use Rattle.resume.specs.Resume.{resumed};
 ghost use Rattle.flip.specs.Decode.{decodedFull, decodedRestarted};
+ghost use Rattle.sets.specs.DecodeSets.{setsFull, setsRestarted};
 ghost use Rattle.number.specs.Number.{numbered, encodedParts, resumedParts, decodedParts};
 
 #[no_mangle]
@@ -49,4 +50,30 @@ pub extern "C" fn polar_decode_restarted(
     ensures { λ x. ⌜ (x, now (payload .exit)) ≡ numbered decodedParts (decodedRestarted (now (description .entry)) (now (channel .entry)) limit (now (payload .entry))) ⌝ }
 {
     decoded_answer(flip::decode_restarted(description, channel, limit, payload))
+}
+
+#[no_mangle]
+pub extern "C" fn polar_decode_sets_full(
+    description: &[u8],
+    channel: &[u8],
+    w: u32,
+    limit: u32,
+    payload: &mut [u8],
+) -> u64
+    ensures { λ x. ⌜ (x, now (payload .exit)) ≡ numbered decodedParts (setsFull (now (description .entry)) (now (channel .entry)) w limit (now (payload .entry))) ⌝ }
+{
+    decoded_answer(setflip::decode_sets_full(description, channel, w, limit, payload))
+}
+
+#[no_mangle]
+pub extern "C" fn polar_decode_sets_restarted(
+    description: &[u8],
+    channel: &[u8],
+    w: u32,
+    limit: u32,
+    payload: &mut [u8],
+) -> u64
+    ensures { λ x. ⌜ (x, now (payload .exit)) ≡ numbered decodedParts (setsRestarted (now (description .entry)) (now (channel .entry)) w limit (now (payload .entry))) ⌝ }
+{
+    decoded_answer(setflip::decode_sets_restarted(description, channel, w, limit, payload))
 }

@@ -18,7 +18,7 @@ use Rattle.placing.proofs.Placing.{bits-taken}
 use Rattle.values.specs.Values.{maskRule}
 use Rattle.values.specs.Claims.{Within}
 use Rattle.values.proofs.Bounds.{within-more}
-use Rattle.channel.specs.Channel.{channelValues}
+use Rattle.channel.specs.Channel.{channelValues, firstOutside}
 use Rattle.channel.proofs.Outside.{all-inside}
 use Rattle.tree.proofs.Leaves.{within-leaves}
 use Rattle.node.specs.Contracts.{Arrays, Whole}
@@ -32,21 +32,23 @@ use Rattle.run.specs.Trials.{flipOrder, passed, answerOf}
 use Rattle.run.specs.Contracts.{RunPre}
 use Rattle.run.proofs.FlipOrder.{length-order}
 
+-- channel values, none of them outside its range
+pub values-inside : (channel : List ℕ) → firstOutside channel ≡ length channel → Within 31 (channelValues channel)
+values-inside channel inside = all-inside channel (omega (arith, inside))
+
+-- the arrays of any trial
+pub trial-on : {mask : List ℕ} {c : Code} {channel : List ℕ} → Coded mask c → length channel ≡ codeLength c → firstOutside channel ≡ length channel
+    → {room : ℕ} {rules : List ℕ} {a : Arrays} → length rules ≡ room → Whole room a → TrialPre room c channel rules a
+trial-on {channel} coded size inside r w = record {
+  n-least = omega (arith, coded .n-least);
+  n-most = coded .n-most;
+  long = size;
+  small = values-inside channel inside;
+  rules-whole = r;
+  whole = w;
+}
+
 module _ {plan : Plan} {mask : List ℕ} {c : Code} {channel output : List ℕ} (on : RunPre plan mask c channel output) where
-  pub values-small : Within 31 (channelValues channel)
-  values-small = all-inside channel (omega (arith, on .well-formed .in-range))
-
-  -- the arrays of any trial
-  pub trial-pre : {room : ℕ} {rules : List ℕ} {a : Arrays} → length rules ≡ room → Whole room a → TrialPre room c channel rules a
-  trial-pre r w = record {
-    n-least = omega (arith, on .coded .n-least);
-    n-most = on .coded .n-most;
-    long = on .well-formed .channel-size;
-    small = values-small;
-    rules-whole = r;
-    whole = w;
-  }
-
   pub order-long : plan .limit - 1 ≤ length (flipOrder mask c (channelValues channel))
   order-long = omega (arith, length-order (on .coded) (channelValues channel), on .well-formed .limit-most)
 
@@ -57,7 +59,7 @@ module _ {plan : Plan} {mask : List ℕ} {c : Code} {channel output : List ℕ} 
     fits = omega (arith, on .coded .mask-size, fits (on .coded .n-most));
     small =
         subst (Within mostMagnitude) (sym (ap (λ (m : ℕ). take m values) (on .coded .mask-size) ∙ kept .values))
-        (within-more (omega (arith, fits (on .coded .n-most))) (within-leaves (c .n) 31 [] (maskRule mask) (channelValues channel) values-small));
+        (within-more (omega (arith, fits (on .coded .n-most))) (within-leaves (c .n) 31 [] (maskRule mask) (channelValues channel) (values-inside channel (on .well-formed .in-range))));
   }
 
 -- the message of a trial that passes, in a room that begins with it

@@ -1,18 +1,22 @@
 -- What only contracts below the public operations cite. Nothing here need be believed.
 use mathlib.Core.Path.{_≡_}
-use mathlib.Core.List.{List}
+use mathlib.Core.List.{List, _∷_}
 use Prim.Native.Nat.{ℕ, _*_, _≤_}
 use lib.IntN.{ℤ}
-use lib.ListN.{length, drop}
+use lib.ListN.{length}
 use Rattle.code.specs.declared.Code.{Code}
 use Rattle.code.specs.Code.{codeLength}
 use Rattle.code.specs.Claims.{Coded}
 use Rattle.channel.specs.Channel.{channelValues}
+use Rattle.tree.specs.Node.{Out}
+use Rattle.node.specs.Contracts.{Arrays, Whole}
 use Rattle.order.specs.Contracts.{Keyed}
 use Rattle.trial.specs.Trial.{firstTrial, trialPasses}
-use Rattle.trial.specs.Contracts.{PlainRules, FirstBits}
+use Rattle.trial.specs.Contracts.{PlainRules, FirstBits, FirstLeaves}
 use Rattle.run.specs.declared.Plan.{Plan}
 use Rattle.run.specs.declared.Decoded.{Decoded}
+use Rattle.run.specs.declared.Begun.{Begun}
+use Rattle.run.specs.declared.Begun.the-variants.{Passed, Failed}
 use Rattle.run.specs.Trials.{trials, run, answerOf}
 use Rattle.run.specs.WellFormed.{WellFormed}
 
@@ -22,20 +26,25 @@ pub record RunPre (plan : Plan) (mask : List ℕ) (c : Code) (channel output : L
   pub well-formed : WellFormed c channel (plan .limit) output
 
 -- arrays of `room` entries, and room for a message
-pub record RoomsPre (room : ℕ) (c : Code) (first : List ℕ) (values : List ℤ) (rules : List ℕ) (work : List ℤ) (sums message : List ℕ) : Type 0 where
-  pub first-whole : length first ≡ room
-  pub values-whole : length values ≡ room
+pub record RoomsPre (room : ℕ) (c : Code) (rules : List ℕ) (a : Arrays) (message : List ℕ) : Type 0 where
   pub rules-whole : length rules ≡ room
-  pub work-whole : length work ≡ room
-  pub sums-whole : length sums ≡ room
+  pub whole : Whole room a
   pub message-size : codeLength c ≤ length message
 
--- once trial 1 is made, in `start` steps: its bits, the rules of a plain pass, and room for a message
+-- once trial 1 failed, in `start` steps: its bits, the rules of a plain pass, room for a message, and how a run goes on
 pub record LaterTrialsPre (room : ℕ) (mask : List ℕ) (c : Code) (channel : List ℕ) (start : ℕ) (first rules message : List ℕ) : Type 0 where
   pub start-most : start ≤ c .n * codeLength c
   pub first-bits : FirstBits room mask c channel first
   pub plain : PlainRules room mask c rules
   pub message-size : codeLength c ≤ length message
+  pub goes-on : (later : List Out) → run (trialPasses mask c) 0 0 (firstTrial mask c (channelValues channel) ∷ later) ≡ run (trialPasses mask c) 1 start later
+
+-- how trial 1 ended: the answer is that of a run, whatever trials it has left; or the output is as it was
+abbrev pub BeginPost : ℕ → List ℕ → Code → List ℕ → List ℕ → List ℕ → Arrays → List ℕ → List ℕ → Begun → Type 0
+BeginPost room mask c channel output rules a message output′ (Passed answer) =
+    (later : List Out) → (answer, output′) ≡ answerOf mask c output (run (trialPasses mask c) 0 0 (firstTrial mask c (channelValues channel) ∷ later))
+BeginPost room mask c channel output rules a message output′ (Failed start) =
+    LaterTrialsPre room mask c channel start (a .bits) rules message × FirstLeaves room mask c channel (a .leaves) × Whole room a × (output′ ≡ output)
 
 -- the keys of trial 1's leaf values
 abbrev pub FirstKeys : List ℕ → Code → List ℕ → List ℤ → Type 0
@@ -45,8 +54,3 @@ FirstKeys mask c channel keys = Keyed mask (codeLength c) (firstTrial mask c (ch
 abbrev pub answerBy : Plan → List ℕ → Code → List ℕ → List ℕ → Decoded × List ℕ
 answerBy plan mask c channel output =
     answerOf mask c output (run (trialPasses mask c) 0 0 (trials plan mask c (channelValues channel)))
-
--- the same where trial 1 failed, after `start` steps
-abbrev pub answerFrom : Plan → List ℕ → Code → List ℕ → ℕ → List ℕ → Decoded × List ℕ
-answerFrom plan mask c channel start output =
-    answerOf mask c output (run (trialPasses mask c) 1 start (drop 1 (trials plan mask c (channelValues channel))))

@@ -11,9 +11,12 @@ ghost use Prim.Native.Nat.{_≤_};
 ghost use lib.ListN.{length, take};
 ghost use Rattle.bits.specs.Claims.{Bits};
 ghost use Rattle.bits.specs.Packing.{bytesFor, packed};
+ghost use Rattle.code.specs.Code.{codeLength};
+ghost use Rattle.code.specs.Claims.{Coded};
+ghost use Rattle.channel.specs.Channel.{firstOutside};
 ghost use Rattle.node.specs.Contracts.{arrays, Whole};
 ghost use Rattle.trial.specs.Contracts.{FirstLeaves};
-ghost use Rattle.run.specs.Contracts.{RunPre, RoomsPre, LaterTrialsPre, FirstKeys, answerBy, answerFrom};
+ghost use Rattle.run.specs.Contracts.{RunPre, RoomsPre, LaterTrialsPre, FirstKeys, BeginPost, answerBy};
 
 // How a frame is decoded: where later trials resume, and how many trials may be made, trial 1 included.
 pub struct Plan {
@@ -29,13 +32,42 @@ pub enum Decoded {
     Refused(Refusal),
 }
 
+// How trial 1 ended: with the answer, where it passed; in so many steps, where it failed.
+pub enum Begun {
+    Passed(Decoded),
+    Failed(u32),
+}
+
 // Acceptance writes the packed payload, the first k bits of a message.
-fn accept(k: usize, trial: u32, steps: u32, message: &[u8], output: &mut [u8]) -> Decoded
+pub fn accept(k: usize, trial: u32, steps: u32, message: &[u8], output: &mut [u8]) -> Decoded
     requires { ⌜ (k ≤ length (now message)) × Bits (take k (now message)) × (length (now output) ≡ bytesFor k) ⌝ }
     ensures { λ a. ⌜ (a ≡ Decoded.Accepted trial steps) × (now (output .exit) ≡ packed (take k (now (message .entry)))) ⌝ }
 {
     bits::pack(&message[..k], output);
     Decoded::Accepted { trial, steps }
+}
+
+// Trial 1. Its bits and leaf values are put in `first` and `values`.
+pub fn begin(
+    mask: &[u8],
+    code: Code,
+    channel: &[u8],
+    first: &mut BitArray,
+    values: &mut ValueArray,
+    rules: &mut RuleArray,
+    work: &mut ValueArray,
+    sums: &mut BitArray,
+    message: &mut [u8],
+    output: &mut [u8],
+) -> Begun
+    requires { do ⌜ Coded (now mask) code × (length (now channel) ≡ codeLength code) × (firstOutside (now channel) ≡ length (now channel)) × (length (now output) ≡ bytesFor (code .k)) × RoomsPre (← ⟦SIZE⟧) code (now rules) (arrays (now work) (now first) (now sums) (now values)) (now message) ⌝ }
+    ensures { λ b. do ⌜ BeginPost (← ⟦SIZE⟧ .entry) (now (mask .entry)) code (now (channel .entry)) (now (output .entry)) (now (rules .exit)) (arrays (now (work .exit)) (now (first .exit)) (now (sums .exit)) (now (values .exit))) (now (message .exit)) (now (output .exit)) b ⌝ }
+{
+    let done = trial::first_trial(mask, code, channel, first, values, rules, work, sums);
+    if trial::trial_passes(mask, code, first, message) {
+        return Begun::Passed(accept(code.k, 1, done.steps, message, output));
+    }
+    Begun::Failed(done.steps)
 }
 
 // The trials after the first, which took `start` steps and failed, until one passes or the limit is reached. `keys` order the indices.
@@ -56,7 +88,7 @@ fn flip_trials(
     output: &mut [u8],
 ) -> Decoded
     requires { do ⌜ RunPre plan (now mask) code (now channel) (now output) × LaterTrialsPre (← ⟦SIZE⟧) (now mask) code (now channel) start (now first) (now rules) (now message) × FirstKeys (now mask) code (now channel) (now keys) × Whole (← ⟦SIZE⟧) (arrays (now work) (now bits) (now sums) (now leaves)) ⌝ }
-    ensures { λ a. ⌜ (a, now (output .exit)) ≡ answerFrom plan (now (mask .entry)) code (now (channel .entry)) start (now (output .entry)) ⌝ }
+    ensures { λ a. ⌜ (a, now (output .exit)) ≡ answerBy plan (now (mask .entry)) code (now (channel .entry)) (now (output .entry)) ⌝ }
 {
     let restart = plan.restart;
     let limit = plan.limit;
@@ -108,8 +140,8 @@ fn later_trials(
     message: &mut [u8],
     output: &mut [u8],
 ) -> Decoded
-    requires { do ⌜ RunPre plan (now mask) code (now channel) (now output) × LaterTrialsPre (← ⟦SIZE⟧) (now mask) code (now channel) start (now first) (now rules) (now message) × FirstLeaves (← ⟦SIZE⟧) (now mask) code (now channel) (now values) × (length (now work) ≡ (← ⟦SIZE⟧)) × (length (now sums) ≡ (← ⟦SIZE⟧)) ⌝ }
-    ensures { λ a. ⌜ (a, now (output .exit)) ≡ answerFrom plan (now (mask .entry)) code (now (channel .entry)) start (now (output .entry)) ⌝ }
+    requires { do ⌜ RunPre plan (now mask) code (now channel) (now output) × LaterTrialsPre (← ⟦SIZE⟧) (now mask) code (now channel) start (now first) (now rules) (now message) × FirstLeaves (← ⟦SIZE⟧) (now mask) code (now channel) (now values) × Whole (← ⟦SIZE⟧) (arrays (now work) (now first) (now sums) (now values)) ⌝ }
+    ensures { λ a. ⌜ (a, now (output .exit)) ≡ answerBy plan (now (mask .entry)) code (now (channel .entry)) (now (output .entry)) ⌝ }
 {
     if plan.limit == 1 {
         return Decoded::Failed {
@@ -138,43 +170,6 @@ fn later_trials(
     )
 }
 
-// All trials, until one passes or the limit is reached. Trial 1's bits and leaf values are put in `first` and `values`.
-fn run_trials(
-    plan: Plan,
-    mask: &[u8],
-    code: Code,
-    channel: &[u8],
-    first: &mut BitArray,
-    values: &mut ValueArray,
-    rules: &mut RuleArray,
-    work: &mut ValueArray,
-    sums: &mut BitArray,
-    message: &mut [u8],
-    output: &mut [u8],
-) -> Decoded
-    requires { do ⌜ RunPre plan (now mask) code (now channel) (now output) × RoomsPre (← ⟦SIZE⟧) code (now first) (now values) (now rules) (now work) (now sums) (now message) ⌝ }
-    ensures { λ a. ⌜ (a, now (output .exit)) ≡ answerBy plan (now (mask .entry)) code (now (channel .entry)) (now (output .entry)) ⌝ }
-{
-    let done = trial::first_trial(mask, code, channel, first, values, rules, work, sums);
-    if trial::trial_passes(mask, code, first, message) {
-        return accept(code.k, 1, done.steps, message, output);
-    }
-    later_trials(
-        plan,
-        mask,
-        code,
-        channel,
-        done.steps,
-        first,
-        values,
-        rules,
-        work,
-        sums,
-        message,
-        output,
-    )
-}
-
 // Fills the working arrays and runs the trials.
 pub fn decode_in(plan: Plan, mask: &[u8], code: Code, channel: &[u8], output: &mut [u8]) -> Decoded
     requires { ⌜ RunPre plan (now mask) code (now channel) (now output) ⌝ }
@@ -186,8 +181,7 @@ pub fn decode_in(plan: Plan, mask: &[u8], code: Code, channel: &[u8], output: &m
     let mut work = [0i32; SIZE];
     let mut sums = [0u8; SIZE];
     let mut message = [0u8; SIZE];
-    run_trials(
-        plan,
+    match begin(
         mask,
         code,
         channel,
@@ -198,5 +192,21 @@ pub fn decode_in(plan: Plan, mask: &[u8], code: Code, channel: &[u8], output: &m
         &mut sums,
         &mut message,
         output,
-    )
+    ) {
+        Begun::Passed(answer) => answer,
+        Begun::Failed(start) => later_trials(
+            plan,
+            mask,
+            code,
+            channel,
+            start,
+            &first,
+            &mut values,
+            &mut rules,
+            &mut work,
+            &mut sums,
+            &mut message,
+            output,
+        ),
+    }
 }

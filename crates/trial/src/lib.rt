@@ -15,7 +15,7 @@ ghost use Rattle.code.specs.Claims.{Coded};
 ghost use Rattle.channel.specs.Channel.{channelValues};
 ghost use Rattle.node.specs.Contracts.{arrays};
 ghost use Rattle.sc.specs.Contracts.{PassPre};
-ghost use Rattle.trial.specs.Trial.{restartAt, forcedPrefix, laterTrial, messageIn, trialPasses};
+ghost use Rattle.trial.specs.Trial.{lowest, restartAt, forcedPrefix, laterTrial, messageIn, trialPasses};
 ghost use Rattle.trial.specs.Contracts.{firstFrom, Below, setAll, trialBy, PlainRules, TrialPre, LaterTrialPre, FirstBits, TrialPost, FirstTrialPost};
 ghost use Rattle.trial.specs.Claims.{Flips};
 
@@ -97,7 +97,7 @@ fn set_rules(rule: u8, flips: &[usize], rules: &mut RuleArray)
 }
 
 // A later trial that flips some indices, given in ascending order, and resumes at q. Afterwards each of them has the usual rule.
-pub fn later_trial(
+fn later_trial(
     code: Code,
     q: usize,
     flips: &[usize],
@@ -119,6 +119,38 @@ pub fn later_trial(
     done
 }
 
+// A later trial that flips a set of indices, given in ascending order.
+pub fn set_trial(
+    restart: Restart,
+    mask: &[u8],
+    code: Code,
+    flips: &[usize],
+    channel: &[u8],
+    first: &BitArray,
+    rules: &mut RuleArray,
+    work: &mut ValueArray,
+    bits: &mut BitArray,
+    sums: &mut BitArray,
+    leaves: &mut ValueArray,
+) -> Work
+    requires { do ⌜ TrialPre (← ⟦SIZE⟧) code (now channel) (now rules) (arrays (now work) (now bits) (now sums) (now leaves)) × Coded (now mask) code × Flips (now mask) (codeLength code) (now flips) × PlainRules (← ⟦SIZE⟧) (now mask) code (now rules) × FirstBits (← ⟦SIZE⟧) (now mask) code (now channel) (now first) ⌝ }
+    ensures { λ done. do ⌜ TrialPost (← ⟦SIZE⟧ .entry) code (restartAt restart (now (mask .entry)) (codeLength code) (lowest (now (flips .entry)))) (laterTrial restart (now (mask .entry)) code (channelValues (now (channel .entry))) (now (flips .entry))) (arrays (now (work .exit)) (now (bits .exit)) (now (sums .exit)) (now (leaves .exit))) done × PlainRules (← ⟦SIZE⟧ .entry) (now (mask .entry)) code (now (rules .exit)) ⌝ }
+{
+    let q = restart_index(restart, mask, flips[0]);
+    later_trial(
+        code,
+        q,
+        flips,
+        channel,
+        first,
+        rules,
+        work,
+        bits,
+        sums,
+        leaves,
+    )
+}
+
 // A later trial that flips one index.
 pub fn flip_trial(
     restart: Restart,
@@ -136,11 +168,11 @@ pub fn flip_trial(
     requires { do ⌜ TrialPre (← ⟦SIZE⟧) code (now channel) (now rules) (arrays (now work) (now bits) (now sums) (now leaves)) × Coded (now mask) code × Flips (now mask) (codeLength code) (i ∷ []) × PlainRules (← ⟦SIZE⟧) (now mask) code (now rules) × FirstBits (← ⟦SIZE⟧) (now mask) code (now channel) (now first) ⌝ }
     ensures { λ done. do ⌜ TrialPost (← ⟦SIZE⟧ .entry) code (restartAt restart (now (mask .entry)) (codeLength code) i) (laterTrial restart (now (mask .entry)) code (channelValues (now (channel .entry))) (i ∷ [])) (arrays (now (work .exit)) (now (bits .exit)) (now (sums .exit)) (now (leaves .exit))) done × PlainRules (← ⟦SIZE⟧ .entry) (now (mask .entry)) code (now (rules .exit)) ⌝ }
 {
-    let q = restart_index(restart, mask, i);
     let flips = [i; 1];
-    later_trial(
+    set_trial(
+        restart,
+        mask,
         code,
-        q,
         &flips,
         channel,
         first,

@@ -7,3 +7,4 @@ pub mod Published
 pub mod Resume
 pub mod Instances
 pub mod Starred
+pub mod Sets

@@ -38,12 +38,19 @@ static void full_trial(struct pass *p, const struct code *code, const int8_t *ch
     p->rules[flipped] = 1;
 }
 
-static void restarted_trial(struct pass *p, const struct code *code, const int8_t *channel, const uint8_t *first, size_t flipped)
+/* Forces the bits of a restarted trial: trial 1's before the lowest flipped index, the opposite there, then zeros. Gives how many. */
+static size_t force(struct pass *p, const struct code *code, const uint8_t *first, size_t flipped)
 {
     size_t q = restart_index(code, flipped);
     memcpy(p->bits, first, flipped);
     p->bits[flipped] = !first[flipped];
     memset(p->bits + flipped + 1, 0, q - flipped - 1);
+    return q;
+}
+
+static void restarted_trial(struct pass *p, const struct code *code, const int8_t *channel, const uint8_t *first, size_t flipped)
+{
+    size_t q = force(p, code, first, flipped);
     run(p, channel, code->size, q);
 }
 

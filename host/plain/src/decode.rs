@@ -38,11 +38,18 @@ fn restarted_trial(
     first: &[u8; SIZE],
     flipped: usize,
 ) {
+    let q = force(pass, code, first, flipped);
+    pass.run(channel, q);
+}
+
+/// Forces the bits of a restarted trial: trial 1's before the lowest flipped index, the opposite
+/// there, then zeros. Gives how many.
+pub fn force(pass: &mut Pass, code: &Code, first: &[u8; SIZE], flipped: usize) -> usize {
     let q = code.restart_index(flipped);
     pass.bits[..flipped].copy_from_slice(&first[..flipped]);
     pass.bits[flipped] = 1 - first[flipped];
     pass.bits[flipped + 1..q].fill(0);
-    pass.run(channel, q);
+    q
 }
 
 fn try_decode(
@@ -99,7 +106,7 @@ fn make_trials(
 }
 
 /// Takes the message out; whether its check is right.
-fn accepts(code: &Code, pass: &Pass, message: &mut [u8; SIZE]) -> bool {
+pub fn accepts(code: &Code, pass: &Pass, message: &mut [u8; SIZE]) -> bool {
     take(code, &pass.bits, message);
     passes(code, &message[..code.information()])
 }

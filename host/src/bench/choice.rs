@@ -1,85 +1,158 @@
 //! What the command line chooses of the benchmark.
 
 use crate::bench::codec::Way;
+use crate::bench::frames::Frames;
 use crate::bench::process::TIMES_ONLY;
+use crate::bench::search::Search;
 use crate::bench::task::{Limit, Task, LIMITS};
 use crate::bench::DEPTHS;
 use crate::reference::sizes::{DEEPEST, MOST_TRIALS};
 
 pub const USAGE: &str = "\
-bench [OPERATION ..] [--n N ..] [--t T ..] [--rounds R]
-  OPERATION   encode, pass, full, restarted or quantise; all where none is named
+bench [OPERATION ..] [--n N ..] [--t T ..] [--w W ..] [--k K ..] [--rounds R]
+  OPERATION   encode, pass, full, restarted, quantise, sets-full or sets-restarted; all where none is
+              named
   --n N       the code lengths, as n from 5 on; 5, 7 and the largest where none is named
   --t T       the trial limits, from 1 on, or all for K + 1; 1, 13 and all where none is named
+  --w W       the most flips of a set, 2 or 3; both where none is named
+  --k K       the payload sizes of flip sets, those of document 000; all where none is named
   --rounds R  how many rounds each row takes, instead of as many as about two seconds hold";
 
 /// The rows to measure, and the number of rounds where it is set.
 #[derive(Debug, PartialEq, Eq)]
 pub struct Choice {
     pub layers: Vec<usize>,
+    /// What is done with frames of each length.
     pub tasks: Vec<Task>,
+    pub searches: Vec<Search>,
+    /// How frames are decoded by each search.
+    pub ways: Vec<Way>,
     pub rounds: Option<usize>,
     /// Whether this is a process that gives its times to another.
     pub times_only: bool,
 }
 
+/// What the words name.
+#[derive(Default)]
+struct Named {
+    operations: Vec<Operation>,
+    layers: Vec<usize>,
+    limits: Vec<Limit>,
+    flips: Vec<usize>,
+    sizes: Vec<usize>,
+    rounds: Option<usize>,
+    times_only: bool,
+}
+
 impl Choice {
     /// The choice of these words, or nothing where one of them is not understood.
     pub fn read(words: &[String]) -> Option<Choice> {
-        let (mut operations, mut layers, mut limits) = (Vec::new(), Vec::new(), Vec::new());
-        let (mut rounds, mut times_only) = (None, false);
-        let mut words = words.iter();
-        while let Some(word) = words.next() {
-            match word.as_str() {
-                "--n" => layers.push(number(words.next()?, 5..=DEEPEST)?),
-                "--t" => limits.push(limit(words.next()?)?),
-                "--rounds" => rounds = Some(number(words.next()?, 1..=1_000_000)?),
-                TIMES_ONLY => times_only = true,
-                _ => operations.push(Operation::named(word)?),
-            }
-        }
-        let operations = or_all(operations, &Operation::ALL.map(|(_, operation)| operation));
-        let limits = or_all(limits, &LIMITS);
+        let named = Named::read(words)?;
+        let operations = or_all(
+            named.operations,
+            &OPERATIONS.map(|(_, operation)| operation),
+        );
+        let limits = or_all(named.limits, &LIMITS);
+        let tasks: Vec<Task> = operations
+            .iter()
+            .flat_map(|operation| operation.tasks(&limits))
+            .collect();
+        let ways: Vec<Way> = operations.iter().filter_map(Operation::way).collect();
+        let is_named = |search: &Search| {
+            let has = |list: &[usize], entry| list.is_empty() || list.contains(&entry);
+            has(&named.flips, search.most_flips as usize) && has(&named.sizes, search.k)
+        };
+        let searches = Search::all().into_iter().filter(is_named).collect();
         Some(Choice {
-            layers: or_all(layers, &DEPTHS),
-            tasks: operations
-                .into_iter()
-                .flat_map(|operation| operation.tasks(&limits))
-                .collect(),
-            rounds,
-            times_only,
+            layers: only_if(!tasks.is_empty(), or_all(named.layers, &DEPTHS)),
+            tasks,
+            searches: only_if(!ways.is_empty(), searches),
+            ways,
+            rounds: named.rounds,
+            times_only: named.times_only,
         })
+    }
+
+    /// The frames of all rows.
+    pub fn frames(&self) -> Vec<Frames> {
+        let lengths = self.layers.iter().map(|&n| Frames::of_length(n));
+        let searches = self.searches.iter().map(|&of| Frames::of_search(of));
+        lengths.chain(searches).collect()
+    }
+
+    /// What is done with these.
+    pub fn tasks_on(&self, frames: &Frames) -> Vec<Task> {
+        match frames.search {
+            None => self.tasks.clone(),
+            Some(search) => self
+                .ways
+                .iter()
+                .map(|&way| Task::Sets(way, search))
+                .collect(),
+        }
     }
 }
 
-/// A task, or a way of decoding under each trial limit.
+impl Named {
+    fn read(words: &[String]) -> Option<Named> {
+        let mut named = Named::default();
+        let mut words = words.iter();
+        while let Some(word) = words.next() {
+            match word.as_str() {
+                "--n" => named.layers.push(number(words.next()?, 5..=DEEPEST)?),
+                "--t" => named.limits.push(limit(words.next()?)?),
+                "--w" => named.flips.push(number(words.next()?, 2..=3)?),
+                "--k" => named.sizes.push(payload_size(words.next()?)?),
+                "--rounds" => named.rounds = Some(number(words.next()?, 1..=1_000_000)?),
+                TIMES_ONLY => named.times_only = true,
+                _ => named.operations.push(Operation::named(word)?),
+            }
+        }
+        Some(named)
+    }
+}
+
+/// A task, a way of decoding under each trial limit, or one by each search.
 #[derive(Clone, Copy)]
 enum Operation {
     One(Task),
     Each(Way),
+    Sets(Way),
 }
 
-impl Operation {
-    const ALL: [(&'static str, Operation); 5] = [
-        ("encode", Operation::One(Task::Encode)),
-        ("pass", Operation::One(Task::Pass)),
-        ("full", Operation::Each(Way::Full)),
-        ("restarted", Operation::Each(Way::Restarted)),
-        ("quantise", Operation::One(Task::Quantise)),
-    ];
+const OPERATIONS: [(&str, Operation); 7] = [
+    ("encode", Operation::One(Task::Encode)),
+    ("pass", Operation::One(Task::Pass)),
+    ("full", Operation::Each(Way::Full)),
+    ("restarted", Operation::Each(Way::Restarted)),
+    ("quantise", Operation::One(Task::Quantise)),
+    ("sets-full", Operation::Sets(Way::Full)),
+    ("sets-restarted", Operation::Sets(Way::Restarted)),
+];
 
+impl Operation {
     fn named(word: &str) -> Option<Operation> {
-        let found = Self::ALL.into_iter().find(|(name, _)| *name == word);
+        let found = OPERATIONS.into_iter().find(|(name, _)| *name == word);
         found.map(|(_, operation)| operation)
     }
 
-    fn tasks(self, limits: &[Limit]) -> Vec<Task> {
-        match self {
+    /// What it does with frames of a length.
+    fn tasks(&self, limits: &[Limit]) -> Vec<Task> {
+        match *self {
             Operation::One(task) => vec![task],
             Operation::Each(way) => limits
                 .iter()
                 .map(|&limit| Task::Decode(way, limit))
                 .collect(),
+            Operation::Sets(_) => vec![],
+        }
+    }
+
+    /// How it decodes with flip sets, if it does.
+    fn way(&self) -> Option<Way> {
+        match *self {
+            Operation::Sets(way) => Some(way),
+            _ => None,
         }
     }
 }
@@ -95,11 +168,24 @@ fn limit(word: &str) -> Option<Limit> {
     }
 }
 
+fn payload_size(word: &str) -> Option<usize> {
+    let k = word.parse().ok()?;
+    Search::all().iter().any(|of| of.k == k).then_some(k)
+}
+
 fn or_all<T: Clone>(named: Vec<T>, all: &[T]) -> Vec<T> {
     if named.is_empty() {
         all.to_vec()
     } else {
         named
+    }
+}
+
+fn only_if<T>(wanted: bool, list: Vec<T>) -> Vec<T> {
+    if wanted {
+        list
+    } else {
+        vec![]
     }
 }
 
@@ -117,6 +203,8 @@ mod tests {
         let choice = read("").expect("a choice");
         assert_eq!(choice.layers, DEPTHS);
         assert_eq!(choice.tasks.len(), 3 + 2 * LIMITS.len());
+        assert_eq!(choice.searches, Search::all());
+        assert_eq!(choice.ways, [Way::Full, Way::Restarted]);
         assert_eq!(choice.rounds, None);
     }
 
@@ -125,6 +213,8 @@ mod tests {
         let expected = Choice {
             layers: vec![10],
             tasks: vec![Task::Decode(Way::Restarted, Limit::Trials(13))],
+            searches: vec![],
+            ways: vec![],
             rounds: Some(31),
             times_only: false,
         };
@@ -133,8 +223,32 @@ mod tests {
     }
 
     #[test]
+    fn one_row_of_flip_sets() {
+        let choice = read("sets-restarted --w 3 --k 512").expect("a choice");
+        let search = Search {
+            k: 512,
+            most_flips: 3,
+            limit: 301,
+        };
+        assert_eq!(
+            (choice.searches, choice.ways),
+            (vec![search], vec![Way::Restarted])
+        );
+        assert_eq!((choice.layers, choice.tasks), (vec![], vec![]));
+    }
+
+    #[test]
     fn words_that_mean_nothing() {
-        for words in ["decode", "--n", "--n 4", "--t 0", "--rounds 0", "--t x"] {
+        for words in [
+            "decode",
+            "--n",
+            "--n 4",
+            "--t 0",
+            "--rounds 0",
+            "--t x",
+            "--w 1",
+            "--k 100",
+        ] {
             assert_eq!(read(words), None, "{words}");
         }
     }

@@ -1,6 +1,8 @@
 //! The codecs that are compared.
 
-use crate::testing::library::{self, call, Decoder};
+use std::fmt::{self, Display, Formatter};
+
+use crate::testing::library::{self, call, Decoder, SetDecoder};
 
 type Encode = fn(&[u8], &[u8], &mut [u8]) -> u64;
 type Resume = fn(&[u8], &[u8], &[u8], &mut [u8]) -> u64;
@@ -13,6 +15,8 @@ pub struct Codec {
     pub resume: Resume,
     pub decode_full: Decoder,
     pub decode_restarted: Decoder,
+    pub decode_sets_full: SetDecoder,
+    pub decode_sets_restarted: SetDecoder,
     pub quantise: Quantise,
 }
 
@@ -23,11 +27,27 @@ pub enum Way {
     Restarted,
 }
 
+impl Display for Way {
+    fn fmt(&self, to: &mut Formatter) -> fmt::Result {
+        to.write_str(match self {
+            Way::Full => "full",
+            Way::Restarted => "restarted",
+        })
+    }
+}
+
 impl Codec {
     pub fn decoder(&self, way: Way) -> Decoder {
         match way {
             Way::Full => self.decode_full,
             Way::Restarted => self.decode_restarted,
+        }
+    }
+
+    pub fn set_decoder(&self, way: Way) -> SetDecoder {
+        match way {
+            Way::Full => self.decode_sets_full,
+            Way::Restarted => self.decode_sets_restarted,
         }
     }
 }
@@ -39,6 +59,8 @@ pub const LIBRARY: Codec = Codec {
     resume: library::resume,
     decode_full: library::decode_full,
     decode_restarted: library::decode_restarted,
+    decode_sets_full: library::decode_sets_full,
+    decode_sets_restarted: library::decode_sets_restarted,
     quantise: library::quantise,
 };
 
@@ -49,6 +71,8 @@ const PLAIN_RUST: Codec = Codec {
     resume: plain::resume,
     decode_full: plain::decode_full,
     decode_restarted: plain::decode_restarted,
+    decode_sets_full: plain::decode_sets_full,
+    decode_sets_restarted: plain::decode_sets_restarted,
     quantise: plain::quantise,
 };
 
@@ -74,6 +98,14 @@ macro_rules! plain_c {
             decode_restarted: |d, channel, limit, payload| unsafe {
                 call::decode($table.decode_restarted, d, channel, limit, payload)
             },
+            decode_sets_full: |d, channel, most_flips, limit, payload| unsafe {
+                let by = $table.decode_sets_full;
+                call::decode_sets(by, d, channel, most_flips, limit, payload)
+            },
+            decode_sets_restarted: |d, channel, most_flips, limit, payload| unsafe {
+                let by = $table.decode_sets_restarted;
+                call::decode_sets(by, d, channel, most_flips, limit, payload)
+            },
             quantise: |scale, samples, output, numbers| unsafe {
                 call::quantise($table.quantise, scale, samples, output, numbers)
             },
@@ -92,6 +124,62 @@ pub fn others() -> Vec<Codec> {
     ]
 }
 
+/// Plain C's restarted decoder of flip sets with a clock around each choice of the next set, by one
+/// compiler. It gives the time of the call and, of it, that of choosing, in nanoseconds.
+pub struct Clocked {
+    pub name: &'static str,
+    pub time: fn(&[u8], &[u8], u32, u32, &mut [u8]) -> [u64; 2],
+}
+
+/// SAFETY as in `plain_c`.
+macro_rules! clocked {
+    ($name:literal, $table:ident) => {
+        Clocked {
+            name: $name,
+            time: |d, channel, most_flips, limit, payload| {
+                let mut numbers = [0; 2];
+                unsafe {
+                    ($table.decode_sets_by_clock)(
+                        d.as_ptr(),
+                        d.len(),
+                        channel.as_ptr(),
+                        channel.len(),
+                        most_flips,
+                        limit,
+                        payload.as_mut_ptr(),
+                        payload.len(),
+                        numbers.as_mut_ptr(),
+                    );
+                }
+                numbers
+            },
+        }
+    };
+}
+
+/// By each compiler that the build found.
+pub fn clocked() -> Vec<Clocked> {
+    vec![
+        #[cfg(plain_c = "gcc")]
+        clocked!("gcc -O3", plain_gcc),
+        #[cfg(plain_c = "clang")]
+        clocked!("clang -O3", plain_clang),
+    ]
+}
+
+/// The call of plain C's decoder with a clock.
+type DecodeByClock = unsafe extern "C" fn(
+    *const u8,
+    usize,
+    *const u8,
+    usize,
+    u32,
+    u32,
+    *mut u8,
+    usize,
+    *mut u64,
+) -> u64;
+
 /// The functions of bench/plain.c.
 #[repr(C)]
 struct Table {
@@ -99,6 +187,9 @@ struct Table {
     resume: call::Resume,
     decode_full: call::Decode,
     decode_restarted: call::Decode,
+    decode_sets_full: call::DecodeSets,
+    decode_sets_restarted: call::DecodeSets,
+    decode_sets_by_clock: DecodeByClock,
     quantise: call::Quantise,
 }
 

@@ -2,8 +2,10 @@
 
 use std::f64::consts::TAU;
 
+use crate::bench::search::Search;
 use crate::reference::description::{describe, record, Code};
 use crate::reference::packing::{pack, packed_length, unpack};
+use crate::simulation::DEPTH;
 use crate::testing::random::Random;
 use crate::testing::samples;
 
@@ -22,18 +24,26 @@ pub struct Frame {
     pub channel: Vec<u8>,
 }
 
-/// Frames of one length, each of another code, at a ratio Eb/N0.
+/// Frames of one length at a ratio Eb/N0.
 pub struct Frames {
     pub n: usize,
     pub decibels: f64,
+    /// What they are decoded by, where it is flip sets.
+    pub search: Option<Search>,
     pub list: Vec<Frame>,
 }
 
 impl Frames {
-    /// Frames of length 2^n at the noise where one in ten fails its first trial.
+    /// Frames of length 2^n, each of another code, at the noise where one in ten fails its first
+    /// trial.
     pub fn of_length(n: usize) -> Frames {
         let mut random = Random::new(n as u64);
-        let sent: Vec<Sent> = (0..COUNT).map(|_| Sent::new(&mut random, n)).collect();
+        let sent: Vec<Sent> = (0..COUNT)
+            .map(|_| {
+                let description = description(&mut random, n);
+                Sent::new(&mut random, description)
+            })
+            .collect();
         let (mut quiet, mut loud) = (1000, -1000);
         while quiet - loud > 1 {
             let middle = (quiet + loud) / 2;
@@ -48,8 +58,32 @@ impl Frames {
 
     fn received(n: usize, sent: &[Sent], hundredths: i32) -> Frames {
         let decibels = f64::from(hundredths) / 100.0;
-        let list = sent.iter().map(|sent| sent.received(decibels)).collect();
-        Frames { n, decibels, list }
+        let list = sent
+            .iter()
+            .map(|sent| sent.received(decibels, SCALE))
+            .collect();
+        Frames {
+            n,
+            decibels,
+            search: None,
+            list,
+        }
+    }
+
+    /// Frames of a code of document 000 at the noise of its table I.
+    pub fn of_search(search: Search) -> Frames {
+        let (description, decibels) = (search.setting().description(), search.decibels());
+        let mut random = Random::new(search.k as u64 + u64::from(search.most_flips));
+        let list = (0..COUNT)
+            .map(|_| Sent::new(&mut random, description.clone()))
+            .map(|sent| sent.received(decibels, search.scale()))
+            .collect();
+        Frames {
+            n: DEPTH,
+            decibels,
+            search: Some(search),
+            list,
+        }
     }
 
     /// How many fail their first trial.
@@ -75,8 +109,7 @@ struct Sent {
 }
 
 impl Sent {
-    fn new(random: &mut Random, n: usize) -> Self {
-        let description = description(random, n);
+    fn new(random: &mut Random, description: Vec<u8>) -> Self {
         let code = describe(&description).expect("a code");
         let payload = pack(&random.bits(code.k));
         let mut packed = vec![0; code.size() / 8];
@@ -91,7 +124,7 @@ impl Sent {
     }
 
     /// The frame at a ratio Eb/N0, a bit being one of the payload.
-    fn received(&self, decibels: f64) -> Frame {
+    fn received(&self, decibels: f64, scale: f32) -> Frame {
         let rate = self.code.k as f64 / self.code.size() as f64;
         let deviation = (2.0 * rate * 10f64.powf(decibels / 10.0)).sqrt().recip();
         let pairs = self.codeword.iter().zip(&self.noise);
@@ -99,7 +132,7 @@ impl Sent {
             .map(|(bit, noise)| (1.0 - 2.0 * f64::from(*bit) + deviation * noise) as f32)
             .collect();
         let mut channel = vec![0; samples.len()];
-        plain::quantise(SCALE, &samples, &mut channel, &mut [0; 2]);
+        plain::quantise(scale, &samples, &mut channel, &mut [0; 2]);
         Frame {
             description: self.description.clone(),
             code: self.code,

@@ -1,4 +1,4 @@
-//! How the library's cost grows with N and with T, and what restarting saves.
+//! How the library's cost grows with N and with T, and what restarting saves, with single flips.
 
 use crate::bench::choice::Choice;
 use crate::bench::codec::Way;
@@ -6,29 +6,24 @@ use crate::bench::frames::{Frames, COUNT};
 use crate::bench::report::Row;
 use crate::bench::task::Task;
 
-/// Prints what the measured rows tell.
-pub fn print(choice: &Choice, lengths: &[Frames], rows: &[Row]) {
+/// Prints what the measured rows tell; nothing where there is none of a length.
+pub fn print(choice: &Choice, all: &[Frames], rows: &[Row]) {
+    let Some(largest) = choice.layers.iter().max() else {
+        return;
+    };
     println!();
-    print_with_length(choice, lengths, rows);
-    let largest = choice.layers.iter().max().expect("a length");
+    let lengths: Vec<&Frames> = all.iter().filter(|of| of.search.is_none()).collect();
+    print_with_length(choice, &lengths, rows);
     let of = |way| decoded(rows, *largest, way);
     print_with_limit(1 << largest, &of(Way::Full), &of(Way::Restarted));
 }
 
-fn print_with_length(choice: &Choice, lengths: &[Frames], rows: &[Row]) {
-    let of_each = |number: fn(&Frames) -> String| lengths.iter().map(number);
+fn print_with_length(choice: &Choice, lengths: &[&Frames], rows: &[Row]) {
     print_line(
         "Growth with N",
-        of_each(|frames| (1 << frames.n).to_string()),
+        lengths.iter().map(|frames| (1 << frames.n).to_string()),
     );
-    print_line(
-        "  Eb/N0 in dB",
-        of_each(|frames| hundredths(frames.decibels)),
-    );
-    print_line(
-        &format!("  frames that fail trial 1, of {COUNT}"),
-        of_each(|frames| frames.failing().to_string()),
-    );
+    print_noise(lengths);
     for &task in &choice.tasks {
         let rows = rows.iter().filter(|row| row.task == task);
         match task {
@@ -44,6 +39,18 @@ fn print_with_length(choice: &Choice, lengths: &[Frames], rows: &[Row]) {
     }
 }
 
+/// Prints how noisy frames are.
+pub fn print_noise(all: &[&Frames]) {
+    print_line(
+        "  Eb/N0 in dB",
+        all.iter().map(|frames| hundredths(frames.decibels)),
+    );
+    print_line(
+        &format!("  frames that fail trial 1, of {COUNT}"),
+        all.iter().map(|frames| frames.failing().to_string()),
+    );
+}
+
 fn print_with_limit(size: usize, full: &[&Row], restarted: &[&Row]) {
     let any = if full.is_empty() { restarted } else { full };
     if any.is_empty() {
@@ -51,6 +58,12 @@ fn print_with_limit(size: usize, full: &[&Row], restarted: &[&Row]) {
     }
     let name = format!("Growth with T, N = {size}");
     print_line(&name, any.iter().map(|row| row.limit()));
+    print_decoding(full, restarted);
+}
+
+/// Prints what decoders made of the same frames in both ways, or in one of them.
+pub fn print_decoding(full: &[&Row], restarted: &[&Row]) {
+    let any = if full.is_empty() { restarted } else { full };
     let name = format!("  frames refused, of {COUNT}");
     print_line(&name, any.iter().map(|row| row.refused().to_string()));
     print_line(
@@ -62,9 +75,9 @@ fn print_with_limit(size: usize, full: &[&Row], restarted: &[&Row]) {
     if full.len() == restarted.len() {
         print_line(
             "  steps that restarting saves",
-            full.iter().zip(restarted).map(|(full, restarted)| {
-                format!("{:.1} %", 100.0 * (1.0 - restarted.steps() / full.steps()))
-            }),
+            full.iter()
+                .zip(restarted)
+                .map(|(full, restarted)| percent(1.0 - restarted.steps() / full.steps())),
         );
     }
 }
@@ -88,6 +101,10 @@ fn hundredths(number: f64) -> String {
     format!("{number:.2}")
 }
 
+pub fn percent(share: f64) -> String {
+    format!("{:.1} %", 100.0 * share)
+}
+
 /// The rows of decoding in one way at one length.
 fn decoded(rows: &[Row], n: usize, way: Way) -> Vec<&Row> {
     rows.iter()
@@ -95,7 +112,7 @@ fn decoded(rows: &[Row], n: usize, way: Way) -> Vec<&Row> {
         .collect()
 }
 
-fn print_line(name: &str, numbers: impl Iterator<Item = String>) {
+pub fn print_line(name: &str, numbers: impl Iterator<Item = String>) {
     print!("{name:<37}");
     for number in numbers {
         print!("{number:>12}");

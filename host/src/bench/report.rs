@@ -69,10 +69,11 @@ impl Row {
 /// What is measured, and on which machine.
 pub fn print_setting() {
     println!("Time of one call in ns: processor time of the thread, over {COUNT} frames, each of another code;");
-    println!("one frame in ten fails its first trial. A ratio is polar's time to the other's in one round, in");
-    println!("which the codecs take turns. Each number is a median over the quieter half of the rounds made by");
-    println!("{PROCESSES} processes; how many these are stands last. Before, all codecs have given the same answers");
-    println!("and outputs for all frames.");
+    println!("one frame in ten fails its first trial. Rows with w are of flip sets: {COUNT} frames of one code at the");
+    println!("Eb/N0 of document 000, table I. A ratio is polar's time to the other's in one round, in which the");
+    println!("codecs take turns. Each number is a median over the quieter half of the rounds made by {PROCESSES}");
+    println!("processes; how many these are stands last. Before, all codecs have given the same answers and");
+    println!("outputs for all frames.");
     println!();
     println!("processor  {}", processor());
     println!("load       {}", load());
@@ -105,7 +106,7 @@ fn load() -> String {
 }
 
 pub fn print_heading(codecs: &[Codec]) {
-    print!("{:>5}  {:<20}{:>9}", "N", "operation", codecs[0].name);
+    print!("{:>5}  {:<35}{:>8}", "N", "operation", codecs[0].name);
     for codec in &codecs[1..] {
         print!("{:>12}  ratio", codec.name);
     }
@@ -114,7 +115,7 @@ pub fn print_heading(codecs: &[Codec]) {
 
 pub fn print_row(row: &Row) {
     let (length, task, library) = (1 << row.n, row.task.to_string(), &row.times[0]);
-    print!("{length:>5}  {task:<20}{:>9.0}", library.median());
+    print!("{length:>5}  {task:<35}{:>8.0}", library.median());
     for other in &row.times[1..] {
         print!("{:>12.0}  {:>5.3}", other.median(), library.ratio(other));
     }

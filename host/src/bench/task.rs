@@ -4,6 +4,7 @@ use std::fmt::{self, Display, Formatter};
 
 use crate::bench::codec::{Codec, Way};
 use crate::bench::frames::{Frame, SCALE};
+use crate::bench::search::Search;
 use crate::reference::packing::packed_length;
 
 /// An operation on a frame.
@@ -13,6 +14,8 @@ pub enum Task {
     /// One pass: resume with an empty prefix.
     Pass,
     Decode(Way, Limit),
+    /// Decoding with flip sets.
+    Sets(Way, Search),
     Quantise,
 }
 
@@ -45,6 +48,10 @@ impl Task {
                 let limit = limit.of(code.information());
                 codec.decoder(way)(description, channel, limit, output)
             }
+            Task::Sets(way, search) => {
+                let (most_flips, limit) = (search.most_flips, search.limit);
+                codec.set_decoder(way)(description, channel, most_flips, limit, output)
+            }
             Task::Quantise => {
                 let mut numbers = [0; 2];
                 let peak = (codec.quantise)(SCALE, samples, output, &mut numbers);
@@ -65,7 +72,7 @@ impl Task {
         match self {
             Task::Encode => frame.code.size() / 8,
             Task::Pass | Task::Quantise => frame.code.size(),
-            Task::Decode(..) => packed_length(frame.code.k),
+            Task::Decode(..) | Task::Sets(..) => packed_length(frame.code.k),
         }
     }
 }
@@ -87,8 +94,8 @@ impl Display for Task {
             Task::Encode => to.write_str("encode"),
             Task::Pass => to.write_str("one pass"),
             Task::Quantise => to.write_str("quantise"),
-            Task::Decode(Way::Full, limit) => write!(to, "full, T = {limit}"),
-            Task::Decode(Way::Restarted, limit) => write!(to, "restarted, T = {limit}"),
+            Task::Decode(way, limit) => write!(to, "{way}, T = {limit}"),
+            Task::Sets(way, search) => write!(to, "{way}, {search}, k = {}", search.k),
         }
     }
 }

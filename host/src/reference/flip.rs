@@ -1,12 +1,10 @@
 //! Flip decoding, full and restarted: document 01, "Flip decoding, full and restarted"; document
 //! 000, section II-C; document 001, definition 1.
 
-use crate::reference::channel::read_channel;
-use crate::reference::check::check;
-use crate::reference::description::{describe, information_indices, mask_of, Code};
+use crate::reference::description::information_indices;
+use crate::reference::frame::Frame;
 use crate::reference::packing::{pack, packed_length};
 use crate::reference::pass::{pass, plain_rules, Pass, Rule};
-use crate::reference::placing::take;
 use crate::reference::refusal::Refusal;
 
 /// An accepted frame: the number of the trial that passed, and the steps of all trials made.
@@ -43,28 +41,13 @@ pub fn order(mask: &[u8], leaves: &[i64]) -> Vec<usize> {
     order
 }
 
-/// The first information index above `flipped`, or N.
-pub fn restart_index(mask: &[u8], flipped: usize) -> usize {
-    information_indices(mask)
-        .into_iter()
-        .find(|&index| index > flipped)
-        .unwrap_or(8 * mask.len())
-}
-
 /// The trials made and their steps; nothing where the first was not made.
 pub fn trials_made(answer: &Result<Accepted, Refusal>) -> Option<(usize, usize)> {
     match *answer {
         Ok(Accepted { trial, steps }) => Some((trial, steps)),
-        Err(Refusal::AllFailed { limit, steps }) => Some((limit, steps)),
+        Err(Refusal::AllFailed { trials, steps }) => Some((trials, steps)),
         Err(_) => None,
     }
-}
-
-/// What the trials work on.
-struct Frame<'a> {
-    code: Code,
-    mask: &'a [u8],
-    values: Vec<i64>,
 }
 
 /// A trial after the first, from trial 1 and the flipped index.
@@ -77,20 +60,14 @@ fn decode(
     output: &mut [u8],
     later_trial: LaterTrial,
 ) -> Result<Accepted, Refusal> {
-    let code = describe(description)?;
-    let values = read_channel(channel, code.size())?;
+    let frame = Frame::read(description, channel)?;
     let limit = limit as usize;
-    if !(1..=code.information() + 1).contains(&limit) {
+    if !(1..=frame.code.information() + 1).contains(&limit) {
         return Err(Refusal::Number(14));
     }
-    if output.len() != packed_length(code.k) {
+    if output.len() != packed_length(frame.code.k) {
         return Err(Refusal::Number(15));
     }
-    let frame = Frame {
-        code,
-        mask: mask_of(description),
-        values,
-    };
     let (accepted, payload) = run(&frame, limit, later_trial)?;
     output.copy_from_slice(&pack(&payload));
     Ok(accepted)
@@ -102,7 +79,7 @@ fn run(
     limit: usize,
     later_trial: LaterTrial,
 ) -> Result<(Accepted, Vec<u8>), Refusal> {
-    let first = pass(&frame.values, &[], &plain_rules(frame.mask));
+    let first = frame.first_trial();
     let order = order(frame.mask, &first.leaves);
     let mut steps = 0;
     for trial in 1..=limit {
@@ -111,11 +88,14 @@ fn run(
             _ => later_trial(frame, &first, order[trial - 2]),
         };
         steps += tried.steps;
-        if let Some(payload) = passing_payload(frame, &tried.bits) {
+        if let Some(payload) = frame.passing_payload(&tried.bits) {
             return Ok((Accepted { trial, steps }, payload));
         }
     }
-    Err(Refusal::AllFailed { limit, steps })
+    Err(Refusal::AllFailed {
+        trials: limit,
+        steps,
+    })
 }
 
 /// The opposite decision at the flipped index, the usual decision elsewhere, from the root.
@@ -125,28 +105,19 @@ fn full_trial(frame: &Frame, _first: &Pass, flipped: usize) -> Pass {
     pass(&frame.values, &[], &rules)
 }
 
-/// Trial 1's bits before the flipped index, its opposite there, frozen zeros up to the restart
-/// index, and a pass resumed from there.
+/// A pass resumed at the restart index.
 fn restarted_trial(frame: &Frame, first: &Pass, flipped: usize) -> Pass {
-    let mut prefix = first.bits[..flipped].to_vec();
-    prefix.push(1 - first.bits[flipped]);
-    prefix.resize(restart_index(frame.mask, flipped), 0);
+    let prefix = frame.restart_prefix(first, flipped);
     pass(&frame.values, &prefix, &plain_rules(frame.mask))
-}
-
-/// The payload bits of a pass, where their check equals its check bits.
-fn passing_payload(frame: &Frame, bits: &[u8]) -> Option<Vec<u8>> {
-    let code = &frame.code;
-    let mut payload = take(frame.mask, bits);
-    let check_bits = payload.split_off(code.k);
-    let expected = check(&payload, code.r, code.polynomial, code.start);
-    (expected == check_bits).then_some(payload)
 }
 
 #[cfg(test)]
 mod tests {
     use super::*;
+    use crate::reference::channel::read_channel;
+    use crate::reference::description::mask_of;
     use crate::reference::encode::codeword;
+    use crate::reference::frame::restart_index;
     use crate::reference::pass::skipped_steps;
     use crate::reference::sizes::LAYERS;
     use crate::testing::hex::parse;
@@ -199,7 +170,7 @@ mod tests {
             assert_eq!(of(&[0; 8], 5), accepted(1, 24, 0x00));
         }
         let failed = Refusal::AllFailed {
-            limit: 1,
+            trials: 1,
             steps: 24,
         };
         refused(&V, 1, &[0xEE], failed);
@@ -226,7 +197,7 @@ mod tests {
     #[test]
     fn silence_under_d_with_start_1() {
         let failed = Refusal::AllFailed {
-            limit: 1,
+            trials: 1,
             steps: 24,
         };
         for (decoder, later) in BOTH.into_iter().zip([24, 24 - skipped_steps(3, 5)]) {
@@ -249,14 +220,6 @@ mod tests {
         let leaves = [0, 0, 0, -2, 0, 1, 2, -1];
         assert_eq!(order(&MASK_OF_D, &leaves), [5, 7, 3, 6]);
         assert_eq!(order(&MASK_OF_D, &[0; 8]), [3, 5, 6, 7]);
-    }
-
-    #[test]
-    fn the_restart_index_is_the_next_information_index() {
-        let restarts = [3, 5, 6, 7].map(|flipped| restart_index(&MASK_OF_D, flipped));
-        assert_eq!(restarts, [5, 6, 7, 8]);
-        // Document 001: a flip at 9 restarts at 11.
-        assert_eq!(restart_index(&[0xC0, 0xFA], 9), 11);
     }
 
     #[test]

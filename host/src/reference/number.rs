@@ -1,6 +1,6 @@
 //! The 64-bit number that C gets: document 01, "Flip decoding, full and restarted". Bits 0–7 hold
-//! the refusal, or 0; bits 8–31 the trial, refusal 16's T, or a refusal's first index; bits 32–63
-//! the steps; what an answer lacks is 0.
+//! the refusal, or 0; bits 8–31 the trial, refusal 16's trials, or a refusal's first index; bits
+//! 32–63 the steps; what an answer lacks is 0.
 
 use crate::reference::flip::Accepted;
 use crate::reference::quantise::Quantised;
@@ -44,7 +44,7 @@ fn number_of_refusal(refusal: &Refusal) -> u64 {
     match *refusal {
         Refusal::Number(of) => number(of, 0, 0),
         Refusal::At(of, index) => number(of, index, 0),
-        Refusal::AllFailed { limit, steps } => number(16, limit, steps),
+        Refusal::AllFailed { trials, steps } => number(16, trials, steps),
     }
 }
 
@@ -73,7 +73,7 @@ mod tests {
         };
         assert_eq!(decode_number(&Ok(accepted)), 0x0000_0020_0000_0200);
         let failed = Refusal::AllFailed {
-            limit: 1,
+            trials: 1,
             steps: 24,
         };
         assert_eq!(decode_number(&Err(failed)), 0x0000_0018_0000_0110);

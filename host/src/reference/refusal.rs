@@ -1,4 +1,4 @@
-//! Refusals, numbered as in document 01.
+//! Refusals, numbered as in documents 01 and 02.
 
 /// A refusal carries its number alone unless its line in the paper names more.
 #[derive(Clone, Copy, Debug, PartialEq, Eq)]
@@ -7,8 +7,8 @@ pub enum Refusal {
     Number(u8),
     /// 13, 18 and 22: the number and the first index at fault.
     At(u8, usize),
-    /// 16: the trial limit T, and the steps made.
-    AllFailed { limit: usize, steps: usize },
+    /// 16: the trials made, T unless the flip sets were used up before, and the steps made.
+    AllFailed { trials: usize, steps: usize },
 }
 
 impl Refusal {

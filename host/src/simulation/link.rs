@@ -54,11 +54,9 @@ pub struct Link {
 
 impl Link {
     pub fn new(setting: &Setting, decibels: f64) -> Self {
-        let (r, polynomial) = CHECK;
-        let mask = information_set(DEPTH, setting.k + r, ratio(setting.k, setting.design));
         let ratio = ratio(setting.k, decibels);
         Link {
-            description: record(DEPTH, r, polynomial, &mask),
+            description: setting.description(),
             k: setting.k,
             deviation: (2.0 / ratio).sqrt(),
             scale: ratio as f32,
@@ -116,9 +114,18 @@ impl Link {
     }
 }
 
+impl Setting {
+    /// The code, of kind 1.
+    pub fn description(&self) -> Vec<u8> {
+        let (r, polynomial) = CHECK;
+        let mask = information_set(DEPTH, self.k + r, ratio(self.k, self.design));
+        record(DEPTH, r, polynomial, &mask)
+    }
+}
+
 /// The mean of the log-likelihood ratios where zeros were sent, and the factor that makes them of
 /// samples: 2/σ² = 4 · k/N · Eb/N0, a bit of Eb being one of the payload.
-fn ratio(k: usize, decibels: f64) -> f64 {
+pub fn ratio(k: usize, decibels: f64) -> f64 {
     let rate = k as f64 / f64::from(1 << DEPTH);
     4.0 * rate * 10f64.powf(decibels / 10.0)
 }

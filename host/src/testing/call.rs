@@ -12,14 +12,15 @@ pub struct Call {
     pub payload: Vec<u8>,
     pub channel: Vec<u8>,
     pub prefix: Vec<u8>,
+    pub most_flips: u32,
     pub limit: u32,
     /// The bytes for the codeword, for the bits that resume writes, for the decoded payload.
     pub room: [usize; 3],
 }
 
 impl Call {
-    /// Inputs that suit an accepted description: a payload, its codeword under noise, any prefix, a
-    /// trial limit of at most 13.
+    /// Inputs that suit an accepted description: a payload, its codeword under noise, any prefix, any
+    /// number of flips, a trial limit of at most 13.
     pub fn new(random: &mut Random, description: Vec<u8>, noise: usize) -> Call {
         let code = describe(&description).expect("a code");
         let size = code.size();
@@ -30,6 +31,7 @@ impl Call {
             payload: pack(&payload),
             channel: samples::noisy(random, &x, 12, noise),
             prefix: samples::prefix(random, &description, q),
+            most_flips: samples::most_flips(random),
             limit: random.between(1, 13.min(code.information() + 1)) as u32,
             room: [size / 8, size, packed_length(code.k)],
             description,
@@ -39,7 +41,7 @@ impl Call {
     /// Puts a fault into one of the inputs beside the description, in one call of three.
     pub fn spoil(&mut self, random: &mut Random) {
         let size = self.channel.len();
-        match random.below(24) {
+        match random.below(27) {
             0 => self.payload = random.bytes(self.payload.len()),
             1 => self.payload.push(0),
             2 => self.channel[random.below(size)] = random.byte(),
@@ -48,6 +50,7 @@ impl Call {
             5 => self.prefix.push(random.byte() % 4),
             6 => self.limit = [0, size as u32 + 2][random.below(2)],
             7 => self.room[random.below(3)] += 1,
+            8 => self.most_flips = samples::wrong_most_flips(random),
             _ => (),
         }
     }

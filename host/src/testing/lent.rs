@@ -2,7 +2,7 @@
 //! output after it.
 
 use crate::testing::guard::{lend_input, lend_output};
-use crate::testing::library::{self, Decoder};
+use crate::testing::library::{self, SetDecoder};
 
 pub fn encode(d: &[u8], payload: &[u8], before: &[u8]) -> (u64, Vec<u8>) {
     lend_input(d, |d| {
@@ -22,10 +22,30 @@ pub fn resume(d: &[u8], channel: &[u8], prefix: &[u8], before: &[u8]) -> (u64, V
     })
 }
 
-pub fn decode(by: Decoder, d: &[u8], channel: &[u8], limit: u32, before: &[u8]) -> (u64, Vec<u8>) {
+pub fn decode(
+    by: impl FnOnce(&[u8], &[u8], u32, &mut [u8]) -> u64,
+    d: &[u8],
+    channel: &[u8],
+    limit: u32,
+    before: &[u8],
+) -> (u64, Vec<u8>) {
     lend_input(d, |d| {
         lend_input(channel, |channel| {
             lend_output(before, |output| by(d, channel, limit, output))
         })
     })
+}
+
+pub fn decode_sets(
+    by: SetDecoder,
+    d: &[u8],
+    channel: &[u8],
+    most_flips: u32,
+    limit: u32,
+    before: &[u8],
+) -> (u64, Vec<u8>) {
+    let by = |d: &[u8], channel: &[u8], limit, output: &mut [u8]| {
+        by(d, channel, most_flips, limit, output)
+    };
+    decode(by, d, channel, limit, before)
 }

@@ -7,14 +7,19 @@ mod decode;
 mod encode;
 mod quantise;
 mod resume;
+mod sets;
 
 pub use decode::{decode_full, decode_restarted};
 pub use encode::encode;
 pub use quantise::quantise;
 pub use resume::resume;
+pub use sets::{decode_sets_full, decode_sets_restarted};
 
 /// A decoder with the call of `decode_full`.
 pub type Decoder = fn(&[u8], &[u8], u32, &mut [u8]) -> u64;
+
+/// A decoder with the call of `decode_sets_full`.
+pub type SetDecoder = fn(&[u8], &[u8], u32, u32, &mut [u8]) -> u64;
 
 extern "C" {
     fn probe_description(d: *const u8, len: usize, numbers: *mut u64) -> u64;

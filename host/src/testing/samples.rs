@@ -270,6 +270,18 @@ pub fn mask_with(size: usize, information: &[usize]) -> Vec<bool> {
     mask
 }
 
+/// The most flips of a trial, w.
+pub fn most_flips(random: &mut Random) -> u32 {
+    random.between(1, 3) as u32
+}
+
+/// The same where it is refused, some with an allowed number in the lower bits.
+pub fn wrong_most_flips(random: &mut Random) -> u32 {
+    let allowed = most_flips(random);
+    let high = 1 << random.between(2, 31);
+    [0, 4, high, high + allowed, u32::MAX][random.below(5)]
+}
+
 /// A packed payload of k bits.
 pub fn payload(random: &mut Random, k: usize) -> Vec<u8> {
     pack(&random.bits(k))

@@ -1,4 +1,4 @@
-/* Rows of document 01, and of request 2.1, by each function of the header: each answer in its parts, then the output. */
+/* Rows of document 01, and of requests 2.1 and 2.2, by each function of the header: each answer in its parts, then the output. */
 #include "polar.h"
 
 #include <inttypes.h>
@@ -6,12 +6,16 @@
 #include <string.h>
 
 typedef uint64_t decoder(const uint8_t *, size_t, const uint8_t *, size_t, uint32_t, uint8_t *, size_t);
+typedef uint64_t set_decoder(const uint8_t *, size_t, const uint8_t *, size_t, uint32_t, uint32_t, uint8_t *, size_t);
 
 static const uint8_t D[9] = {0x09, 0, 1, 0, 3, 1, 1, 0, 0xE8};
 static const uint8_t D_MASK_80[9] = {0x09, 0, 1, 0, 3, 1, 1, 0, 0x80};
 static const uint8_t D_START_1[11] = {0x0B, 0, 4, 0, 3, 1, 1, 0, 1, 0, 0xE8};
 static const uint8_t D_START_2[11] = {0x0B, 0, 4, 0, 3, 1, 1, 0, 2, 0, 0xE8};
+static const uint8_t CHECK_OF_3_BITS[9] = {0x09, 0, 1, 0, 3, 3, 3, 0, 0xE8};
 static const uint8_t V[8] = {0xFF, 3, 2, 2, 0xFE, 0xFE, 3, 2};
+static const uint8_t PAIR[8] = {0xFA, 0xFE, 0xFE, 4, 3, 0xFE, 5, 4};
+static const uint8_t LOST[8] = {4, 6, 0xFB, 0xFD, 0xFC, 3, 1, 0xFB};
 static const uint8_t RIGHT[8] = {4, 0xFC, 4, 0xFC, 0xFC, 4, 0xFC, 4};
 static const uint8_t ZEROS[8] = {0};
 static const uint8_t LAST_31[8] = {0, 0, 0, 0, 0, 0, 0, 31};
@@ -53,6 +57,14 @@ static void decode(const char *name, decoder *by, const uint8_t *channel, uint32
     decode_under(D, sizeof D, name, by, channel, limit);
 }
 
+static void decode_sets(const char *name, set_decoder *by, const uint8_t *description, const uint8_t *channel, uint32_t most_flips,
+                        uint32_t limit)
+{
+    uint8_t payload[1] = {0xEE};
+    uint64_t answer = by(description, 9, channel, 8, most_flips, limit, payload, sizeof payload);
+    print(name, answer, payload, sizeof payload);
+}
+
 static void encode_rows(void)
 {
     encode("encode A0", D, sizeof D, 0xA0);
@@ -90,11 +102,26 @@ static void decode_rows(decoder *by)
     decode_under(D_START_1, sizeof D_START_1, "start 1, zeros, T = 2", by, ZEROS, 2);
 }
 
+static void set_rows(set_decoder *by)
+{
+    decode_sets("V, w = 1, T = 1", by, D, V, 1, 1);
+    decode_sets("V, w = 1, T = 2", by, D, V, 1, 2);
+    decode_sets("a pair, w = 1, T = 2", by, CHECK_OF_3_BITS, PAIR, 1, 2);
+    decode_sets("a pair, w = 2, T = 3", by, CHECK_OF_3_BITS, PAIR, 2, 3);
+    decode_sets("no set passes, w = 2, T = 512", by, CHECK_OF_3_BITS, LOST, 2, 512);
+    decode_sets("w = 0, T = 0", by, D, V, 0, 0);
+    decode_sets("w = 4, T = 1", by, D, V, 4, 1);
+    decode_sets("w = 1, T = 6", by, D, V, 1, 6);
+    decode_sets("w = 2, T = 513", by, D, V, 2, 513);
+}
+
 int main(void)
 {
     encode_rows();
     resume_rows();
     decode_rows(polar_decode_full);
     decode_rows(polar_decode_restarted);
+    set_rows(polar_decode_sets_full);
+    set_rows(polar_decode_sets_restarted);
     return 0;
 }

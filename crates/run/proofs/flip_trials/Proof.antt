@@ -28,7 +28,7 @@ use Rattle.run.specs.declared.Decoded.the-variants.{Failed}
 use Rattle.run.specs.Trials.{flipOrder, answerOf}
 use Rattle.run.proofs.FlipOrder.{order-flips}
 use Rattle.run.proofs.LoopInvariant.{LoopInvariant, loop-starts, loop-ends, loop-passes, loop-goes-on}
-use Rattle.run.proofs.LoopStep.{trial-pre, order-long, payload-bits, accepted}
+use Rattle.run.proofs.LoopStep.{trial-on, order-long, payload-bits, accepted}
 use Rattle.run.proofs.flip_trials.Statement.{statement}
 use Rattle.run.proofs.flip_trials.Tie as tie
 
@@ -112,7 +112,9 @@ flip-trial-requires c κs =
     let f = c .before .before .before .before .before in
     let l = head (k f) in
     let inv = l .loop .inv in
-    (trial-pre (s l .pre .0) (inv .2 .whole) (inv .3), s l .pre .0 .coded, flips f, inv .2, s l .pre .1 .first-bits)
+    let on = s l .pre .0 in
+    let w = on .well-formed in
+    (trial-on (on .coded) (w .channel-size) (w .in-range) (inv .2 .whole) (inv .3), on .coded, flips f, inv .2, s l .pre .1 .first-bits)
 
 -- the trial
 module _ (c : tie.After-flip-trial Inv-loop μ-loop) where
@@ -183,7 +185,7 @@ returns c =
     let e = d .accept .ensures in
     accepted (s l .pre .0 .coded) _ _ (trial p .flip-trial .ensures .0 .bits) (p .trial-passes .ensures .1) (now (x .output)) (e .0) (e .1)
     ∙ ap (answerOf (mask l) (x .code) (now (x .output)))
-    (sym (loop-passes (going l) (order-long (s l .pre .0)) (k f .before .loop-test .taken) (next f) (took (trial p)) (sym (ok-is p) ∙ t .if1 .taken)))
+    (sym (s l .pre .1 .goes-on _ ∙ loop-passes (going l) (order-long (s l .pre .0)) (k f .before .loop-test .taken) (next f) (took (trial p)) (sym (ok-is p) ∙ t .if1 .taken)))
 
 loop-again : tie.Need-loop-again Inv-loop μ-loop
 loop-again c =
@@ -205,7 +207,7 @@ returns-2 c =
     let l = c .before in
     let x = s l .args in
     ap (λ (bytes : List ℕ). (Failed (l .loop .made) (l .loop .steps), bytes)) (l .loop .inv .5)
-    ∙ ap (answerOf (mask l) (x .code) (now (x .output))) (sym (loop-ends (going l) (order-long (s l .pre .0)) (c .loop-test .left)))
+    ∙ ap (answerOf (mask l) (x .code) (now (x .output))) (sym (s l .pre .1 .goes-on _ ∙ loop-ends (going l) (order-long (s l .pre .0)) (c .loop-test .left)))
 
 pub flip-trials-spec : {M : Type 1} → statement M
 flip-trials-spec =

@@ -1,5 +1,5 @@
 -- `run::later_trials` meets its contract: no trial is left where the limit is 1, and else the keys are those of trial 1's leaf values.
-use mathlib.Core.Path.{refl, sym, ap}
+use mathlib.Core.Path.{refl, sym, ap, _∙_}
 use native.Mathlib.Omega.{arith}
 use borrow.Author.Needs.{needs}
 use denote.Ref.{now}
@@ -17,7 +17,7 @@ returns c =
     let x = s .args in
     let on = s .pre .0 in
     ap (answerOf (now (x .mask)) (x .code) (now (x .output)))
-    (sym (loop-ends (loop-starts (on .well-formed .limit-least) (steps-fit (on .coded .n-most) (s .pre .1 .start-most))) (order-long on) (omega (arith, c .if1 .taken))))
+    (sym (s .pre .1 .goes-on _ ∙ loop-ends (loop-starts (on .well-formed .limit-least) (steps-fit (on .coded .n-most) (s .pre .1 .start-most))) (order-long on) (omega (arith, c .if1 .taken))))
 
 flip-trials-requires : tie.Need-flip-trials-requires
 flip-trials-requires c κs =
@@ -26,7 +26,7 @@ flip-trials-requires c κs =
       p .0,
       p .1,
       keys-made (keys-pre (p .0) (p .2)) (p .0 .coded .mask-size) (p .2 .values) (m .make-keys .ensures),
-      record { work = p .3; bits = refl; sums = p .4; leaves = refl },
+      record { work = p .3 .work; bits = refl; sums = p .3 .sums; leaves = refl },
     )
 
 pub later-trials-spec : {M : Type 1} → statement M

@@ -1,49 +1,7 @@
--- `trial::flip_trial` meets its contract: under a mask and with trial 1's bits, the later trial is that of the definition.
-use mathlib.Core.Path.{_≡_, sym, ap, _∙_, subst}
-use Prim.Native.Nat.{ℕ, _≤_}
-use mathlib.Core.List.{[], _∷_}
-use native.Mathlib.Omega.{arith}
+-- `trial::flip_trial` meets its contract: one index is a set.
 use borrow.Author.Needs.{needs}
-use denote.Ref.{now}
-use Rattle.arrays.specs.Claims.{longest}
-use Rattle.arrays.proofs.Sizes.{fits}
-use Rattle.code.specs.Code.{codeLength}
-use Rattle.trial.specs.Trial.{restartAt}
-use Rattle.trial.specs.Contracts.{PlainRules}
-use Rattle.trial.proofs.Restartable.{restartable}
-use Rattle.trial.proofs.Passes.{later-pre, post-from}
-use Rattle.trial.proofs.Rules.{plain-again}
 use Rattle.trial.proofs.flip_trial.Statement.{statement}
 use Rattle.trial.proofs.flip_trial.Tie as tie
 
-restart-index-requires : tie.Need-restart-index-requires
-restart-index-requires c κs =
-    let s = c .before .before in
-    let coded = s .pre .1 in
-    (omega (arith, coded .mask-size, fits (coded .n-most)), omega (arith, coded .mask-size, s .pre .2 .below 0 (omega arith)))
-
--- where the trial resumes
-module _ (c : tie.After-restart-index) where
-  abbrev s : tie.Start
-  s = c .before .before .before
-
-  q-is : c .restart-index .result ≡ restartAt (s .args .restart) (now (s .args .mask)) (codeLength (s .args .code)) (s .args .i)
-  q-is = c .restart-index .ensures ∙ ap (λ (size : ℕ). restartAt (s .args .restart) (now (s .args .mask)) size (s .args .i)) (s .pre .1 .mask-size)
-
-  q-most : c .restart-index .result ≤ codeLength (s .args .code)
-  q-most = subst (λ (k : ℕ). k ≤ codeLength (s .args .code)) (sym q-is) (restartable (s .pre .2) (s .args .restart) .most)
-
-later-trial-requires : tie.Need-later-trial-requires
-later-trial-requires c κs =
-    let r = c .before .before .before .before .before .before in
-    (s r .pre .0, later-pre (s r .pre .4) (s r .pre .2) (q-most r))
-
-returns : tie.Need-returns
-returns c =
-    let r = c .before .before .before .before .before .before .before in
-    let p = s r .pre in
-    let t = c .later-trial .ensures in
-    (post-from (p .3) (p .4) (s r .args .i ∷ []) (q-is r) (q-most r) (t .0), subst (PlainRules longest (now (s r .args .mask)) (s r .args .code)) (sym (t .1)) (plain-again (p .3) (p .2) (fits (p .1 .n-most))))
-
 pub flip-trial-spec : {M : Type 1} → statement M
-flip-trial-spec = tie.close (tie.spec restart-index-requires (λ c. search needs) later-trial-requires returns)
+flip-trial-spec = tie.close (tie.spec (λ c. search needs) (λ c κs. search needs) (λ c. search needs))

@@ -17,6 +17,8 @@ pub type Resume = unsafe extern "C" fn(
 ) -> u64;
 pub type Decode =
     unsafe extern "C" fn(*const u8, usize, *const u8, usize, u32, *mut u8, usize) -> u64;
+pub type DecodeSets =
+    unsafe extern "C" fn(*const u8, usize, *const u8, usize, u32, u32, *mut u8, usize) -> u64;
 pub type Quantise = unsafe extern "C" fn(f32, *const f32, usize, *mut u8, usize, *mut u64) -> f32;
 
 /// Writes a packed codeword; the answer is as in `number::encode_number`.
@@ -52,6 +54,27 @@ pub unsafe fn decode(by: Decode, d: &[u8], channel: &[u8], limit: u32, payload: 
         d.len(),
         channel.as_ptr(),
         channel.len(),
+        limit,
+        payload.as_mut_ptr(),
+        payload.len(),
+    )
+}
+
+/// The same with flip sets.
+pub unsafe fn decode_sets(
+    by: DecodeSets,
+    d: &[u8],
+    channel: &[u8],
+    most_flips: u32,
+    limit: u32,
+    payload: &mut [u8],
+) -> u64 {
+    by(
+        d.as_ptr(),
+        d.len(),
+        channel.as_ptr(),
+        channel.len(),
+        most_flips,
         limit,
         payload.as_mut_ptr(),
         payload.len(),

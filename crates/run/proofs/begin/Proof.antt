@@ -1,5 +1,5 @@
--- `run::run_trials` meets its contract: trial 1 passes, or the run goes on with the later trials.
-use mathlib.Core.Path.{_≡_, sym, ap, _∙_}
+-- `run::begin` meets its contract: trial 1 passes and is accepted, or it fails and a run goes on.
+use mathlib.Core.Path.{_≡_, refl, sym, ap, _∙_}
 use mathlib.Core.Bool.{Bool}
 use mathlib.Core.List.{List}
 use Prim.Native.Nat.{ℕ, _+_, _≤_}
@@ -8,7 +8,7 @@ use native.Mathlib.Omega.{arith}
 use borrow.Author.Needs.{needs}
 use denote.Ref.{now}
 use lib.IntN.{ℤ}
-use lib.ListN.{length, drop}
+use lib.ListN.{length}
 use Rattle.arrays.proofs.Sizes.{fits}
 use Rattle.bits.proofs.Lists.{bits-nil}
 use Rattle.code.specs.Code.{codeLength}
@@ -17,26 +17,27 @@ use Rattle.tree.specs.declared.Work.{Work}
 use Rattle.tree.specs.Node.{Out}
 use Rattle.trial.specs.Trial.{firstTrial, trialPasses}
 use Rattle.trial.proofs.Bounds.{first-bits, first-steps}
-use Rattle.run.specs.Trials.{trials, passed, run, answerOf}
+use Rattle.run.specs.Trials.{passed, run, answerOf}
 use Rattle.run.proofs.LoopInvariant.{run-passes, run-fails}
-use Rattle.run.proofs.LoopStep.{values-small, payload-bits, accepted}
-use Rattle.run.proofs.run_trials.Statement.{statement}
-use Rattle.run.proofs.run_trials.Tie as tie
+use Rattle.run.proofs.LoopStep.{values-inside, payload-bits, accepted}
+use Rattle.run.proofs.begin.Statement.{statement}
+use Rattle.run.proofs.begin.Tie as tie
 
 first-trial-requires : tie.Need-first-trial-requires
 first-trial-requires c κs =
-    let p = c .before .before .before .before .before .before .before .before .before .pre in (
+    let s = c .before .before .before .before .before .before .before .before .before in
+    let p = s .pre in (
       record {
-        n-least = omega (arith, p .0 .coded .n-least);
-        n-most = p .0 .coded .n-most;
+        n-least = omega (arith, p .0 .n-least);
+        n-most = p .0 .n-most;
         q-most = omega arith;
-        long = p .0 .well-formed .channel-size;
-        small = values-small (p .0);
+        long = p .1;
+        small = values-inside (now (s .args .channel)) (p .2);
         bits = bits-nil;
-        whole = record { work = p .1 .work-whole; bits = p .1 .first-whole; sums = p .1 .sums-whole; leaves = p .1 .values-whole };
+        whole = p .4 .whole;
       },
-      p .0 .coded .mask-size,
-      p .1 .rules-whole,
+      p .0 .mask-size,
+      p .4 .rules-whole,
     )
 
 -- trial 1
@@ -56,9 +57,6 @@ module _ (c : tie.After-first-trial) where
   abbrev ok : List ℕ → Bool
   ok = trialPasses mask (s .args .code)
 
-  abbrev rest : List Out
-  rest = drop 1 (trials (s .args .plan) mask (s .args .code) v)
-
   -- the steps, counted from none
   counted : c .first-trial .result .steps ≡ 0 + o .work .steps
   counted = ap (λ (w : Work). w .steps) (c .first-trial .ensures .work) ∙ sym (zero-add (o .work .steps))
@@ -67,7 +65,7 @@ trial-passes-requires : tie.Need-trial-passes-requires
 trial-passes-requires c κs =
     let f = c .before .before in
     let p = s f .pre in
-    (p .0 .coded, omega (arith, f .first-trial .ensures .bits .whole, fits (p .0 .coded .n-most)), p .1 .message-size)
+    (p .0, omega (arith, f .first-trial .ensures .bits .whole, fits (p .0 .n-most)), p .4 .message-size)
 
 -- its check
 module _ (c : tie.After-trial-passes) where
@@ -78,59 +76,49 @@ module _ (c : tie.After-trial-passes) where
   ok-is = c .trial-passes .ensures .0 ∙ ap (ok f) (f .first-trial .ensures .bits .bits)
 
   message-long : codeLength (s f .args .code) ≤ length (c .trial-passes .last .1 .1 .1 .0)
-  message-long = omega (arith, c .trial-passes .kept .1 .1 .1 .0, s f .pre .1 .message-size)
+  message-long = omega (arith, c .trial-passes .kept .1 .1 .1 .0, s f .pre .4 .message-size)
 
 accept-requires : tie.Need-accept-requires
 accept-requires c κs =
     let p = c .before .before .before .before .before in
-    let on = s (f p) .pre .0 in (
-      omega (arith, message-long p, on .coded .K-most),
-      payload-bits (on .coded) _ _ (f p .first-trial .ensures .bits .bits) (p .trial-passes .ensures .1) (first-bits (mask (f p)) (s (f p) .args .code) (v (f p))),
-      on .well-formed .output-size,
+    let on = s (f p) .pre in (
+      omega (arith, message-long p, on .0 .K-most),
+      payload-bits (on .0) _ _ (f p .first-trial .ensures .bits .bits) (p .trial-passes .ensures .1) (first-bits (mask (f p)) (s (f p) .args .code) (v (f p))),
+      on .3,
     )
 
 returns : tie.Need-returns
-returns c =
+returns c later =
     let d = c .before .before in
     let t = d .before .before .before in
     let p = t .before .before .before in
     let x = s (f p) .args in
     let e = d .accept .ensures in
-    accepted (s (f p) .pre .0 .coded) _ _ (f p .first-trial .ensures .bits .bits) (p .trial-passes .ensures .1) (now (x .output)) (e .0) (e .1)
+    accepted (s (f p) .pre .0) _ _ (f p .first-trial .ensures .bits .bits) (p .trial-passes .ensures .1) (now (x .output)) (e .0) (e .1)
     ∙ ap (answerOf (mask (f p)) (x .code) (now (x .output)))
     (ap (λ (steps : ℕ). passed 1 steps (o (f p) .bits)) (counted (f p))
-    ∙ sym (run-passes (ok (f p)) 0 0 (o (f p)) (rest (f p)) (sym (ok-is p) ∙ t .if1 .taken)))
-
-later-trials-requires : tie.Need-later-trials-requires
-later-trials-requires c κs =
-    let p = c .before .before .before .before .before .before .before .before .before .before in
-    let x = s (f p) in
-    let t = f p .first-trial .ensures in (
-      x .pre .0,
-      record {
-        start-most = omega (arith, counted (f p), first-steps (mask (f p)) (x .args .code) (v (f p)));
-        first-bits = t .bits;
-        plain = t .plain;
-        message-size = message-long p;
-      },
-      t .leaves,
-      t .whole .work,
-      t .whole .sums,
-    )
+    ∙ sym (run-passes (ok (f p)) 0 0 (o (f p)) later (sym (ok-is p) ∙ t .if1 .taken)))
 
 returns-2 : tie.Need-returns-2
 returns-2 c =
-    let l = c .before .before .before .before in
-    let e = l .before .before .before .before .before .before .before .before in
-    let p = e .before .before .before in
-    let x = s (f p) .args in
-    l .later-trials .ensures
-    ∙ ap (answerOf (mask (f p)) (x .code) (now (x .output)))
-    (ap (λ (steps : ℕ). run (ok (f p)) 1 steps (rest (f p))) (counted (f p))
-    ∙ sym (run-fails (ok (f p)) 0 0 (o (f p)) (rest (f p)) (sym (ok-is p) ∙ e .if1 .left)))
+    let p = c .before .before .before in
+    let t = f p .first-trial .ensures in (
+      record {
+        start-most = omega (arith, counted (f p), first-steps (mask (f p)) (s (f p) .args .code) (v (f p)));
+        first-bits = t .bits;
+        plain = t .plain;
+        message-size = message-long p;
+        goes-on = λ later.
+            run-fails (ok (f p)) 0 0 (o (f p)) later (sym (ok-is p) ∙ c .if1 .left)
+            ∙ ap (λ (steps : ℕ). run (ok (f p)) 1 steps later) (sym (counted (f p)));
+      },
+      t .leaves,
+      t .whole,
+      refl,
+    )
 
-pub run-trials-spec : {M : Type 1} → statement M
-run-trials-spec =
+pub begin-spec : {M : Type 1} → statement M
+begin-spec =
     tie.close
     (tie.spec
     first-trial-requires
@@ -139,7 +127,5 @@ run-trials-spec =
     (λ c. search needs)
     (λ c. search needs)
     returns
-    later-trials-requires
-    (λ c. search needs)
     (λ c. search needs)
     returns-2)

@@ -1,0 +1,18 @@
+-- `polar::polar_decode_sets_full` meets its contract.
+use mathlib.Core.Path.{sym, subst}
+use borrow.Author.Needs.{needs}
+use Rattle.trial.specs.declared.Restart.the-variants.{Root}
+use Rattle.number.specs.Number.{decodedParts}
+use Rattle.polar.proofs.Answers.{numbered-answer}
+use Rattle.polar.proofs.Fitting.{Fits, sets-fits}
+use Rattle.polar.proofs.polar_decode_sets_full.Statement.{statement}
+use Rattle.polar.proofs.polar_decode_sets_full.Tie as tie
+
+pub polar-decode-sets-full-spec : {M : Type 1} → statement M
+polar-decode-sets-full-spec =
+    tie.close
+    (tie.spec
+    (λ c κs. search needs)
+    (λ c κs. subst (Fits decodedParts) (sym (c .before .before .decode-sets-full .ensures)) (sets-fits Root _ _ _ _ _))
+    (λ c. search needs)
+    (λ c. numbered-answer decodedParts (c .decoded-answer .ensures) (c .before .before .before .decode-sets-full .ensures)))

@@ -1,0 +1,4 @@
+pub mod Leaves
+pub mod Searching
+pub mod Held
+pub mod First

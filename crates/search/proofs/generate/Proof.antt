@@ -1,0 +1,119 @@
+-- `search::generate` meets its contract: below the restart of the set's trial the leaf values are trial 1's.
+use mathlib.Core.Path.{_≡_, refl, sym, ap, ap₂, _∙_, subst}
+use mathlib.Core.List.{List}
+use Prim.Native.Nat.{ℕ, _<_, _≤_}
+use native.Mathlib.Omega.{arith}
+use borrow.Author.Needs.{needs}
+use borrow.Author.Tests.{lt-ltb, le-ltb}
+use denote.Ref.{now}
+use lib.IntN.{ℤ, natAbs}
+use lib.ListN.{length, take, length-take}
+use Rattle.laws.proofs.Segment.{length-splice}
+use Rattle.arrays.proofs.Sizes.{fits}
+use Rattle.code.specs.Code.{codeLength}
+use Rattle.trial.specs.Trial.{restartAt}
+use Rattle.trial.proofs.Flips.{lowest-is}
+use Rattle.trial.proofs.Restartable.{restartable}
+use Rattle.tried.proofs.Members.{past-most}
+use Rattle.pool.specs.Contracts.{Small}
+use Rattle.pool.proofs.Extending.{inserted-none}
+use Rattle.search.specs.Contracts.{resumedAt, leavesFrom}
+use Rattle.search.proofs.Leaves.{leaf-before}
+use Rattle.search.proofs.generate.Statement.{statement}
+use Rattle.search.proofs.generate.Tie as tie
+
+returns : tie.Need-returns
+returns c =
+    let s = c .before .before .before .before in
+    (rw (le-ltb _ _ (c .if1 .taken)) (inserted-none (s .pre .3)), refl)
+
+restart-index-requires : tie.Need-restart-index-requires
+restart-index-requires c κs =
+    let p = c .before .before .before .before .before .pre in
+    (omega (arith, p .0 .mask-size, fits (p .0 .n-most)), omega (arith, p .1 .below 0 (p .1 .some), p .0 .mask-size))
+
+-- where the trial resumed
+module _ (c : tie.After-restart-index) where
+  abbrev s : tie.Start
+  s = c .before .before .before .before .before .before
+
+  abbrev values : List ℤ
+  values = now (s .args .values)
+
+  abbrev leaves : List ℤ
+  leaves = now (s .args .leaves)
+
+  abbrev q : ℕ
+  q = resumedAt (s .args .search) (now (s .args .mask)) (s .args .code) (now (s .args .flips))
+
+  q-is : c .restart-index .result ≡ q
+  q-is =
+      c .restart-index .ensures
+      ∙ ap₂ (λ (size low : ℕ). restartAt (s .args .search .restart) (now (s .args .mask)) size low) (s .pre .0 .mask-size) (sym (lowest-is (now (s .args .flips))))
+
+  q-most : q ≤ codeLength (s .args .code)
+  q-most = restartable (s .pre .1) (s .args .search .restart) .most
+
+  room : q ≤ length values
+  room = omega (arith, q-most, fits (s .pre .0 .n-most), s .pre .2 .values-whole)
+
+copy-values-requires : tie.Need-copy-values-requires
+copy-values-requires c κs =
+    let r = c .before in
+    let p = s r .pre in (
+      omega (arith, q-is r, room r, p .2 .values-whole),
+      p .2 .values-whole,
+      p .2 .leaves-whole,
+      record { at = λ j l. omega (arith, ap natAbs (leaf-before (q r) (values r) (leaves r) (room r) j (omega (arith, q-is r))), p .2 .small .at j (omega (arith, q-is r, q-most r))) },
+    )
+
+-- the leaf values are in place
+module _ (c : tie.After-copy-values) where
+  abbrev r : tie.After-restart-index
+  r = c .before .before
+
+  held : c .copy-values .last .1 .0 ≡ leavesFrom (q r) (values r) (leaves r)
+  held = c .copy-values .ensures ∙ ap (λ (k : ℕ). leavesFrom k (values r) (leaves r)) (q-is r)
+
+  small : Small (codeLength (s r .args .code)) (c .copy-values .last .1 .0)
+  small = subst (Small (codeLength (s r .args .code))) (sym held) (s r .pre .2 .small)
+
+  more : length (now (s r .args .flips)) < s r .args .search .w
+  more = omega (arith, r .before .before .if1 .left)
+
+extend-requires : tie.Need-extend-requires
+extend-requires c κs =
+    let k = c .before .before .before in
+    let p = s (r k) .pre in (
+      record { fits = omega (arith, p .0 .mask-size, fits (p .0 .n-most)); small = record { at = λ j l. small k .at j (omega (arith, p .0 .mask-size)) } },
+      record {
+        few = omega (arith, more k, p .2 .flips-most);
+        below = λ a m. omega (arith, p .1 .below a m, p .0 .mask-size);
+        past = omega (arith, past-most (p .1), p .0 .mask-size);
+        small = λ a m. small k .at _ (p .1 .below a m);
+      },
+      p .3,
+    )
+
+returns-2 : tie.Need-returns-2
+returns-2 c =
+    let k = c .before .before .before .before in
+    let p = s (r k) .pre in
+    let copied = take (r k .restart-index .result) (values (r k)) in (
+      rw (lt-ltb _ _ (more k), ← held k, ← p .0 .mask-size) (c .extend .ensures),
+      ap length (k .copy-values .ensures) ∙ length-splice (leaves (r k)) 0 copied _ refl (omega (arith, length-take (r k .restart-index .result) (values (r k)), p .2)),
+    )
+
+pub generate-spec : {M : Type 1} → statement M
+generate-spec =
+    tie.close
+    (tie.spec
+    (λ c. search needs)
+    returns
+    (λ c. let p = c .before .before .before .before .before .pre in p .1 .some)
+    restart-index-requires
+    copy-values-requires
+    (λ c. search needs)
+    (λ c. search needs)
+    extend-requires
+    returns-2)

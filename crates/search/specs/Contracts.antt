@@ -1,0 +1,58 @@
+-- What only contracts below the public operations cite. Nothing here need be believed.
+use mathlib.Core.Path.{_≡_}
+use mathlib.Core.Bool.{cond}
+use mathlib.Core.List.{List, [], map}
+use Prim.Native.Nat.{ℕ, _-_, _≤_}
+use lib.Dec.{ltb}
+use lib.IntN.{ℤ}
+use lib.ListN.{length, take}
+use Rattle.laws.specs.Contracts.{splice}
+use Rattle.arrays.specs.Claims.{longest}
+use Rattle.code.specs.declared.Code.{Code}
+use Rattle.code.specs.Code.{codeLength}
+use Rattle.code.specs.Claims.{Coded}
+use Rattle.channel.specs.Channel.{channelValues}
+use Rattle.trial.specs.Trial.{lowest, restartAt, trialPasses}
+use Rattle.run.specs.declared.Decoded.{Decoded}
+use Rattle.run.specs.Trials.{run, answerOf}
+use Rattle.sets.specs.declared.Search.{Search}
+use Rattle.sets.specs.Candidate.{Candidate, extensions, insertEach}
+use Rattle.sets.specs.Tried.{generated, setTrials}
+use Rattle.sets.specs.WellFormed.{WellFormed}
+use Rattle.pool.specs.Contracts.{keyOf, Small, Pool, PoolPre}
+
+-- where the trial of a set resumes
+abbrev pub resumedAt : Search → List ℕ → Code → List ℕ → ℕ
+resumedAt s mask c is = restartAt (s .restart) mask (codeLength c) (lowest is)
+
+-- the leaf values of a trial that resumed at q, in an array, with trial 1's below q
+abbrev pub leavesFrom : ℕ → List ℤ → List ℤ → List ℤ
+leavesFrom q values leaves = splice leaves 0 (take q values)
+
+-- what the trial of a set generates by these leaf values
+abbrev pub generatedFrom : Search → List ℕ → Code → List ℤ → List ℤ → List ℕ → List Candidate
+generatedFrom s mask c values leaves is =
+    cond (ltb (length is) (s .w)) (extensions mask (leavesFrom (resumedAt s mask c is) values leaves) is (codeLength c)) []
+
+-- leaf values whose metrics fit, and a search of at most three flips
+pub record LeavesPre (s : Search) (mask : List ℕ) (c : Code) (is : List ℕ) (values leaves : List ℤ) : Type 0 where
+  pub flips-most : s .w ≤ 3
+  pub limit-least : 1 ≤ s .limit
+  pub values-whole : length values ≡ longest
+  pub leaves-whole : length leaves ≡ longest
+  pub small : Small (codeLength c) (leavesFrom (resumedAt s mask c is) values leaves)
+
+-- what holds past all refusals before 16
+pub record SearchPre (s : Search) (mask : List ℕ) (c : Code) (channel output : List ℕ) : Type 0 where
+  pub coded : Coded mask c
+  pub well-formed : WellFormed c channel (s .w) (s .limit) output
+
+-- the sets that trial 1 generated are in their places
+pub record FirstPool (s : Search) (mask : List ℕ) (c : Code) (channel : List ℕ) (count : ℕ) (keys : List ℕ) : Type 0 where
+  pub places : PoolPre 0 count (s .limit - 1) keys
+  pub holds : Pool keys 0 count (map keyOf (insertEach (s .limit - 1) (generated s mask c (channelValues channel) []) []))
+
+-- the answer past all refusals before 16, and the output's final bytes
+abbrev pub answerBy : Search → List ℕ → Code → List ℕ → List ℕ → Decoded × List ℕ
+answerBy s mask c channel output =
+    answerOf mask c output (run (trialPasses mask c) 0 0 (setTrials s mask c (channelValues channel)))

@@ -1,0 +1,57 @@
+-- The decoders by sets of any two restarts give the same answer, and each skips exactly the steps that its restarts save.
+use mathlib.Core.Path.{_≡_, ap, _∙_}
+use mathlib.Core.List.{List}
+use Prim.Native.Nat.{ℕ, _≤_}
+use native.Mathlib.Omega.{arith}
+use lib.IntN.{ℤ}
+use Rattle.code.specs.declared.Code.{Code}
+use Rattle.code.specs.declared.Description.the-variants.{Accepted as Coding}
+use Rattle.code.specs.Description.{maskOf, describe}
+use Rattle.channel.specs.Channel.{channelValues}
+use Rattle.trial.specs.declared.Restart.{Restart}
+use Rattle.trial.specs.declared.Restart.the-variants.{Root}
+use Rattle.trial.specs.Trial.{trialPasses}
+use Rattle.run.specs.Trials.{run, answerOf}
+use Rattle.demands.proofs.Trials.{FlipsEach, trialsOf}
+use Rattle.demands.proofs.Compare.{TwoRestarts, two-restarts}
+use Rattle.sets.specs.Tried.{flipSets}
+use Rattle.sets.specs.DecodeSets.{searchOf, setsWith}
+use Rattle.sets.specs.WellFormed.{WellFormed}
+use Rattle.sets.proofs.WellFormed.{well-formed-answer, decoded-by}
+use Rattle.tried.proofs.Sets.{flip-set-each}
+use Rattle.tried.proofs.Same.{same-sets}
+use Rattle.tried.proofs.Kept.{length-sets}
+
+-- the sets of the trials up to the limit: full decoding's, and those of every restart
+abbrev pub setsUpTo : ℕ → ℕ → List ℕ → Code → List ℤ → List (List ℕ)
+setsUpTo w limit mask c v = flipSets (searchOf Root w limit) mask c v
+
+-- each can be flipped
+pub flips-each : (w limit : ℕ) (mask : List ℕ) (c : Code) (v : List ℤ) → FlipsEach mask c (setsUpTo w limit mask c v)
+flips-each w limit mask c v a l = flip-set-each (searchOf Root w limit) mask c v a l .flips
+
+-- one restart: the answer is that of its trials of the same sets
+answer : (restart : Restart) (d : List ℕ) (c : Code) (channel : List ℕ) (w limit : ℕ) (output : List ℕ) → describe d ≡ Coding c → WellFormed c channel w limit output
+    → setsWith (searchOf restart w limit) d channel output
+    ≡ answerOf (maskOf d) c output (run (trialPasses (maskOf d) c) 0 0 (trialsOf restart (maskOf d) c (channelValues channel) (setsUpTo w limit (maskOf d) c (channelValues channel))))
+answer restart d c channel w limit output code on =
+    let mask : List ℕ = maskOf d in
+    let v : List ℤ = channelValues channel in
+    decoded-by (searchOf restart w limit) d channel output c code
+    ∙ well-formed-answer (searchOf restart w limit) mask c channel output on
+    ∙ ap (λ (sets : List (List ℕ)). answerOf mask c output (run (trialPasses mask c) 0 0 (trialsOf restart mask c v sets))) (same-sets restart Root w limit mask c v)
+
+module _ (a b : Restart) (d : List ℕ) (c : Code) (channel : List ℕ) (w limit : ℕ) (output output′ : List ℕ)
+    (code : describe d ≡ Coding c) (on : WellFormed c channel w limit output) (on′ : WellFormed c channel w limit output′) where
+  abbrev sets : List (List ℕ)
+  sets = setsUpTo w limit (maskOf d) c (channelValues channel)
+
+  -- the decoders of two restarts
+  pub compare : TwoRestarts a b (maskOf d) c sets output output′ (setsWith (searchOf a w limit) d channel output) (setsWith (searchOf b w limit) d channel output′)
+  compare =
+      two-restarts a b (maskOf d) c (channelValues channel) sets (flips-each w limit (maskOf d) c (channelValues channel)) output output′
+      (answer a d c channel w limit output code on) (answer b d c channel w limit output′ code on′)
+
+  -- no more trials are made than the limit allows
+  pub most : compare .made ≤ limit
+  most = omega (arith, compare .most, length-sets (searchOf Root w limit) (maskOf d) c (channelValues channel), on .limit-least)

@@ -1,0 +1,37 @@
+-- Demand 3 for sets: `compare` where the one decoder repeats each trial from the root and the other resumes past its set's lowest index.
+use mathlib.Core.Logic.{inl, inr, ⊎-elim}
+use mathlib.Core.List.{List, map}
+use Prim.Native.Nat.{ℕ, _-_}
+use native.Mathlib.Omega.{arith}
+use lib.IntN.{ℤ}
+use lib.ListN.{take, length-map}
+use Rattle.code.specs.Code.{codeLength}
+use Rattle.code.specs.Description.{maskOf}
+use Rattle.channel.specs.Channel.{channelValues}
+use Rattle.trial.specs.declared.Restart.the-variants.{Root, After}
+use Rattle.trial.specs.Trial.{lowest, resumeAt}
+use Rattle.demands.proofs.Trials.{flips-take}
+use Rattle.demands.proofs.Demand3.{skipped-root, after, skipped-after, first-after}
+use Rattle.setdemands.specs.SetsDemand3.{SetsDemand3}
+use Rattle.setdemands.proofs.Compare.{setsUpTo, flips-each, compare, most}
+
+-- full and restarted decoding
+pub sets-demand-3 : SetsDemand3
+sets-demand-3 d c channel w limit output output′ code on on′ =
+    let mask : List ℕ = maskOf d in
+    let v : List ℤ = channelValues channel in
+    let e = compare Root After d c channel w limit output output′ code on on′ in
+    let sets : List (List ℕ) = setsUpTo w limit mask c v in
+    let is : List ℕ = map lowest (take (e .made - 1) sets) in
+    record {
+      made = e .made;
+      full = e .steps;
+      restarted = e .steps′;
+      most = most Root After d c channel w limit output output′ code on on′;
+      answers = ⊎-elim inl (λ x. inr (x .1, x .2)) (e .answers);
+      full-steps = omega (arith, e .counted, skipped-root mask c is);
+      qs = after mask c is;
+      each = omega (arith, e .each, length-map (take (e .made - 1) sets) lowest, length-map is (resumeAt mask (codeLength c)));
+      exceeds = omega (arith, e .counted, e .counted′, skipped-root mask c is, skipped-after mask c is);
+      q-is = first-after mask c (take (e .made - 1) sets) (flips-take mask c (e .made - 1) sets (flips-each w limit mask c v));
+    }

@@ -1,0 +1,3 @@
+pub mod WellFormed
+pub mod Limit
+pub mod Examples

@@ -1,0 +1,12 @@
+-- As many trials as the largest limit allows are few enough.
+use Prim.Native.Nat.{ℕ, _+_, _≤_}
+use native.Mathlib.Omega.{arith}
+use lib.Dec.{eqb}
+use Rattle.laws.proofs.Choice.{cond-ind}
+use Rattle.arrays.specs.Claims.{longest, mostTrials}
+use Rattle.code.specs.declared.Code.{Code}
+use Rattle.code.specs.Code.{informationCount}
+use Rattle.sets.specs.DecodeSets.{mostLimit}
+
+pub limit-fits : (w : ℕ) (c : Code) → informationCount c ≤ longest → mostLimit w c ≤ mostTrials
+limit-fits w c l = cond-ind (λ (x : ℕ). x ≤ mostTrials) (eqb w 1) (informationCount c + 1) 512 (λ _. omega arith) (λ _. omega arith)

@@ -1,0 +1,59 @@
+-- Document 02, request 2.2: both decoders by sets, with the refusals of a description, 12, 13, 26, 14, 15 and 16 in order.
+use mathlib.Core.Bool.{Bool, cond}
+use mathlib.Core.List.{List, [], _∷_, _++_}
+use Prim.Native.Nat.{ℕ, _+_}
+use lib.Dec.{eqb}
+use lib.ListN.{length}
+use Rattle.refusal.specs.declared.Refusal.{Refusal}
+use Rattle.refusal.specs.declared.Refusal.the-variants.{Alone}
+use Rattle.refusal.specs.Judge.{differs, outside, judge, refusedOr}
+use Rattle.bits.specs.Packing.{bytesFor}
+use Rattle.code.specs.declared.Code.{Code}
+use Rattle.code.specs.Code.{informationCount}
+use Rattle.code.specs.Description.{maskOf, describe, onDescription}
+use Rattle.channel.specs.Channel.{channelValues, channelRefusals}
+use Rattle.trial.specs.declared.Restart.{Restart}
+use Rattle.trial.specs.declared.Restart.the-variants.{Root, After}
+use Rattle.trial.specs.Trial.{trialPasses}
+use Rattle.run.specs.declared.Decoded.{Decoded}
+use Rattle.run.specs.declared.Decoded.the-variants.{Refused}
+use Rattle.run.specs.Trials.{run, answerOf}
+use Rattle.sets.specs.declared.Search.{Search}
+use Rattle.sets.specs.Tried.{setTrials}
+
+-- the largest trial limit: K + 1 for single indices, and 512 above
+abbrev pub mostLimit : ℕ → Code → ℕ
+mostLimit w c = cond (eqb w 1) (informationCount c + 1) 512
+
+-- 26 w is outside 1..3; 14 the trial limit is outside its range; 15 the output is not of the packed payload's size
+abbrev pub searchRefusals : Search → Code → List ℕ → List (Bool × Refusal)
+searchRefusals s c output =
+    (outside (s .w) 1 3, Alone 26)
+    ∷ (outside (s .limit) 1 (mostLimit (s .w) c), Alone 14)
+    ∷ (differs (length output) (bytesFor (c .k)), Alone 15)
+    ∷ []
+
+abbrev pub setRefusals : Search → Code → List ℕ → List ℕ → List (Bool × Refusal)
+setRefusals s c channel output = channelRefusals c channel ++ searchRefusals s c output
+
+-- the answer and the bytes that the output holds afterwards, for a code: a refusal writes nothing, and 16 carries the trials made
+unfoldable pub setsBy : Search → List ℕ → Code → List ℕ → List ℕ → Decoded × List ℕ
+setsBy s mask c channel output =
+    refusedOr (judge (setRefusals s c channel output)) (λ x. (Refused x, output))
+    (answerOf mask c output (run (trialPasses mask c) 0 0 (setTrials s mask c (channelValues channel))))
+
+-- the same for a description: its refusals first
+unfoldable pub setsWith : Search → List ℕ → List ℕ → List ℕ → Decoded × List ℕ
+setsWith s d channel output =
+    onDescription (describe d) (λ x. (Refused x, output)) (λ c. setsBy s (maskOf d) c channel output)
+
+-- a search by its parts
+abbrev pub searchOf : Restart → ℕ → ℕ → Search
+searchOf restart w limit = record { restart = restart; w = w; limit = limit }
+
+-- full decoding repeats each trial from the root; restarted decoding resumes past the lowest index of its set
+abbrev pub setsFull : List ℕ → List ℕ → ℕ → ℕ → List ℕ → Decoded × List ℕ
+setsFull d channel w limit output = setsWith (searchOf Root w limit) d channel output
+
+abbrev pub setsRestarted : List ℕ → List ℕ → ℕ → ℕ → List ℕ → Decoded × List ℕ
+setsRestarted d channel w limit output = setsWith (searchOf After w limit) d channel output

@@ -1,0 +1,4 @@
+pub mod Candidate
+pub mod Tried
+pub mod DecodeSets
+pub mod WellFormed

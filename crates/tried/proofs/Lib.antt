@@ -1,0 +1,9 @@
+pub mod Members
+pub mod Kept
+pub mod All
+pub mod Small
+pub mod Sets
+pub mod Least
+pub mod Same
+pub mod Own
+pub mod Singles

@@ -1,0 +1,35 @@
+//! The exports `polar_decode_sets_full` and `polar_decode_sets_restarted`.
+
+use crate::testing::library::call;
+
+/// Declares an export, and a function that calls it.
+macro_rules! decoder {
+    ($export:ident, $name:ident) => {
+        extern "C" {
+            fn $export(
+                description: *const u8,
+                description_len: usize,
+                channel: *const u8,
+                channel_len: usize,
+                most_flips: u32,
+                trial_limit: u32,
+                payload: *mut u8,
+                payload_len: usize,
+            ) -> u64;
+        }
+
+        /// Writes the packed payload; the answer is as in `number::decode_number`.
+        pub fn $name(
+            description: &[u8],
+            channel: &[u8],
+            most_flips: u32,
+            limit: u32,
+            payload: &mut [u8],
+        ) -> u64 {
+            unsafe { call::decode_sets($export, description, channel, most_flips, limit, payload) }
+        }
+    };
+}
+
+decoder!(polar_decode_sets_full, decode_sets_full);
+decoder!(polar_decode_sets_restarted, decode_sets_restarted);

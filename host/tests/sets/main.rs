@@ -1,0 +1,9 @@
+//! The library's decoders with flip sets, held to the reference, which keeps every untried set, and to
+//! each other on more than 250,000 calls.
+
+mod examples;
+mod frames;
+mod limits;
+mod outcomes;
+mod passing;
+mod refusals;

@@ -1,0 +1,39 @@
+//! Frames that a chosen trial accepts: under one start of the check its bits pass, whatever they are.
+
+use host::reference::check::check;
+use host::reference::description::{with_start, Code};
+use host::reference::frame::Frame;
+use host::reference::pass::{pass, plain_rules, Rule};
+use host::reference::placing::take;
+
+/// The description of kind 4 under which the trial that flips a set passes.
+pub fn passing_description(d: &[u8], channel: &[u8], set: &[usize]) -> Vec<u8> {
+    let frame = Frame::read(d, channel).expect("a frame");
+    let mut rules = plain_rules(frame.mask);
+    for &index in set {
+        rules[index] = Rule::Opposite;
+    }
+    let bits = pass(&frame.values, &[], &rules).bits;
+    with_start(d, passing_start(&frame.code, &take(frame.mask, &bits)))
+}
+
+/// The start with which a message's check is right: what lacks under start 0 is start · z^k, which is
+/// divided by z as often as there are payload bits.
+fn passing_start(code: &Code, message: &[u8]) -> u16 {
+    let (payload, check_bits) = message.split_at(code.k);
+    let without = check(payload, code.r, code.polynomial, 0);
+    let lacking = without.iter().zip(check_bits).map(|(a, b)| a ^ b);
+    let lacking = lacking.fold(0, |number, bit| 2 * number + u32::from(bit));
+    let start = (0..code.k).fold(lacking, |number, _| over_z(code, number)) as u16;
+    assert_eq!(check(payload, code.r, code.polynomial, start), check_bits);
+    start
+}
+
+/// A number's polynomial over z, modulo the check's, whose lowest coefficient is 1.
+fn over_z(code: &Code, number: u32) -> u32 {
+    let divisor = 1 << code.r | u32::from(code.polynomial);
+    match number % 2 {
+        0 => number / 2,
+        _ => (number ^ divisor) / 2,
+    }
+}
