@@ -39,7 +39,7 @@ pub record LaterTrialsPre (room : ℕ) (mask : List ℕ) (c : Code) (channel : L
   pub message-size : codeLength c ≤ length message
   pub goes-on : (later : List Out) → run (trialPasses mask c) 0 0 (firstTrial mask c (channelValues channel) ∷ later) ≡ run (trialPasses mask c) 1 start later
 
--- how trial 1 ended: the answer is that of a run, whatever trials it has left; or the output is as it was
+-- how trial 1 ended: it passed, and the answer is that of a run, whatever later trials it has; or it failed, and the output is as it was
 abbrev pub BeginPost : ℕ → List ℕ → Code → List ℕ → List ℕ → List ℕ → Arrays → List ℕ → List ℕ → Begun → Type 0
 BeginPost room mask c channel output rules a message output′ (Passed answer) =
     (later : List Out) → (answer, output′) ≡ answerOf mask c output (run (trialPasses mask c) 0 0 (firstTrial mask c (channelValues channel) ∷ later))
