@@ -28,8 +28,9 @@
  *
  * Silence: with start 0, N zero values are accepted on trial 1 as a payload of zeros, so a receiver with a broken lead looks like a cab
  * that sends zeros. With a nonzero start they fail trial 1 under every code. A later trial may still accept them: whether and when is up
- * to the code and the start value. To know it, decode N zeros once with trial_limit K + 1: the trial that accepts them is the least limit
- * at which silence is accepted, and refusal 16 says that none does. Choose a start, and a trial_limit below that trial.
+ * to the code and the start value. To know it, decode N zeros once with the decoder that is to be used and the largest trial_limit, K + 1,
+ * or 512 with most_flips above 1: the trial that accepts them is the least limit at which silence is accepted, and refusal 16 says that
+ * none does. Choose a start, and a trial_limit below that trial.
  */
 #ifndef POLAR_H
 #define POLAR_H
