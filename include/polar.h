@@ -4,22 +4,22 @@
  * Each function takes buffers as a pointer and a length in bytes, and keeps no pointer. It only reads its inputs, which may overlap each
  * other; input and output must not overlap, and nothing else may write any of them during the call. A pointer may be NULL where its length
  * is 0. There is no global state and no allocation: all functions are reentrant and may be called from several threads at once. A call
- * takes at most 24 KiB of stack for encode and resume, 32 KiB for the decoders.
+ * takes at most 8 KiB of stack for encode, 52 KiB for resume, 72 KiB for the decoders, and 92 KiB for those by sets, whatever the code.
  *
  * Each answer is one number: bits 0-7 hold the refusal, or 0 for acceptance; bits 8-31 the trial, refusal 16's number of trials, or a
  * refusal's first index; bits 32-63 the steps. What an answer lacks is 0. A refusal writes nothing. Where several refusals apply, the
  * answer is the first in the order in which they stand here.
  *
  * A description is a record of kind 1 or of kind 4. Kind 1: length (2 bytes), kind (2 bytes), n, r, polynomial (2 bytes), mask (N/8
- * bytes). Kind 4 has a start value of the check (2 bytes) between polynomial and mask; kind 1 means start 0. N = 2^n is at most 1,024;
- * fields of 2 bytes are little-endian, and the length counts the whole record, at most 138 bytes. Bit i of the polynomial is the
+ * bytes). Kind 4 has a start value of the check (2 bytes) between polynomial and mask; kind 1 means start 0. N = 2^n is at most 4,096;
+ * fields of 2 bytes are little-endian, and the length counts the whole record, at most 522 bytes. Bit i of the polynomial is the
  * coefficient of z^i, and z^r is understood. Bit b of byte m of the mask, b = 0 being the least bit, stands for index 8m + b: 1 for an
  * information index, 0 for a frozen one. K is the number of ones in the mask, and k = K - r the number of payload bits. The check is the
  * remainder of start * z^k + payload * z^r on division by the polynomial. Refusals of the description come first, in this order:
  *   1  fewer than 8 bytes, or fewer than 10 where bytes 2 and 3 say kind 4
  *   2  length field unequal to the bytes lent
  *   3  kind neither 1 nor 4
- *   4  n outside 3..10
+ *   4  n outside 3..12
  *   5  length not 8 + N/8, or of kind 4 not 10 + N/8
  *   6  r outside 1..16
  *   7  polynomial bit 0 clear, or a bit at r or above set
@@ -39,10 +39,10 @@
 #include <stdint.h>
 
 /* Buffers of so many bytes suffice for every code; a call gets the exact length for its code. */
-#define POLAR_LONGEST_CODE 1024       /* N channel values, or the N bits that resume writes */
-#define POLAR_LONGEST_DESCRIPTION 138 /* 10 + N/8 */
-#define POLAR_LONGEST_CODEWORD 128    /* N/8 */
-#define POLAR_LONGEST_PAYLOAD 128     /* ceil(k/8), where k is at most N - 1 */
+#define POLAR_LONGEST_CODE 4096       /* N channel values, or the N bits that resume writes */
+#define POLAR_LONGEST_DESCRIPTION 522 /* 10 + N/8 */
+#define POLAR_LONGEST_CODEWORD 512    /* N/8 */
+#define POLAR_LONGEST_PAYLOAD 512     /* ceil(k/8), where k is at most N - 1 */
 
 /* The parts of an answer: the refusal, or 0; the trial, the number of trials or the index; the steps. */
 #define POLAR_REFUSAL(answer) ((unsigned)((answer) & 0xff))

@@ -24,7 +24,7 @@ use timing::Times;
 use crate::reference::sizes::DEEPEST;
 
 /// The code lengths, as n.
-const DEPTHS: [usize; 3] = [5, 7, DEEPEST];
+const DEPTHS: [usize; 4] = [5, 7, 10, DEEPEST];
 
 /// Over how many processes the rounds of a row are spread.
 const PROCESSES: usize = 5;

@@ -1,9 +1,9 @@
 //! What the tests need: `library` calls the codec, `guard` lends buffers to it, `lent` does both,
 //! `decoders` and `sets` hold the decoders to the reference, `stack` measures what a call takes,
 //! `program` runs `receive`; `random`, `samples` and `call` make inputs, `streams` what `receive`
-//! reads, `paper` has those that the documents name, `examples` those of flip sets by hand, `hex`
-//! reads bytes, and `met` counts refusals; `files` has the repository's files, and `belief` what must
-//! be believed of the definitions.
+//! reads, `passing` frames that a chosen trial accepts, `paper` has those that the documents name,
+//! `examples` those of flip sets by hand, `hex` reads bytes, and `met` counts refusals; `files` has
+//! the repository's files, and `belief` what must be believed of the definitions.
 
 pub mod belief;
 pub mod call;
@@ -16,6 +16,7 @@ pub mod lent;
 pub mod library;
 pub mod met;
 pub mod paper;
+pub mod passing;
 pub mod program;
 pub mod random;
 pub mod samples;

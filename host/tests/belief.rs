@@ -19,7 +19,7 @@ const OPERATIONS: [(&str, &str); 8] = [
 ];
 
 /// What `receive` prints and how it runs, and the statements of the main theorems.
-const DEFINITIONS: [(&str, &str); 10] = [
+const DEFINITIONS: [(&str, &str); 11] = [
     ("records", "printed"),
     ("records", "Run"),
     ("demands", "Demand3"),
@@ -30,10 +30,11 @@ const DEFINITIONS: [(&str, &str); 10] = [
     ("setdemands", "SetsDemand3"),
     ("setdemands", "SetsNoiseless"),
     ("setdemands", "StaysAccepted"),
+    ("longer", "OldAnswers"),
 ];
 
 /// One sitting.
-const MOST_LINES: usize = 660;
+const MOST_LINES: usize = 670;
 
 fn crates() -> Crates {
     Crates::read(&repository().join("crates")).expect("the crates")

@@ -7,11 +7,12 @@ use host::reference::flip::Accepted;
 use host::reference::packing::{pack, packed_length};
 use host::reference::placing::place;
 use host::reference::refusal::{refusal_number, Refusal};
-use host::reference::sizes::{DEEPEST, LAYERS, LONGEST, LONGEST_BYTES, MOST_TRIALS};
+use host::reference::sizes::{DEEPEST, LAYERS, LONGEST, LONGEST_BYTES, MOST_STEPS, MOST_TRIALS};
 use host::reference::transform::transform;
-use host::testing::decoders::{check, Pair, FULL, RESTARTED};
+use host::testing::decoders::{check, flipped, Pair, FULL, RESTARTED};
 use host::testing::met::Met;
 use host::testing::paper::{D, D_WITH_START, V};
+use host::testing::passing::passing_description;
 use host::testing::random::Random;
 use host::testing::samples::{self, for_descriptions, for_refused_descriptions};
 
@@ -164,9 +165,52 @@ fn the_most_trials() {
     let mut random = Random::new(3);
     let d = record(DEEPEST, 16, 0x8005, &[true; LONGEST]);
     let channel = samples::channel(&mut random, LONGEST, 31);
+    let failed = Refusal::AllFailed {
+        trials: MOST_TRIALS,
+        steps: MOST_TRIALS * MOST_STEPS,
+    };
     for d in [with_start(&d, 0xFFFF), d] {
         let answer = check(&d, &channel, MOST_TRIALS as u32, &room(&mut random, &d));
-        assert_eq!(refusal_number(&answer), 16);
+        assert_eq!(answer, Err(failed));
+    }
+}
+
+/// Frames of long codes that one of all trials accepts, mostly after hundreds of others.
+#[test]
+fn late_trials() {
+    let mut random = Random::new(13);
+    for n in 9..=DEEPEST {
+        for _ in 0..4 {
+            let ones = random.between(200, 500);
+            let mask = samples::mask(&mut random, 1 << n, ones);
+            let d = record(n, 16, 0x8005, &mask);
+            let channel = samples::channel(&mut random, 1 << n, 31);
+            let trial = random.between(2, ones + 1);
+            let flipped = flipped(&d, &channel, ones + 1)[trial - 2];
+            let d = passing_description(&d, &channel, &[flipped]);
+            let answer = check(&d, &channel, ones as u32 + 1, &room(&mut random, &d));
+            assert!(answer.is_ok_and(|accepted| accepted.trial <= trial));
+        }
+    }
+}
+
+/// Codes whose indices are all information indices: the largest limit is K + 1 = N + 1.
+#[test]
+fn the_largest_limits() {
+    let mut random = Random::new(12);
+    for n in LAYERS {
+        let d = record(n, 1, 1, &vec![true; 1 << n]);
+        let most = (1 << n) + 1;
+        for d in [with_start(&d, 1), d] {
+            let (x, _) = sent(&mut random, &d);
+            let channel = samples::noiseless(&mut random, &x);
+            let mut refusal = |limit| {
+                let answer = check(&d, &channel, limit, &room(&mut random, &d));
+                refusal_number(&answer)
+            };
+            assert_eq!([1, most - 1, most].map(&mut refusal), [0; 3]);
+            assert_eq!([0, most + 1, u32::MAX].map(&mut refusal), [14; 3]);
+        }
     }
 }
 

@@ -5,7 +5,7 @@ use host::reference::description::{
     describe, has_start, header_length, record, with_start, word, Code, LONGEST_DESCRIPTION,
     REFUSALS,
 };
-use host::reference::sizes::{DEEPEST, LAYERS, LONGEST, LONGEST_RECORD};
+use host::reference::sizes::{DEEPEST, LAYERS, LONGEST_RECORD};
 use host::testing::guard::{lend_input, lend_numbers};
 use host::testing::hex::parse;
 use host::testing::library;
@@ -195,15 +195,46 @@ fn check_faults(random: &mut Random, mut d: Vec<u8>, faults: &[usize]) {
     }
 }
 
+/// A description of each kind whose indices are all information indices.
+fn both_kinds(n: usize) -> [Vec<u8>; 2] {
+    let plain = record(n, 11, 0x0621, &vec![true; 1 << n]);
+    [with_start(&plain, 0x7FF), plain]
+}
+
+/// The longest descriptions are accepted, and those of larger n refused with the length of their n as
+/// with any other.
 #[test]
 fn the_largest_n() {
-    let plain = record(DEEPEST, 11, 0x0621, &[true; LONGEST]);
-    let longest = with_start(&plain, 0x7FF);
-    assert_eq!(longest.len(), LONGEST_DESCRIPTION);
-    assert_eq!(check(&longest), 0);
-    assert_eq!(check(&plain), 0);
+    let lengths = both_kinds(DEEPEST).map(|d| d.len());
+    assert_eq!(lengths, [LONGEST_DESCRIPTION, LONGEST_DESCRIPTION - 2]);
+    for n in DEEPEST - 2..=DEEPEST + 3 {
+        for d in both_kinds(n) {
+            assert_eq!(check(&d), if n <= DEEPEST { 0 } else { 4 });
+            for other in DEEPEST + 1..256 {
+                assert_eq!(check_with(&d, 4, &[other as u8]), 4);
+            }
+        }
+    }
     for d in [&D[..], &D_WITH_START] {
         assert_eq!(check_with(d, 4, &[DEEPEST as u8 + 1]), 4);
+    }
+}
+
+/// Some bytes more or less than a long description has: with their number in the length field, and
+/// with the right one, whose low byte may be the same.
+#[test]
+fn lengths_near_those_of_long_descriptions() {
+    for n in 11..=DEEPEST {
+        for d in both_kinds(n) {
+            let right = d.len();
+            for length in (right - 12..right + 12).chain([right - 256, right + 256]) {
+                let mut other = d.clone();
+                other.resize(length, 0xFF);
+                let refusals = if length == right { [0, 0] } else { [2, 5] };
+                assert_eq!(check(&other), refusals[0]);
+                assert_eq!(check_with(&other, 0, &length_field(length)), refusals[1]);
+            }
+        }
     }
 }
 

@@ -1,16 +1,20 @@
-//! The program `receive`, held to the reference: the cases of tests/cases, the recording, random
+//! The program `receive`, held to the reference: the cases of tests/cases, the recordings, random
 //! streams, long outputs, pipes that are written and read in pieces, and reads and writes that fail.
 
 use std::collections::BTreeSet;
 use std::fs::{self, File};
 use std::io::ErrorKind;
+use std::ops::RangeInclusive;
 use std::os::unix::process::ExitStatusExt;
 use std::process::Stdio;
 use std::thread;
 use std::time::Duration;
 
+use host::reference::description::record;
 use host::reference::receive::receive;
-use host::reference::sizes::LONGEST_RECORD;
+use host::reference::sizes::{
+    DEEPEST, LAYERS, LONGEST, LONGEST_BYTES, LONGEST_RECORD, MOST_STEPS, MOST_TRIALS,
+};
 use host::testing::files::{repository, text};
 use host::testing::paper::{D, D_WITH_START, V};
 use host::testing::program::{
@@ -21,6 +25,9 @@ use host::testing::streams;
 
 /// A pause in which the program may do what it can.
 const PAUSE: Duration = Duration::from_micros(50);
+
+/// The bytes of a page.
+const PAGE: usize = 4_096;
 
 /// What a pipe holds of an output before the program has to wait, and a time after which it does.
 const PIPE: usize = 65_536;
@@ -77,20 +84,34 @@ fn cases() {
     }
 }
 
+/// What is printed for a recording, which must be the stream given.
+fn check_recording(name: &str, stream: &[u8]) -> String {
+    let path = repository().join(format!("recordings/{name}"));
+    let recording = fs::read(path).expect("a recording");
+    assert!(recording == stream, "{name} is another stream");
+    check(&recording)
+}
+
+/// How many frames are accepted on trial 1, on a later one, and how many on none.
+fn outcomes(printed: &str) -> [usize; 3] {
+    let count = |start: &str| printed.lines().filter(|of| of.starts_with(start)).count();
+    let first = count("ok 1 ");
+    [first, count("ok ") - first, count("no 16")]
+}
+
 #[test]
 fn recording() {
-    let recording = fs::read(repository().join("recordings/run.bin")).expect("the recording");
-    assert_eq!(recording, streams::recording());
-    let printed = check(&recording);
-    let count = |start: &str| {
-        printed
-            .lines()
-            .filter(|line| line.starts_with(start))
-            .count()
-    };
-    let (first, accepted, failed) = (count("ok 1 "), count("ok "), count("no 16"));
-    assert_eq!((first, accepted - first, failed), (202, 42, 56));
+    let printed = check_recording("run.bin", &streams::recording());
+    assert_eq!(outcomes(&printed), [202, 42, 56]);
     check_readme(&printed);
+}
+
+#[test]
+fn survey() {
+    let printed = check_recording("survey.bin", &streams::survey());
+    assert_eq!(outcomes(&printed), [10, 3, 7]);
+    let first = printed.lines().next().expect("a line");
+    assert_eq!(first, format!("code {LONGEST} 1024 16"));
 }
 
 /// README.md shows the first three lines and the last one of the recording's output as a block, and
@@ -118,15 +139,51 @@ fn silence() {
     assert_eq!(printed, expected);
 }
 
-/// Whole, and again in pieces.
-#[test]
-fn random_streams() {
-    let mut random = Random::new(71);
-    for _ in 0..800 {
-        let stream = streams::random_stream(&mut random, 30);
-        check(&stream);
+/// Checks so many random streams whole, and again in pieces; gives all that is printed.
+fn check_random(seed: u64, count: usize, layers: RangeInclusive<usize>) -> String {
+    let mut random = Random::new(seed);
+    let mut all = String::new();
+    for _ in 0..count {
+        let stream = streams::random_stream(&mut random, layers.clone(), 30);
+        all += &check(&stream);
         let piece = random.between(1, 1 + stream.len());
         compare(&run(in_pieces(&stream, piece, PAUSE), whole), &stream);
+    }
+    all
+}
+
+#[test]
+fn random_streams() {
+    check_random(71, 800, *LAYERS.start()..=7);
+}
+
+/// Among their lines are all that a frame may get but for 23.
+#[test]
+fn random_streams_of_long_codes() {
+    let printed = check_random(72, 40, 11..=DEEPEST);
+    let least = outcomes(&printed).into_iter().min();
+    assert!(least >= Some(5), "{:?}", outcomes(&printed));
+    for line in ["no 12", "no 13", "no 14", "no 24"] {
+        assert!(printed.lines().any(|of| of == line), "{line}");
+    }
+}
+
+/// All indices are information indices: T is at most K + 1, and the line has the longest payload.
+#[test]
+fn limits_of_the_longest_code() {
+    let mut random = Random::new(73);
+    let d = record(DEEPEST, 1, 1, &[true; LONGEST]);
+    let most = MOST_TRIALS as u16;
+    let frames =
+        [0, 1, most, most + 1, u16::MAX].map(|limit| streams::clear(&mut random, &d, limit));
+    let printed = check(&[d, frames.concat()].concat());
+    let lines: Vec<&str> = printed.lines().collect();
+    let k = LONGEST - 1;
+    assert_eq!(lines[0], format!("code {LONGEST} {k} 1"));
+    assert_eq!([lines[1], lines[4], lines[5]], ["no 14"; 3]);
+    for line in &lines[2..4] {
+        let payload = line.strip_prefix(&format!("ok 1 {MOST_STEPS} "));
+        assert_eq!(payload.expect("trial 1").len(), 2 * LONGEST_BYTES);
     }
 }
 
@@ -150,7 +207,7 @@ fn input_in_pieces_of_every_size() {
 fn long_input_in_pieces() {
     let long = streams::blank(LONGEST_RECORD, 2);
     let stream = [&D[..], &long, &streams::channel(2, &V), &long, &long].concat();
-    for piece in (4_095..=4_097).chain(LONGEST_RECORD - 1..=LONGEST_RECORD + 2) {
+    for piece in (PAGE - 1..=PAGE + 1).chain(LONGEST_RECORD - 1..=LONGEST_RECORD + 2) {
         compare(&run(in_pieces(&stream, piece, PAUSE), whole), &stream);
     }
 }
@@ -213,11 +270,11 @@ fn lines_that_end_at_every_place() {
     }
 }
 
-/// Outputs whose length is a buffer's, a little more, and less by up to a long line.
+/// Outputs whose length is a buffer's, a little more, and less by up to the longest line.
 #[test]
 fn outputs_that_fill_a_buffer() {
-    for size in [4_096, 8_192, 16_384, 32_768, 65_536] {
-        let short = (size - 640..size - 16).step_by(9);
+    for size in [1, 2, 4, 8, 16].map(|pages| pages * PAGE) {
+        let short = (size - 2 * LONGEST_BYTES - 40..size - 16).step_by(9);
         for length in short.chain(size - 16..=size + 16) {
             assert_eq!(check(&streams::printing(length)).len(), length);
         }
@@ -227,8 +284,8 @@ fn outputs_that_fill_a_buffer() {
 #[test]
 fn the_longest_lines() {
     for before in 0..10 {
-        let printed = check(&streams::long_lines(4 * before, 300));
-        assert_eq!(printed.lines().count(), 4 * before + 302);
+        let printed = check(&streams::long_lines(4 * before, 80));
+        assert_eq!(printed.lines().count(), 4 * before + 82);
         assert!(printed.len() > PIPE);
     }
 }
@@ -246,7 +303,8 @@ fn check_output(stream: &[u8], piece: usize, time: Duration) {
 #[test]
 fn output_in_pieces() {
     let stream = streams::printing(3 * PIPE + 1);
-    for piece in [1, 2, 7, 100, 4_095, 4_096, 4_097, 16_384, 65_535, 65_537] {
+    let near = [PAGE - 1, PAGE, PAGE + 1, 4 * PAGE, PIPE - 1, PIPE + 1];
+    for piece in [1, 2, 7, 100].into_iter().chain(near) {
         check_output(&stream, piece, FILLED);
     }
 }
@@ -263,7 +321,7 @@ fn output_in_pieces_of_every_size() {
 #[test]
 fn interrupted_writes() {
     let stream = streams::printing(5 * PIPE);
-    for piece in [4_096, 5_000, 9_001, 20_000] {
+    for piece in [PAGE, 5_000, 9_001, 20_000] {
         let printed = run(at_once(&stream), |pipe, number| {
             thread::sleep(FILLED);
             piecewise(pipe, piece, || {

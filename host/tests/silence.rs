@@ -90,7 +90,7 @@ fn passing_starts(code: &Code) -> Vec<u32> {
 fn silence_is_accepted_where_the_powers_of_z_say() {
     let mut random = Random::new(3);
     for n in LAYERS {
-        for _ in 0..(2_000 >> n).max(4) {
+        for _ in 0..(2_000 >> n).max(2) {
             let d = samples::description(&mut random, n);
             check_trials(&mut random, &d);
         }

@@ -36,30 +36,23 @@ fn spellings() -> Vec<String> {
 }
 
 /// Lines that may say so: where their path starts, and what they have.
-const ALLOWED: [(&str, &str); 19] = [
+const ALLOWED: [(&str, &str); 13] = [
     // the one place of each language, and this test
     ("crates/arrays/src/lib.rt", ""),
     ("crates/arrays/specs/Sizes.antt", ""),
     ("host/src/reference/sizes.rs", ""),
     ("host/tests/sizes.rs", ""),
-    // bytes in two's complement, and bytes whose highest bit is set or clear
-    ("crates/channel/", "128"),
-    ("crates/level/proofs/", "128"),
-    ("crates/bits/proofs/packed_byte/", "byte < 128"),
-    ("crates/placing/proofs/placed_byte/", "byte < 128"),
-    ("host/src/reference/channel.rs", "128"),
-    ("host/tests/", "127, 128"),
-    ("host/tests/", "[2, 3, 128,"),
-    // the bytes before the mask of kind 4
-    ("crates/code/proofs/TwoKinds.antt", "≤ 10"),
-    ("crates/response/proofs/Room.antt", "≤ 10 + longestBytes"),
+    // the largest trial limit where sets may have two indices
+    ("crates/sets/", "512"),
+    ("crates/setflip/", "512"),
+    ("crates/vectors/proofs/Sets.antt", "512"),
+    ("host/src/reference/sets.rs", "LIMITS_OF_SETS: "),
+    ("host/bench/plain/sets.h", "MOST_LIMIT = 512"),
+    ("host/plain/src/sets.rs", "MOST_LIMIT: usize = 512"),
+    ("host/tests/", "no set passes, w = 2, T = 512"),
     // other codes and other things
-    ("crates/vectors/proofs/Published.antt", "128"),
-    ("host/src/simulation.rs", "k: 128"),
-    ("host/tests/simulation.rs", "nearest(&rows, 128, "),
-    ("host/src/testing/stack.rs", "KIB: usize = 1024"),
-    ("host/src/testing/streams.rs", "128"),
-    ("host/src/testing/streams.rs", "Random::new(1024)"),
+    ("host/src/simulation.rs", "k: 512"),
+    ("host/tests/receive.rs", "PAGE: usize = 4_096"),
 ];
 
 /// A line without the marks that may stand between digits.

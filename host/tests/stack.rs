@@ -1,14 +1,20 @@
-//! How much stack one call takes for the longest code: at most 24 KiB for encode and resume, 32 KiB
-//! for the decoders.
+//! How much stack one call takes for the longest code, beside what include/polar.h says.
 
 use host::reference::description::{describe, record, with_start};
 use host::reference::packing::packed_length;
 use host::reference::sets::{limits, MOST_FLIPS};
 use host::reference::sizes::{DEEPEST, LONGEST, LONGEST_BYTES};
+use host::testing::files::text;
 use host::testing::library;
 use host::testing::random::Random;
 use host::testing::samples;
 use host::testing::stack::{on_stack, stack_of, KIB};
+
+/// The most that a call takes.
+const ENCODE: usize = 8 * KIB;
+const RESUME: usize = 52 * KIB;
+const DECODERS: usize = 72 * KIB;
+const SET_DECODERS: usize = 92 * KIB;
 
 /// What a thread may take for its own start.
 const THREAD: usize = 16 * KIB;
@@ -38,7 +44,7 @@ fn encode() {
         let k = describe(&d).expect("a code").k;
         let payload = samples::payload(&mut random, k);
         let mut codeword = vec![0; LONGEST_BYTES];
-        keeps_to(24 * KIB, &format!("encode, k = {k}"), || {
+        keeps_to(ENCODE, &format!("encode, k = {k}"), || {
             assert_eq!(library::encode(&d, &payload, &mut codeword), 0);
         });
     }
@@ -53,7 +59,7 @@ fn resume() {
         for q in [0, 1, half - 1, half, half + 1, LONGEST - 1, LONGEST] {
             let prefix = vec![0; q];
             let mut bits = vec![0; LONGEST];
-            keeps_to(24 * KIB, &format!("resume, q = {q}"), || {
+            keeps_to(RESUME, &format!("resume, q = {q}"), || {
                 let answer = library::resume(&d, &channel, &prefix, &mut bits);
                 assert_eq!(answer & 0xFF, 0);
             });
@@ -81,7 +87,7 @@ fn decoder(name: &str, decode: library::Decoder, d: &[u8], channel: &[u8]) {
     let code = describe(d).expect("a code");
     let mut payload = vec![0; packed_length(code.k)];
     for limit in [1, 2, code.information() as u32 + 1] {
-        keeps_to(32 * KIB, &format!("{name}, T = {limit}"), || {
+        keeps_to(DECODERS, &format!("{name}, T = {limit}"), || {
             let answer = decode(d, channel, limit, &mut payload);
             assert!([0, 16].contains(&(answer & 0xFF)));
         });
@@ -110,10 +116,27 @@ fn set_decoder(name: &str, decode: library::SetDecoder, d: &[u8], channel: &[u8]
     for most_flips in MOST_FLIPS {
         for limit in [1, 2, *limits(&code, most_flips).end()] {
             let name = format!("{name}, w = {most_flips}, T = {limit}");
-            keeps_to(32 * KIB, &name, || {
+            keeps_to(SET_DECODERS, &name, || {
                 let answer = decode(d, channel, most_flips, limit, &mut payload);
                 assert!([0, 16].contains(&(answer & 0xFF)));
             });
         }
     }
+}
+
+#[test]
+fn header_and_readme_say_so() {
+    let kib = [ENCODE, RESUME, DECODERS, SET_DECODERS].map(|most| most / KIB);
+    let words = format!(
+        "at most {} KiB of stack for encode, {} KiB for resume, {} KiB for the decoders, and {} KiB for those by sets",
+        kib[0], kib[1], kib[2], kib[3]
+    );
+    let header = text("include/polar.h").replace("\n * ", " ");
+    assert!(header.contains(&words), "no `{words}`");
+    let words = format!(
+        "at most {} KiB of stack for `polar_encode`, {} KiB for `polar_resume`, {} KiB for the decoders, and {} KiB for those by sets",
+        kib[0], kib[1], kib[2], kib[3]
+    );
+    let readme = text("README.md").replace('\n', " ");
+    assert!(readme.contains(&words), "no `{words}`");
 }

@@ -11,7 +11,7 @@ use Rattle.bits.specs.Mask.{onesIn}
 use Rattle.bits.proofs.Mask.{ones-le}
 use Rattle.code.specs.declared.Code.{Code}
 use Rattle.code.specs.declared.Description.the-variants.{Accepted, Refused}
-use Rattle.code.specs.Description.{word, maskAt, maskOf, startOf, codeOf, describe}
+use Rattle.code.specs.Description.{word, maskAt, maskOf, startOf, codeOf, describeUpTo, describe}
 use Rattle.code.specs.Claims.{Laid, WellFormed, accepts, Described}
 use Rattle.code.proofs.WellFormed.{well-formed-fine, well-formed-exactly}
 
@@ -32,7 +32,7 @@ module _ (d : List ℕ) (c : Code) (e : describe d ≡ Accepted c) where
 
   -- the code is the one in the fields
   code-is : codeOf d ≡ c
-  unfolding describe
+  unfolding describeUpTo
   code-is =
       let f : Accepted (codeOf d) ≡ Accepted c = sym (refused-fine Refused (Accepted (codeOf d)) _ (well-formed-fine d well-formed)) ∙ e in
       cc

@@ -16,8 +16,9 @@ use Rattle.refusal.proofs.Judge.{judge-without}
 use Rattle.code.specs.declared.Code.{Code}
 use Rattle.code.specs.declared.Description.{Description}
 use Rattle.code.specs.declared.Description.the-variants.{Accepted, Refused}
-use Rattle.code.specs.Description.{word, hasStart, maskAt, maskOf, isWide, descriptionRefusals, codeOf, describe}
+use Rattle.code.specs.Description.{word, hasStart, maskAt, maskOf, isWide, codeOf, describeUpTo, describe}
 use Rattle.code.specs.Claims.{kind1Refusals, kind1Code, describeKind1, kind4Refusals, kind4Code, describeKind4, withStart}
+use Rattle.code.specs.Contracts.{descriptionRefusals}
 
 -- where a mask can stand
 pub mask-at-least : (kind : ℕ) → 8 ≤ maskAt kind
@@ -54,7 +55,7 @@ or-yes true = refl
 or-yes false = refl
 
 pub kind-1 : (d : List ℕ) → (word d 2 ≡ 4 → ⊥) → describe d ≡ describeKind1 d
-unfolding describe
+unfolding describeUpTo
 kind-1 d other =
     let none : hasStart (word d 2) ≡ false = ne-eqb (word d 2) 4 other in
     let first = take 7 (kind1Refusals d) in
@@ -68,7 +69,7 @@ pub mask-1 : (d : List ℕ) → (word d 2 ≡ 4 → ⊥) → maskOf d ≡ drop 8
 mask-1 d other = ap (λ (t : Bool). drop (cond t 10 8) d) (ne-eqb (word d 2) 4 other)
 
 pub kind-4 : (d : List ℕ) → word d 2 ≡ 4 → describe d ≡ describeKind4 d
-unfolding describe
+unfolding describeUpTo
 kind-4 d kind =
     let some : hasStart (word d 2) ≡ true = eq-eqb (word d 2) 4 kind in
     let first = take 2 (kind4Refusals d) in
@@ -91,7 +92,7 @@ two-bytes x = omega arith
 
 -- with start 0 a record of kind 4 has the answer of kind 1
 pub start-0 : (d : List ℕ) → 8 ≤ length d → word d 2 ≡ 1 → describe (withStart 0 d) ≡ describe d
-unfolding describe
+unfolding describeUpTo
 start-0 d header kind =
     let d4 : List ℕ = withStart 0 d in
     let size : length d4 ≡ length d + 2 = omega (arith, length-drop 8 d) in

@@ -20,8 +20,9 @@ use Rattle.bits.specs.Bit.{bit}
 use Rattle.bits.specs.Mask.{onesIn}
 use Rattle.bits.proofs.Bitwise.{bit-lt}
 use Rattle.code.specs.declared.Description.the-variants.{Accepted, Refused}
-use Rattle.code.specs.Description.{word, maskAt, maskOf, startOf, isWide, badPolynomial, descriptionRefusals, codeOf, describe}
+use Rattle.code.specs.Description.{word, maskAt, maskOf, startOf, isWide, badPolynomial, codeOf, describeUpTo, describe}
 use Rattle.code.specs.Claims.{Laid, WellFormed, accepts}
+use Rattle.code.specs.Contracts.{descriptionRefusals}
 
 -- nothing stands at bit r or above
 wide-past : (x r : ℕ) → isWide x r ≡ false → x < 2 ^ r
@@ -110,5 +111,5 @@ module _ (d : List ℕ) where
       }
 
   pub well-formed-exactly : WellFormed d ↔ (accepts (describe d) ≡ true)
-  unfolding describe
+  unfolding describeUpTo
   well-formed-exactly = accepts-exactly accepts Refused (λ x. refl) (Accepted (codeOf d)) refl (judge (descriptionRefusals d)) (well-formed-fine, fine-well-formed)

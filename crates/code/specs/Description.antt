@@ -1,5 +1,5 @@
--- Document 01, "Code description", and document 02, request 2.1: what the bytes of a record of kind 1 or 4 describe, and refusals 1 to 7, 25
--- and 8 in order.
+-- Document 01, "Code description", and document 02, requests 2.1 and 2.3: what the bytes of a record of kind 1 or 4 describe, and refusals
+-- 1 to 7, 25 and 8 in order. The largest n is a parameter: crate `longer` compares the answers of two.
 use mathlib.Core.Bool.{Bool, not, _||_, cond}
 use mathlib.Core.List.{List, [], _∷_}
 use Prim.Native.Nat.{ℕ, _+_, _-_, _*_, _/_, _^_}
@@ -48,16 +48,16 @@ isWide x r = differs (x / 2 ^ r) 0
 abbrev pub badPolynomial : ℕ → ℕ → Bool
 badPolynomial p r = eqb (bit p 0) 0 || isWide p r
 
--- the refusals in order, each test beside its refusal
-abbrev pub descriptionRefusals : List ℕ → List (Bool × Refusal)
-descriptionRefusals d =
+-- the refusals in order, each test beside its refusal; `largest` is the largest n that is not refused
+abbrev pub refusalsUpTo : ℕ → List ℕ → List (Bool × Refusal)
+refusalsUpTo largest d =
     let kind = word d 2 in
     let n = getD d 4 0 in
     let r = getD d 5 0 in
     (ltb (length d) (maskAt kind), Alone 1)
     ∷ (differs (word d 0) (length d), Alone 2)
     ∷ (not (isDescription kind), Alone 3)
-    ∷ (outside n 3 deepest, Alone 4)
+    ∷ (outside n 3 largest, Alone 4)
     ∷ (differs (length d) (maskAt kind + 2 ^ n / 8), Alone 5)
     ∷ (outside r 1 16, Alone 6)
     ∷ (badPolynomial (word d 6) r, Alone 7)
@@ -69,9 +69,13 @@ descriptionRefusals d =
 abbrev pub codeOf : List ℕ → Code
 codeOf d = record { n = getD d 4 0; r = getD d 5 0; polynomial = word d 6; start = startOf d; k = onesIn (maskOf d) - getD d 5 0 }
 
--- the answer
-unfoldable pub describe : List ℕ → Description
-describe d = refusedOr (judge (descriptionRefusals d)) Refused (Accepted (codeOf d))
+-- the answer, with `largest` as the largest n
+unfoldable pub describeUpTo : ℕ → List ℕ → Description
+describeUpTo largest d = refusedOr (judge (refusalsUpTo largest d)) Refused (Accepted (codeOf d))
+
+-- the answer, with `deepest` as the largest n
+abbrev pub describe : List ℕ → Description
+describe d = describeUpTo deepest d
 
 -- Operations that take a description apply its refusals first: `refuse` is their answer to a refusal, `go` what they do with a code.
 abbrev pub onDescription : {X : Type 0} → Description → (Refusal → X) → (Code → X) → X

@@ -8,9 +8,9 @@ ghost use Prim.Native.Nat.{_+_, _<_, _≤_};
 ghost use lib.Dec.{ltb};
 ghost use lib.ListN.{length, take, drop};
 ghost use Rattle.refusal.specs.Judge.{outside, judge};
-ghost use Rattle.code.specs.Description.{word, hasStart, isDescription, maskAt, maskOf, startOf, isWide, badPolynomial, descriptionRefusals, describe};
+ghost use Rattle.code.specs.Description.{word, hasStart, isDescription, maskAt, maskOf, startOf, isWide, badPolynomial, describe};
 ghost use Rattle.code.specs.Claims.{Laid};
-ghost use Rattle.code.specs.Contracts.{pastFields};
+ghost use Rattle.code.specs.Contracts.{descriptionRefusals, pastFields};
 
 // A code of length 2^n with r check bits and k payload bits. The check is by a polynomial and from a start value.
 pub struct Code {

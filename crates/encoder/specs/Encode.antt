@@ -6,10 +6,11 @@ use lib.ListN.{length}
 use Rattle.refusal.specs.declared.Refusal.{Refusal}
 use Rattle.refusal.specs.declared.Refusal.the-variants.{Alone}
 use Rattle.refusal.specs.Judge.{differs, judge, refusedOr}
+use Rattle.arrays.specs.Sizes.{deepest}
 use Rattle.bits.specs.Packing.{bytesFor, packed, unpacked, unusedBits}
 use Rattle.code.specs.declared.Code.{Code}
 use Rattle.code.specs.Code.{codeLength, divisor, startBits}
-use Rattle.code.specs.Description.{maskOf, describe, onDescription}
+use Rattle.code.specs.Description.{maskOf, describeUpTo, onDescription}
 use Rattle.crc.specs.Check.{checkOf}
 use Rattle.transform.specs.Transform.{transformed}
 use Rattle.placing.specs.Place.{placed}
@@ -37,7 +38,11 @@ unfoldable pub encodedBy : List ℕ → Code → List ℕ → List ℕ → Encod
 encodedBy mask c payload output =
     refusedOr (judge (encodingRefusals c payload output)) (λ x. (Refused x, output)) (Done, codeword mask c payload)
 
--- the same for a description: its refusals first
+-- the same for a description, with `largest` as the largest n: its refusals first
+abbrev pub encodedUpTo : ℕ → List ℕ → List ℕ → List ℕ → Encoded × List ℕ
+encodedUpTo largest d payload output =
+    onDescription (describeUpTo largest d) (λ x. (Refused x, output)) (λ c. encodedBy (maskOf d) c payload output)
+
+-- the same with `deepest` as the largest n
 unfoldable pub encoded : List ℕ → List ℕ → List ℕ → Encoded × List ℕ
-encoded d payload output =
-    onDescription (describe d) (λ x. (Refused x, output)) (λ c. encodedBy (maskOf d) c payload output)
+encoded d payload output = encodedUpTo deepest d payload output

@@ -1,19 +1,20 @@
 // The encoder.
+use arrays::ByteArray;
 use arrays::SIZE;
 use code::Code;
 use code::Description;
 use refusal::Judgement;
 use refusal::Refusal;
 ghost use mathlib.Core.Path.{_≡_};
+ghost use Prim.Native.Nat.{_^_};
 ghost use lib.ListN.{length};
 ghost use Rattle.refusal.specs.Judge.{differs, judge};
 ghost use Rattle.bits.specs.Packing.{bytesFor, packed, unpacked, unusedBits};
-ghost use Rattle.code.specs.Code.{codeLength};
 ghost use Rattle.code.specs.Claims.{Coded};
 ghost use Rattle.transform.specs.Transform.{transformed};
-ghost use Rattle.placing.specs.Place.{placed};
 ghost use Rattle.encoder.specs.Encode.{messageOf, codeword, encodingRefusals, encodedBy, encoded};
-ghost use Rattle.encoder.specs.Contracts.{MessagePre, CodewordPre, PayloadPre};
+ghost use Rattle.encoder.specs.Contracts.{MessagePre, PayloadPre, placedMessage, TransformPre};
+ghost use Rattle.encoder.specs.Claims.{WellFormed};
 
 // What encode answers: the codeword is written, or the refusal.
 pub enum Encoded {
@@ -31,26 +32,35 @@ fn message_of(code: Code, payload: &[u8], message: &mut [u8])
     crc::append_check(message, k, code.r, code.polynomial, code.start);
 }
 
-// The codeword of a message: placed by the mask, then transformed.
-fn write_codeword(mask: &[u8], code: Code, message: &[u8], output: &mut [u8])
-    requires { ⌜ CodewordPre (now mask) code (now message) (now output) ⌝ }
-    ensures { λ _. ⌜ now (output .exit) ≡ packed (transformed (code .n) (placed (now (mask .entry)) (now (message .entry)) (codeLength code))) ⌝ }
-{
-    let size = mask.len();
-    let mut u = [0u8; SIZE];
-    placing::place(mask, message, &mut u);
-    transform::transform_packed(code.n - 3, size, &mut u);
-    arrays::copy(&u, 0, output, 0, size);
-}
-
-// The codeword of a payload; the message is made in `room`.
-fn encode_in(mask: &[u8], code: Code, payload: &[u8], room: &mut [u8], output: &mut [u8])
+// Places the message of a payload by the mask, packed; the message is made in `room`.
+fn place_message(mask: &[u8], code: Code, payload: &[u8], room: &mut [u8], output: &mut [u8])
     requires { ⌜ PayloadPre (now mask) code (now payload) (now room) (now output) ⌝ }
-    ensures { λ _. ⌜ now (output .exit) ≡ codeword (now (mask .entry)) code (now (payload .entry)) ⌝ }
+    ensures { λ _. ⌜ now (output .exit) ≡ packed (placedMessage (now (mask .entry)) code (now (payload .entry))) ⌝ }
 {
     let size = code.k + code.r as usize;
     message_of(code, payload, &mut room[..size]);
-    write_codeword(mask, code, &room[..size], output);
+    placing::place(mask, &room[..size], output);
+}
+
+// Transforms the 2^n packed bits of the output, in `room`, and puts them back.
+fn transform_in(n: u32, room: &mut ByteArray, output: &mut [u8])
+    requires { do ⌜ TransformPre (← ⟦SIZE⟧) n (now room) (now output) ⌝ }
+    ensures { λ _. ⌜ now (output .exit) ≡ packed (transformed n (unpacked (now (output .entry)) (2 ^ n))) ⌝ }
+{
+    let size = output.len();
+    arrays::copy(output, 0, room, 0, size);
+    transform::transform_packed(n - 3, size, room);
+    arrays::copy(room, 0, output, 0, size);
+}
+
+// The codeword of a payload: its message is placed, then transformed. One array has room for the message, and then for the transform.
+fn write_codeword(mask: &[u8], code: Code, payload: &[u8], output: &mut [u8])
+    requires { ⌜ Coded (now mask) code × WellFormed code (now payload) (now output) ⌝ }
+    ensures { λ _. ⌜ now (output .exit) ≡ codeword (now (mask .entry)) code (now (payload .entry)) ⌝ }
+{
+    let mut room = [0u8; SIZE];
+    place_message(mask, code, payload, &mut room, output);
+    transform_in(code.n, &mut room, output);
 }
 
 // Whether an unused low bit of the last payload byte is set.
@@ -88,8 +98,7 @@ pub fn encode_by(mask: &[u8], code: Code, payload: &[u8], output: &mut [u8]) -> 
 {
     match judge_encoding(mask, code, payload, output) {
         Judgement::Fine => {
-            let mut room = [0u8; SIZE];
-            encode_in(mask, code, payload, &mut room, output);
+            write_codeword(mask, code, payload, output);
             Encoded::Done
         }
         Judgement::Refused(x) => Encoded::Refused(x),

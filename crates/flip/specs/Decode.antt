@@ -6,10 +6,11 @@ use lib.ListN.{length}
 use Rattle.refusal.specs.declared.Refusal.{Refusal}
 use Rattle.refusal.specs.declared.Refusal.the-variants.{Alone}
 use Rattle.refusal.specs.Judge.{differs, outside, judge, refusedOr}
+use Rattle.arrays.specs.Sizes.{deepest}
 use Rattle.bits.specs.Packing.{bytesFor}
 use Rattle.code.specs.declared.Code.{Code}
 use Rattle.code.specs.Code.{informationCount}
-use Rattle.code.specs.Description.{maskOf, describe, onDescription}
+use Rattle.code.specs.Description.{maskOf, describeUpTo, onDescription}
 use Rattle.channel.specs.Channel.{channelValues, channelRefusals}
 use Rattle.trial.specs.declared.Restart.{Restart}
 use Rattle.trial.specs.declared.Restart.the-variants.{Root, After}
@@ -36,10 +37,14 @@ decodedBy plan mask c channel output =
     refusedOr (judge (decodingRefusals plan c channel output)) (λ x. (Refused x, output))
     (answerOf mask c output (run (trialPasses mask c) 0 0 (trials plan mask c (channelValues channel))))
 
--- the same for a description: its refusals first
+-- the same for a description, with `largest` as the largest n: its refusals first
+abbrev pub decodedUpTo : ℕ → Plan → List ℕ → List ℕ → List ℕ → Decoded × List ℕ
+decodedUpTo largest plan d channel output =
+    onDescription (describeUpTo largest d) (λ x. (Refused x, output)) (λ c. decodedBy plan (maskOf d) c channel output)
+
+-- the same with `deepest` as the largest n
 unfoldable pub decodedWith : Plan → List ℕ → List ℕ → List ℕ → Decoded × List ℕ
-decodedWith plan d channel output =
-    onDescription (describe d) (λ x. (Refused x, output)) (λ c. decodedBy plan (maskOf d) c channel output)
+decodedWith plan d channel output = decodedUpTo deepest plan d channel output
 
 -- a plan by its parts
 abbrev pub planOf : Restart → ℕ → Plan

@@ -2,7 +2,6 @@
 use arrays::BitArray;
 use arrays::RuleArray;
 use arrays::SIZE;
-use arrays::ValueArray;
 use transform::combine;
 use transform::transform;
 use tree::Work;
@@ -39,9 +38,9 @@ pub fn leaf(
     rules: &RuleArray,
     bits: &mut BitArray,
     sums: &mut BitArray,
-    leaves: &mut ValueArray,
+    leaves: &mut [i32],
 ) -> u8
-    requires { do ⌜ Sized (← ⟦SIZE⟧) (results (now bits) (now sums) (now leaves)) × (base + 1 ≤ (← ⟦SIZE⟧)) ⌝ }
+    requires { do ⌜ Sized (← ⟦SIZE⟧) (length (now leaves)) (results (now bits) (now sums) (now leaves)) × (base + 1 ≤ length (now leaves)) ⌝ }
     ensures { λ bit. ⌜ (bit ≡ getD (now (sums .exit)) base 0) × NodePlaced 0 1 base base (now (rules .entry)) (value ∷ []) (results (now (bits .entry)) (now (sums .entry)) (now (leaves .entry))) (results (now (bits .exit)) (now (sums .exit)) (now (leaves .exit))) (workOf []) ⌝ }
 {
     let bit = decide(rules[base], value);
@@ -59,9 +58,9 @@ pub fn decode_two(
     rules: &RuleArray,
     bits: &mut BitArray,
     sums: &mut BitArray,
-    leaves: &mut ValueArray,
+    leaves: &mut [i32],
 ) -> Work
-    requires { do ⌜ Sized (← ⟦SIZE⟧) (results (now bits) (now sums) (now leaves)) × (base + 2 ≤ (← ⟦SIZE⟧)) × (natAbs a + natAbs b < 2 ^ 31) ⌝ }
+    requires { do ⌜ Sized (← ⟦SIZE⟧) (length (now leaves)) (results (now bits) (now sums) (now leaves)) × (base + 2 ≤ length (now leaves)) × (natAbs a + natAbs b < 2 ^ 31) ⌝ }
     ensures { λ r. ⌜ NodePlaced 1 2 base base (now (rules .entry)) (a ∷ b ∷ []) (results (now (bits .entry)) (now (sums .entry)) (now (leaves .entry))) (results (now (bits .exit)) (now (sums .exit)) (now (leaves .exit))) r ⌝ }
 {
     let mut steps = 0;
@@ -78,12 +77,12 @@ pub fn decode_two(
 pub fn decode_four(
     base: usize,
     rules: &RuleArray,
-    work: &ValueArray,
+    work: &[i32],
     bits: &mut BitArray,
     sums: &mut BitArray,
-    leaves: &mut ValueArray,
+    leaves: &mut [i32],
 ) -> Work
-    requires { do ⌜ Sized (← ⟦SIZE⟧) (results (now bits) (now sums) (now leaves)) × (base + 4 ≤ (← ⟦SIZE⟧)) × Within (most deepest 2) (segment (now work) 4 4) ⌝ }
+    requires { do ⌜ Sized (← ⟦SIZE⟧) (length (now leaves)) (results (now bits) (now sums) (now leaves)) × (base + 4 ≤ length (now leaves)) × (8 ≤ length (now work)) × Within (most deepest 2) (segment (now work) 4 4) ⌝ }
     ensures { λ r. ⌜ NodePlaced 2 4 base base (now (rules .entry)) (segment (now (work .entry)) 4 4) (results (now (bits .entry)) (now (sums .entry)) (now (leaves .entry))) (results (now (bits .exit)) (now (sums .exit)) (now (leaves .exit))) r ⌝ }
 {
     let a = work[4];

@@ -59,7 +59,7 @@ keys-made {mask} {n} {values} {leaves} {keys} p e own made = record {
     front : take size keys ≡ table key size
     front =
         ap (take size) made
-        ∙ segment-splice values 0 (table key size) size (length-table key size) (omega (arith, p .whole, p .fits))
+        ∙ segment-splice values 0 (table key size) size (length-table key size) (omega (arith, p .there))
 
     key-at : (i : ℕ) → i < size → getD keys i (pos 0) ≡ key i
     key-at i l =

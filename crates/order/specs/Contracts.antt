@@ -47,7 +47,7 @@ pub record KeyPre (mask : List ℕ) (value : ℤ) (i : ℕ) : Type 0 where
   pub small : natAbs value ≤ mostMagnitude
 
 pub record KeysPre (mask : List ℕ) (values : List ℤ) : Type 0 where
-  pub whole : length values ≡ longest
+  pub there : 8 * length mask ≤ length values
   pub fits : 8 * length mask ≤ longest
   pub small : Within mostMagnitude (take (8 * length mask) values)
 

@@ -1,9 +1,9 @@
 // The order of flipped indices: each information index has a key, and the next one in order has the least key above the last.
 use arrays::SIZE;
-use arrays::ValueArray;
 ghost use mathlib.Core.Path.{_≡_};
 ghost use Prim.Native.Nat.{_%_, _≤_};
 ghost use lib.IntN.{pos, natAbs};
+ghost use lib.ListN.{length};
 ghost use Rattle.arrays.specs.Claims.{longest};
 ghost use Rattle.order.specs.Contracts.{KeyPre, KeysPre, keyUnder, keysOf, above, lesser, leastAbove};
 
@@ -22,7 +22,7 @@ fn key_under(mask: &[u8], value: i32, i: usize) -> i32
 }
 
 // Puts the key of each index in the place of its leaf value.
-pub fn make_keys(mask: &[u8], values: &mut ValueArray)
+pub fn make_keys(mask: &[u8], values: &mut [i32])
     requires { ⌜ KeysPre (now mask) (now values) ⌝ }
     ensures { λ _. ⌜ now (values .exit) ≡ keysOf (now (mask .entry)) (now (values .entry)) ⌝ }
 {
@@ -49,8 +49,8 @@ fn lesser(a: i32, b: i32) -> i32
 }
 
 // The least of the first `size` keys that are above the last one, which is -1 before the first.
-pub fn next_key(size: usize, keys: &ValueArray, last: i32) -> i32
-    requires { ⌜ size ≤ longest ⌝ }
+pub fn next_key(size: usize, keys: &[i32], last: i32) -> i32
+    requires { ⌜ size ≤ length (now keys) ⌝ }
     ensures { λ r. ⌜ r ≡ leastAbove last (now (keys .entry)) size ⌝ }
 {
     let mut best = NO_KEY;

@@ -1,6 +1,4 @@
 // Placing bits by a mask, and taking them out again.
-use arrays::ByteArray;
-use arrays::SIZE;
 ghost use mathlib.Core.Path.{_≡_};
 ghost use mathlib.Core.Bool.{cond};
 ghost use Prim.Native.Nat.{_*_, _≤_, _<_};
@@ -44,8 +42,8 @@ fn placed_byte(mask: &[u8], message: &[u8], m: usize, count: usize) -> u8
 }
 
 // Places the message's bits at the information indices, in ascending order, and zeros at the frozen ones, packed.
-pub fn place(mask: &[u8], message: &[u8], u: &mut ByteArray)
-    requires { do ⌜ PlacePre (now mask) (now message) × (length (now u) ≡ (← ⟦SIZE⟧)) ⌝ }
+pub fn place(mask: &[u8], message: &[u8], u: &mut [u8])
+    requires { ⌜ PlacePre (now mask) (now message) × (length (now mask) ≤ length (now u)) ⌝ }
     ensures { λ _. ⌜ now (u .exit) ≡ splice (now (u .entry)) 0 (packed (placed (now (mask .entry)) (now (message .entry)) (8 * length (now (mask .entry))))) ⌝ }
 {
     let mut c: usize = 0;

@@ -22,7 +22,8 @@ use Rattle.code.specs.declared.Code.{Code}
 use Rattle.code.specs.declared.Description.{Description}
 use Rattle.code.specs.declared.Description.the-variants.{Accepted, Refused as NoCode}
 use Rattle.code.specs.Code.{codeLength}
-use Rattle.code.specs.Description.{maskOf, descriptionRefusals, codeOf, describe, onDescription}
+use Rattle.code.specs.Description.{maskOf, codeOf, describeUpTo, describe, onDescription}
+use Rattle.code.specs.Contracts.{descriptionRefusals}
 use Rattle.code.proofs.Facts.{described}
 use Rattle.values.specs.Values.{maskRule}
 use Rattle.channel.specs.Channel.{channelValues, firstOutside}
@@ -76,7 +77,7 @@ DescriptionFits (Accepted c) = Unit
 DescriptionFits (NoCode x) = RefusalFits x
 
 description-fits : (d : List ℕ) → DescriptionFits (describe d)
-unfolding describe refusedOr
+unfolding describeUpTo refusedOr
 description-fits d = go (judge (descriptionRefusals d)) (judged-reached RefusalFits (descriptionRefusals d) (search (needs, alone)))
   where
     go : (j : Judgement) → Judged RefusalFits j → DescriptionFits (refusedOr j NoCode (Accepted (codeOf d)))

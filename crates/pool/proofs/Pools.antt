@@ -130,7 +130,7 @@ module _ {key low count p : ℕ} {keys ks : List ℕ} (pool : Pool keys low coun
         (λ g.
         let e : low + a ≡ p = omega (arith, place .least) in
         let d : p - low ≡ a = omega arith in
-        ap (λ (k : ℕ). getD (set keys′ p key) k 0) e ∙ getD-set-same keys′ p key 0 (omega (arith, s .whole, on .whole, on .room-most))
+        ap (λ (k : ℕ). getD (set keys′ p key) k 0) e ∙ getD-set-same keys′ p key 0 (omega (arith, s .whole, on .room-most))
         ∙ sym (ap (λ (k : ℕ). getD new k 0) (sym d) ∙ new-here)))
       where
         past : (b : ℕ) → p - low < b → b < length (take m new) → getD (set keys′ p key) (low + b) 0 ≡ getD new b 0
@@ -146,7 +146,6 @@ module _ {key low count p : ℕ} {keys ks : List ℕ} (pool : Pool keys low coun
     pool-put =
         subst (Pool (set keys′ p key) low (min (count + 1) room)) (sym (insert-one m key ks))
         (record {
-          whole = length-set keys′ p key ∙ s .whole ∙ on .whole;
           ends = omega (arith, kept-length, pool .ends, on .low-most, on .count-most);
           at = λ a l. at-each a l ∙ sym (getD-take m new a 0 (omega (arith, kept-length)));
           ordered = take-ordered m new (insert-ordered key ks (pool .ordered));
@@ -161,7 +160,6 @@ module _ {key low count p : ℕ} {keys ks : List ℕ} (pool : Pool keys low coun
 
 pub pool-next : {keys : List ℕ} {low count k : ℕ} {ks : List ℕ} → Pool keys low count (k ∷ ks) → Pool keys (low + 1) count ks
 pool-next {keys} {low} p = record {
-  whole = p .whole;
   ends = omega (arith, p .ends);
   at = λ a l. let e : low + 1 + a ≡ low + suc a = omega arith in ap (λ (j : ℕ). getD keys j 0) e ∙ p .at (suc a) (omega arith);
   ordered = pairwise-tail (p .ordered);

@@ -2,7 +2,7 @@
 use mathlib.Core.Path.{_≡_}
 use mathlib.Core.Bool.{_&&_, cond}
 use mathlib.Core.List.{List, [], _∷_}
-use Prim.Native.Nat.{ℕ, zero, suc, _+_, _-_, _*_, _^_, _/_, _%_, _<_, _≤_}
+use Prim.Native.Nat.{ℕ, zero, suc, _+_, _-_, _*_, _^_, _/_, _%_, _<_, _≤_, min}
 use lib.Dec.{leb, ltb, eqb}
 use lib.IntN.{ℤ}
 use lib.ListN.{length, getD, take}
@@ -60,7 +60,6 @@ insertKeys m (key ∷ keys) ks = insertKeys m keys (take m (insertKey key ks))
 
 -- the keys of an array from `low` to `count` are ks, in order
 pub record Pool (keys : List ℕ) (low count : ℕ) (ks : List ℕ) : Type 0 where
-  pub whole : length keys ≡ longest
   pub ends : low + length ks ≡ count
   pub at : (a : ℕ) → a < length ks → getD keys (low + a) 0 ≡ getD ks a 0
   pub ordered : Pairwise (λ a b. a ≤ b) ks
@@ -84,8 +83,13 @@ pub record Shifted (at end : ℕ) (keys keys′ : List ℕ) : Type 0 where
 pub record Small (n : ℕ) (leaves : List ℤ) : Type 0 where
   pub at : (j : ℕ) → j < n → magnitude leaves j ≤ mostMagnitude
 
+-- as many indices as have a leaf value and a digit
+abbrev pub indexed : List ℤ → ℕ
+indexed leaves = min longest (length leaves)
+
 -- the leaf values of a mask's indices
 pub record WalkPre (mask : List ℕ) (leaves : List ℤ) : Type 0 where
+  pub there : 8 * length mask ≤ length leaves
   pub fits : 8 * length mask ≤ longest
   pub small : Small (8 * length mask) leaves
 
@@ -100,8 +104,7 @@ pub record SetPre (n : ℕ) (leaves : List ℤ) (is : List ℕ) : Type 0 where
 pub record PoolPre (low count room : ℕ) (keys : List ℕ) : Type 0 where
   pub low-most : low ≤ count
   pub count-most : count ≤ room
-  pub room-most : room ≤ longest
-  pub whole : length keys ≡ longest
+  pub room-most : room ≤ length keys
 
 -- what the sets share that append an index to `is`
 abbrev pub stemOf : List ℤ → List ℕ → Stem

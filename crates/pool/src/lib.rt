@@ -1,6 +1,5 @@
 // The untried sets of a search, in order, each as one number.
 use arrays::SIZE;
-use arrays::ValueArray;
 ghost use mathlib.Core.Path.{_≡_};
 ghost use mathlib.Core.List.{[], _∷_, map};
 ghost use Prim.Native.Nat.{_*_, _^_, _≤_, _<_, min};
@@ -8,16 +7,13 @@ ghost use lib.ListN.{length, take};
 ghost use Rattle.order.specs.Order.{magnitude};
 ghost use Rattle.order.specs.Contracts.{mostMagnitude};
 ghost use Rattle.sets.specs.Candidate.{doubtful, extensions};
-ghost use Rattle.pool.specs.Contracts.{base, keyOf, digitAt, indicesOf, Place, Shifted, WalkPre, SetPre, PoolPre, stemOf, stemWith, StemFits, doubt, keyWith, keysWith, Inserted};
+ghost use Rattle.pool.specs.Contracts.{base, keyOf, digitAt, indicesOf, Place, Shifted, indexed, WalkPre, SetPre, PoolPre, stemOf, stemWith, StemFits, doubt, keyWith, keysWith, Inserted};
 
 // The base of a key's digits: an index has the digit one above it, and none has digit 0.
 const BASE: u64 = 2 * SIZE as u64;
 
 // As many indices as a set has at most.
 pub const FLIPS: usize = 3;
-
-// The keys of sets.
-pub type KeyArray = [u64; SIZE];
 
 // What the sets share that append an index to one set: the sum of its leaf magnitudes, its digits, the weight of the next digit, and
 // the first index that may be appended.
@@ -35,8 +31,8 @@ fn lesser(a: usize, b: usize) -> usize
 }
 
 // Where a key stands among those from `low` to `end`, which are in order: past all that are not above it.
-fn place_of(key: u64, low: usize, end: usize, keys: &KeyArray) -> usize
-    requires { do ⌜ (low ≤ end) × (end ≤ (← ⟦SIZE⟧)) ⌝ }
+fn place_of(key: u64, low: usize, end: usize, keys: &[u64]) -> usize
+    requires { ⌜ (low ≤ end) × (end ≤ length (now keys)) ⌝ }
     ensures { λ p. ⌜ Place key low end (now (keys .entry)) p ⌝ }
 {
     let mut j = end;
@@ -50,8 +46,8 @@ fn place_of(key: u64, low: usize, end: usize, keys: &KeyArray) -> usize
 }
 
 // Moves the keys from `at` to `end` one place up.
-fn shift(at: usize, end: usize, keys: &mut KeyArray)
-    requires { do ⌜ (at ≤ end) × (end < (← ⟦SIZE⟧)) × (length (now keys) ≡ (← ⟦SIZE⟧)) ⌝ }
+fn shift(at: usize, end: usize, keys: &mut [u64])
+    requires { ⌜ (at ≤ end) × (end < length (now keys)) ⌝ }
     ensures { λ _. ⌜ Shifted at end (now (keys .entry)) (now (keys .exit)) ⌝ }
 {
     let mut j = end;
@@ -62,7 +58,7 @@ fn shift(at: usize, end: usize, keys: &mut KeyArray)
 }
 
 // Puts a key in its place among those from `low` to `count`, and keeps those below `room`. Gives where they end then.
-pub fn insert(key: u64, low: usize, count: usize, room: usize, keys: &mut KeyArray) -> usize
+pub fn insert(key: u64, low: usize, count: usize, room: usize, keys: &mut [u64]) -> usize
     requires { ⌜ PoolPre low count room (now keys) ⌝ }
     ensures { λ r. ⌜ Inserted low count room r (key ∷ []) (now (keys .entry)) (now (keys .exit)) ⌝ }
 {
@@ -76,15 +72,15 @@ pub fn insert(key: u64, low: usize, count: usize, room: usize, keys: &mut KeyArr
 }
 
 // The magnitude of a leaf value.
-fn magnitude_at(leaves: &ValueArray, j: usize) -> u64
-    requires { do ⌜ (j < (← ⟦SIZE⟧)) × (magnitude (now leaves) j < 2 ^ 31) ⌝ }
+fn magnitude_at(leaves: &[i32], j: usize) -> u64
+    requires { ⌜ (j < length (now leaves)) × (magnitude (now leaves) j < 2 ^ 31) ⌝ }
     ensures { λ r. ⌜ r ≡ magnitude (now (leaves .entry)) j ⌝ }
 {
     values::magnitude(leaves[j]) as u64
 }
 
 // Whether an index is doubtful: an information index with a magnitude of at most 20.
-fn doubt(mask: &[u8], leaves: &ValueArray, j: usize) -> u64
+fn doubt(mask: &[u8], leaves: &[i32], j: usize) -> u64
     requires { ⌜ WalkPre (now mask) (now leaves) × (j < 8 * length (now mask)) ⌝ }
     ensures { λ r. ⌜ r ≡ doubt (now (mask .entry)) (now (leaves .entry)) j ⌝ }
 {
@@ -98,7 +94,7 @@ fn doubt(mask: &[u8], leaves: &ValueArray, j: usize) -> u64
 }
 
 // How many of the indices below `end` are doubtful.
-fn doubtful(mask: &[u8], leaves: &ValueArray, end: usize) -> u64
+fn doubtful(mask: &[u8], leaves: &[i32], end: usize) -> u64
     requires { ⌜ WalkPre (now mask) (now leaves) × (end ≤ 8 * length (now mask)) ⌝ }
     ensures { λ r. ⌜ r ≡ doubtful (now (mask .entry)) (now (leaves .entry)) end ⌝ }
 {
@@ -112,8 +108,8 @@ fn doubtful(mask: &[u8], leaves: &ValueArray, end: usize) -> u64
 }
 
 // A stem with one index more.
-fn stem_with(leaves: &ValueArray, stem: Stem, i: usize) -> Stem
-    requires { do ⌜ (i < (← ⟦SIZE⟧)) × (magnitude (now leaves) i ≤ mostMagnitude) × (stem .sum ≤ mostMagnitude) × (stem .digits ≤ base ^ 3) × (stem .weight ≤ base ^ 2) ⌝ }
+fn stem_with(leaves: &[i32], stem: Stem, i: usize) -> Stem
+    requires { ⌜ (i < indexed (now leaves)) × (magnitude (now leaves) i ≤ mostMagnitude) × (stem .sum ≤ mostMagnitude) × (stem .digits ≤ base ^ 3) × (stem .weight ≤ base ^ 2) ⌝ }
     ensures { λ r. ⌜ r ≡ stemWith (now (leaves .entry)) stem i ⌝ }
 {
     Stem {
@@ -125,8 +121,8 @@ fn stem_with(leaves: &ValueArray, stem: Stem, i: usize) -> Stem
 }
 
 // What the sets share that append an index to `set`.
-fn stem_of(leaves: &ValueArray, set: &[usize]) -> Stem
-    requires { do ⌜ SetPre (← ⟦SIZE⟧) (now leaves) (now set) ⌝ }
+fn stem_of(leaves: &[i32], set: &[usize]) -> Stem
+    requires { ⌜ SetPre (indexed (now leaves)) (now leaves) (now set) ⌝ }
     ensures { λ r. ⌜ r ≡ stemOf (now (leaves .entry)) (now (set .entry)) ⌝ }
 {
     let none = Stem {
@@ -146,8 +142,8 @@ fn stem_of(leaves: &ValueArray, set: &[usize]) -> Stem
 }
 
 // The key of the set that appends j, where `small` indices up to j are doubtful.
-fn key_with(leaves: &ValueArray, stem: Stem, small: u64, j: usize) -> u64
-    requires { do ⌜ (j < (← ⟦SIZE⟧)) × (magnitude (now leaves) j ≤ mostMagnitude) × StemFits stem × (small ≤ (← ⟦SIZE⟧)) ⌝ }
+fn key_with(leaves: &[i32], stem: Stem, small: u64, j: usize) -> u64
+    requires { do ⌜ (j < indexed (now leaves)) × (magnitude (now leaves) j ≤ mostMagnitude) × StemFits stem × (small ≤ (← ⟦SIZE⟧)) ⌝ }
     ensures { λ r. ⌜ r ≡ keyWith (now (leaves .entry)) stem small j ⌝ }
 {
     let metric = stem.sum + magnitude_at(leaves, j) + 6 * small;
@@ -157,14 +153,14 @@ fn key_with(leaves: &ValueArray, stem: Stem, small: u64, j: usize) -> u64
 // Puts the set that appends j among the untried ones, where j is an information index.
 fn append(
     mask: &[u8],
-    leaves: &ValueArray,
+    leaves: &[i32],
     stem: Stem,
     small: u64,
     j: usize,
     low: usize,
     count: usize,
     room: usize,
-    keys: &mut KeyArray,
+    keys: &mut [u64],
 ) -> usize
     requires { do ⌜ WalkPre (now mask) (now leaves) × (j < 8 * length (now mask)) × StemFits stem × (small ≤ (← ⟦SIZE⟧)) × PoolPre low count room (now keys) ⌝ }
     ensures { λ r. ⌜ Inserted low count room r (keysWith (now (mask .entry)) (now (leaves .entry)) stem small j) (now (keys .entry)) (now (keys .exit)) ⌝ }
@@ -179,12 +175,12 @@ fn append(
 // Gives where they end then.
 pub fn extend(
     mask: &[u8],
-    leaves: &ValueArray,
+    leaves: &[i32],
     set: &[usize],
     low: usize,
     count: usize,
     room: usize,
-    keys: &mut KeyArray,
+    keys: &mut [u64],
 ) -> usize
     requires { ⌜ WalkPre (now mask) (now leaves) × SetPre (8 * length (now mask)) (now leaves) (now set) × PoolPre low count room (now keys) ⌝ }
     ensures { λ r. ⌜ Inserted low count room r (map keyOf (extensions (now (mask .entry)) (now (leaves .entry)) (now (set .entry)) (8 * length (now (mask .entry))))) (now (keys .entry)) (now (keys .exit)) ⌝ }

@@ -8,10 +8,11 @@ use Rattle.laws.specs.First.{firstWhere}
 use Rattle.refusal.specs.declared.Refusal.{Refusal}
 use Rattle.refusal.specs.declared.Refusal.the-variants.{Alone, At}
 use Rattle.refusal.specs.Judge.{differs, judge, refusedOr}
+use Rattle.arrays.specs.Sizes.{deepest}
 use Rattle.bits.specs.Mask.{maskBit}
 use Rattle.code.specs.declared.Code.{Code}
 use Rattle.code.specs.Code.{codeLength}
-use Rattle.code.specs.Description.{maskOf, describe, onDescription}
+use Rattle.code.specs.Description.{maskOf, describeUpTo, onDescription}
 use Rattle.values.specs.Values.{maskRule}
 use Rattle.channel.specs.Channel.{channelValues, channelRefusals}
 use Rattle.tree.specs.Node.{Out, node}
@@ -48,7 +49,11 @@ resumedBy mask c channel prefix output =
     let o = resumePass mask c channel prefix in
     refusedOr (judge (resumingRefusals mask c channel prefix output)) (λ x. (Refused x, output)) (Done (o .work .steps), o .bits)
 
--- the same for a description: its refusals first
+-- the same for a description, with `largest` as the largest n: its refusals first
+abbrev pub resumedUpTo : ℕ → List ℕ → List ℕ → List ℕ → List ℕ → Resumed × List ℕ
+resumedUpTo largest d channel prefix output =
+    onDescription (describeUpTo largest d) (λ x. (Refused x, output)) (λ c. resumedBy (maskOf d) c channel prefix output)
+
+-- the same with `deepest` as the largest n
 unfoldable pub resumed : List ℕ → List ℕ → List ℕ → List ℕ → Resumed × List ℕ
-resumed d channel prefix output =
-    onDescription (describe d) (λ x. (Refused x, output)) (λ c. resumedBy (maskOf d) c channel prefix output)
+resumed d channel prefix output = resumedUpTo deepest d channel prefix output

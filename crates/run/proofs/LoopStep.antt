@@ -1,12 +1,11 @@
 -- What a turn of the loop over later trials asks and gives: the next flipped index, the trial's arrays, and its answer.
-use mathlib.Core.Path.{_≡_, sym, ap, ap₂, _∙_, subst}
+use mathlib.Core.Path.{_≡_, refl, sym, ap, ap₂, _∙_, subst}
 use mathlib.Core.List.{List, []}
 use Prim.Native.Nat.{ℕ, _-_, _≤_}
 use native.Mathlib.Omega.{arith}
 use lib.IntN.{ℤ}
 use lib.ListN.{length, take}
 use lib.Seq.{take-take}
-use Rattle.arrays.specs.Claims.{longest}
 use Rattle.arrays.proofs.Sizes.{fits}
 use Rattle.bits.specs.Claims.{Bits}
 use Rattle.bits.specs.Packing.{packed}
@@ -21,7 +20,7 @@ use Rattle.values.proofs.Bounds.{within-more}
 use Rattle.channel.specs.Channel.{channelValues, firstOutside}
 use Rattle.channel.proofs.Outside.{all-inside}
 use Rattle.tree.proofs.Leaves.{within-leaves}
-use Rattle.node.specs.Contracts.{Arrays, Whole}
+use Rattle.node.specs.Contracts.{Arrays, arrays, Whole}
 use Rattle.order.specs.Contracts.{mostMagnitude, KeysPre}
 use Rattle.trial.specs.Trial.{messageIn}
 use Rattle.trial.specs.Contracts.{TrialPre, FirstLeaves}
@@ -38,24 +37,29 @@ values-inside channel inside = all-inside channel (omega (arith, inside))
 
 -- the arrays of any trial
 pub trial-on : {mask : List ℕ} {c : Code} {channel : List ℕ} → Coded mask c → length channel ≡ codeLength c → firstOutside channel ≡ length channel
-    → {room : ℕ} {rules : List ℕ} {a : Arrays} → length rules ≡ room → Whole room a → TrialPre room c channel rules a
-trial-on {channel} coded size inside r w = record {
+    → {room wide : ℕ} {rules : List ℕ} {a : Arrays} → length rules ≡ room → codeLength c ≤ wide → Whole room wide a → TrialPre room wide c channel rules a
+trial-on {channel} coded size inside r f w = record {
   n-least = omega (arith, coded .n-least);
   n-most = coded .n-most;
   long = size;
   small = values-inside channel inside;
   rules-whole = r;
+  fits = f;
   whole = w;
 }
+
+-- the same arrays after a trial and its check, which takes the message out into the place of the sums
+pub arrays-again : {room wide : ℕ} {a : Arrays} {sums : List ℕ} → Whole room wide a → length sums ≡ room → Whole room (length (a .work)) (arrays (a .work) (a .bits) sums (a .leaves))
+arrays-again w e = record { work = refl; bits = w .bits; sums = e; leaves = w .leaves ∙ sym (w .work); within = omega (arith, w .work, w .within) }
 
 module _ {plan : Plan} {mask : List ℕ} {c : Code} {channel output : List ℕ} (on : RunPre plan mask c channel output) where
   pub order-long : plan .limit - 1 ≤ length (flipOrder mask c (channelValues channel))
   order-long = omega (arith, length-order (on .coded) (channelValues channel), on .well-formed .limit-most)
 
   -- the keys of trial 1's leaf values fit
-  pub keys-pre : {values : List ℤ} → FirstLeaves longest mask c channel values → KeysPre mask values
-  keys-pre {values} kept = record {
-    whole = kept .whole;
+  pub keys-pre : {wide : ℕ} {values : List ℤ} → codeLength c ≤ wide → FirstLeaves wide mask c channel values → KeysPre mask values
+  keys-pre {values = values} room kept = record {
+    there = omega (arith, on .coded .mask-size, room, kept .whole);
     fits = omega (arith, on .coded .mask-size, fits (on .coded .n-most));
     small =
         subst (Within mostMagnitude) (sym (ap (λ (m : ℕ). take m values) (on .coded .mask-size) ∙ kept .values))

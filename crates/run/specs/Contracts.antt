@@ -25,26 +25,25 @@ pub record RunPre (plan : Plan) (mask : List ℕ) (c : Code) (channel output : L
   pub coded : Coded mask c
   pub well-formed : WellFormed c channel (plan .limit) output
 
--- arrays of `room` entries, and room for a message
-pub record RoomsPre (room : ℕ) (c : Code) (rules : List ℕ) (a : Arrays) (message : List ℕ) : Type 0 where
+-- arrays of bytes of `room` entries, and arrays of `wide` values
+pub record RoomsPre (room wide : ℕ) (c : Code) (rules : List ℕ) (a : Arrays) : Type 0 where
   pub rules-whole : length rules ≡ room
-  pub whole : Whole room a
-  pub message-size : codeLength c ≤ length message
+  pub fits : codeLength c ≤ wide
+  pub whole : Whole room wide a
 
--- once trial 1 failed, in `start` steps: its bits, the rules of a plain pass, room for a message, and how a run goes on
-pub record LaterTrialsPre (room : ℕ) (mask : List ℕ) (c : Code) (channel : List ℕ) (start : ℕ) (first rules message : List ℕ) : Type 0 where
+-- once trial 1 failed, in `start` steps: its bits, the rules of a plain pass, and how a run goes on
+pub record LaterTrialsPre (room : ℕ) (mask : List ℕ) (c : Code) (channel : List ℕ) (start : ℕ) (first rules : List ℕ) : Type 0 where
   pub start-most : start ≤ c .n * codeLength c
   pub first-bits : FirstBits room mask c channel first
   pub plain : PlainRules room mask c rules
-  pub message-size : codeLength c ≤ length message
   pub goes-on : (later : List Out) → run (trialPasses mask c) 0 0 (firstTrial mask c (channelValues channel) ∷ later) ≡ run (trialPasses mask c) 1 start later
 
 -- how trial 1 ended: it passed, and the answer is that of a run, whatever later trials it has; or it failed, and the output is as it was
-abbrev pub BeginPost : ℕ → List ℕ → Code → List ℕ → List ℕ → List ℕ → Arrays → List ℕ → List ℕ → Begun → Type 0
-BeginPost room mask c channel output rules a message output′ (Passed answer) =
+abbrev pub BeginPost : ℕ → ℕ → List ℕ → Code → List ℕ → List ℕ → List ℕ → Arrays → List ℕ → Begun → Type 0
+BeginPost room wide mask c channel output rules a output′ (Passed answer) =
     (later : List Out) → (answer, output′) ≡ answerOf mask c output (run (trialPasses mask c) 0 0 (firstTrial mask c (channelValues channel) ∷ later))
-BeginPost room mask c channel output rules a message output′ (Failed start) =
-    LaterTrialsPre room mask c channel start (a .bits) rules message × FirstLeaves room mask c channel (a .leaves) × Whole room a × (output′ ≡ output)
+BeginPost room wide mask c channel output rules a output′ (Failed start) =
+    LaterTrialsPre room mask c channel start (a .bits) rules × FirstLeaves wide mask c channel (a .leaves) × Whole room wide a × (output′ ≡ output)
 
 -- the keys of trial 1's leaf values
 abbrev pub FirstKeys : List ℕ → Code → List ℕ → List ℤ → Type 0

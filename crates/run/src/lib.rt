@@ -1,8 +1,11 @@
 // The run of trials of flip decoding.
 use arrays::BitArray;
+use arrays::MIDDLE;
+use arrays::MIDDLE_SIZE;
 use arrays::RuleArray;
+use arrays::SHORT;
+use arrays::SHORT_SIZE;
 use arrays::SIZE;
-use arrays::ValueArray;
 use code::Code;
 use refusal::Refusal;
 use trial::Restart;
@@ -14,7 +17,7 @@ ghost use Rattle.bits.specs.Packing.{bytesFor, packed};
 ghost use Rattle.code.specs.Code.{codeLength};
 ghost use Rattle.code.specs.Claims.{Coded};
 ghost use Rattle.channel.specs.Channel.{firstOutside};
-ghost use Rattle.node.specs.Contracts.{arrays, Whole};
+ghost use Rattle.node.specs.Contracts.{arrays, Whole, ValueRooms};
 ghost use Rattle.trial.specs.Contracts.{FirstLeaves};
 ghost use Rattle.run.specs.Contracts.{RunPre, RoomsPre, LaterTrialsPre, FirstKeys, BeginPost, answerBy};
 
@@ -47,25 +50,24 @@ pub fn accept(k: usize, trial: u32, steps: u32, message: &[u8], output: &mut [u8
     Decoded::Accepted { trial, steps }
 }
 
-// Trial 1. Its bits and leaf values are put in `first` and `values`.
+// Trial 1. Its bits and leaf values are put in `first` and `values`, and after the pass its message in the place of the sums.
 pub fn begin(
     mask: &[u8],
     code: Code,
     channel: &[u8],
     first: &mut BitArray,
-    values: &mut ValueArray,
+    values: &mut [i32],
     rules: &mut RuleArray,
-    work: &mut ValueArray,
+    work: &mut [i32],
     sums: &mut BitArray,
-    message: &mut [u8],
     output: &mut [u8],
 ) -> Begun
-    requires { do ⌜ Coded (now mask) code × (length (now channel) ≡ codeLength code) × (firstOutside (now channel) ≡ length (now channel)) × (length (now output) ≡ bytesFor (code .k)) × RoomsPre (← ⟦SIZE⟧) code (now rules) (arrays (now work) (now first) (now sums) (now values)) (now message) ⌝ }
-    ensures { λ b. do ⌜ BeginPost (← ⟦SIZE⟧ .entry) (now (mask .entry)) code (now (channel .entry)) (now (output .entry)) (now (rules .exit)) (arrays (now (work .exit)) (now (first .exit)) (now (sums .exit)) (now (values .exit))) (now (message .exit)) (now (output .exit)) b ⌝ }
+    requires { do ⌜ Coded (now mask) code × (length (now channel) ≡ codeLength code) × (firstOutside (now channel) ≡ length (now channel)) × (length (now output) ≡ bytesFor (code .k)) × RoomsPre (← ⟦SIZE⟧) (length (now work)) code (now rules) (arrays (now work) (now first) (now sums) (now values)) ⌝ }
+    ensures { λ b. do ⌜ BeginPost (← ⟦SIZE⟧ .entry) (length (now (work .exit))) (now (mask .entry)) code (now (channel .entry)) (now (output .entry)) (now (rules .exit)) (arrays (now (work .exit)) (now (first .exit)) (now (sums .exit)) (now (values .exit))) (now (output .exit)) b ⌝ }
 {
     let done = trial::first_trial(mask, code, channel, first, values, rules, work, sums);
-    if trial::trial_passes(mask, code, first, message) {
-        return Begun::Passed(accept(code.k, 1, done.steps, message, output));
+    if trial::trial_passes(mask, code, first, sums) {
+        return Begun::Passed(accept(code.k, 1, done.steps, sums, output));
     }
     Begun::Failed(done.steps)
 }
@@ -78,16 +80,15 @@ fn flip_trials(
     channel: &[u8],
     start: u32,
     first: &BitArray,
-    keys: &ValueArray,
+    keys: &[i32],
     rules: &mut RuleArray,
-    work: &mut ValueArray,
+    work: &mut [i32],
     bits: &mut BitArray,
     sums: &mut BitArray,
-    leaves: &mut ValueArray,
-    message: &mut [u8],
+    leaves: &mut [i32],
     output: &mut [u8],
 ) -> Decoded
-    requires { do ⌜ RunPre plan (now mask) code (now channel) (now output) × LaterTrialsPre (← ⟦SIZE⟧) (now mask) code (now channel) start (now first) (now rules) (now message) × FirstKeys (now mask) code (now channel) (now keys) × Whole (← ⟦SIZE⟧) (arrays (now work) (now bits) (now sums) (now leaves)) ⌝ }
+    requires { do ⌜ RunPre plan (now mask) code (now channel) (now output) × LaterTrialsPre (← ⟦SIZE⟧) (now mask) code (now channel) start (now first) (now rules) × FirstKeys (now mask) code (now channel) (now keys) × (codeLength code ≤ length (now keys)) × (codeLength code ≤ length (now work)) × Whole (← ⟦SIZE⟧) (length (now work)) (arrays (now work) (now bits) (now sums) (now leaves)) ⌝ }
     ensures { λ a. ⌜ (a, now (output .exit)) ≡ answerBy plan (now (mask .entry)) code (now (channel .entry)) (now (output .entry)) ⌝ }
 {
     let restart = plan.restart;
@@ -114,8 +115,8 @@ fn flip_trials(
         );
         made += 1;
         steps += done.steps;
-        if trial::trial_passes(mask, code, bits, message) {
-            return accept(code.k, made, steps, message, output);
+        if trial::trial_passes(mask, code, bits, sums) {
+            return accept(code.k, made, steps, sums, output);
         }
     }
     Decoded::Failed {
@@ -133,14 +134,13 @@ fn later_trials(
     channel: &[u8],
     start: u32,
     first: &BitArray,
-    values: &mut ValueArray,
+    values: &mut [i32],
     rules: &mut RuleArray,
-    work: &mut ValueArray,
+    work: &mut [i32],
     sums: &mut BitArray,
-    message: &mut [u8],
     output: &mut [u8],
 ) -> Decoded
-    requires { do ⌜ RunPre plan (now mask) code (now channel) (now output) × LaterTrialsPre (← ⟦SIZE⟧) (now mask) code (now channel) start (now first) (now rules) (now message) × FirstLeaves (← ⟦SIZE⟧) (now mask) code (now channel) (now values) × Whole (← ⟦SIZE⟧) (arrays (now work) (now first) (now sums) (now values)) ⌝ }
+    requires { do ⌜ RunPre plan (now mask) code (now channel) (now output) × LaterTrialsPre (← ⟦SIZE⟧) (now mask) code (now channel) start (now first) (now rules) × FirstLeaves (length (now work)) (now mask) code (now channel) (now values) × (codeLength code ≤ length (now work)) × Whole (← ⟦SIZE⟧) (length (now work)) (arrays (now work) (now first) (now sums) (now values)) ⌝ }
     ensures { λ a. ⌜ (a, now (output .exit)) ≡ answerBy plan (now (mask .entry)) code (now (channel .entry)) (now (output .entry)) ⌝ }
 {
     if plan.limit == 1 {
@@ -151,6 +151,7 @@ fn later_trials(
     }
     let mut bits = [0u8; SIZE];
     let mut leaves = [0i32; SIZE];
+    let wide = work.len();
     order::make_keys(mask, values);
     flip_trials(
         plan,
@@ -164,33 +165,36 @@ fn later_trials(
         work,
         &mut bits,
         sums,
-        &mut leaves,
-        message,
+        &mut leaves[..wide],
         output,
     )
 }
 
-// Fills the working arrays and runs the trials.
-pub fn decode_in(plan: Plan, mask: &[u8], code: Code, channel: &[u8], output: &mut [u8]) -> Decoded
-    requires { ⌜ RunPre plan (now mask) code (now channel) (now output) ⌝ }
+// Fills the arrays of bytes and runs the trials; the arrays of values are as long as the code, or longer.
+fn decode_with(
+    plan: Plan,
+    mask: &[u8],
+    code: Code,
+    channel: &[u8],
+    values: &mut [i32],
+    work: &mut [i32],
+    output: &mut [u8],
+) -> Decoded
+    requires { do ⌜ RunPre plan (now mask) code (now channel) (now output) × ValueRooms (← ⟦SIZE⟧) (codeLength code) (now values) (now work) ⌝ }
     ensures { λ a. ⌜ (a, now (output .exit)) ≡ answerBy plan (now (mask .entry)) code (now (channel .entry)) (now (output .entry)) ⌝ }
 {
     let mut first = [0u8; SIZE];
-    let mut values = [0i32; SIZE];
     let mut rules = [0u8; SIZE];
-    let mut work = [0i32; SIZE];
     let mut sums = [0u8; SIZE];
-    let mut message = [0u8; SIZE];
     match begin(
         mask,
         code,
         channel,
         &mut first,
-        &mut values,
+        values,
         &mut rules,
-        &mut work,
+        work,
         &mut sums,
-        &mut message,
         output,
     ) {
         Begun::Passed(answer) => answer,
@@ -201,12 +205,31 @@ pub fn decode_in(plan: Plan, mask: &[u8], code: Code, channel: &[u8], output: &m
             channel,
             start,
             &first,
-            &mut values,
+            values,
             &mut rules,
-            &mut work,
+            work,
             &mut sums,
-            &mut message,
             output,
         ),
     }
+}
+
+// Fills the arrays of values, by the length of the code, and runs the trials.
+pub fn decode_in(plan: Plan, mask: &[u8], code: Code, channel: &[u8], output: &mut [u8]) -> Decoded
+    requires { ⌜ RunPre plan (now mask) code (now channel) (now output) ⌝ }
+    ensures { λ a. ⌜ (a, now (output .exit)) ≡ answerBy plan (now (mask .entry)) code (now (channel .entry)) (now (output .entry)) ⌝ }
+{
+    if code.n <= SHORT {
+        let mut values = [0i32; SHORT_SIZE];
+        let mut work = [0i32; SHORT_SIZE];
+        return decode_with(plan, mask, code, channel, &mut values, &mut work, output);
+    }
+    if code.n <= MIDDLE {
+        let mut values = [0i32; MIDDLE_SIZE];
+        let mut work = [0i32; MIDDLE_SIZE];
+        return decode_with(plan, mask, code, channel, &mut values, &mut work, output);
+    }
+    let mut values = [0i32; SIZE];
+    let mut work = [0i32; SIZE];
+    decode_with(plan, mask, code, channel, &mut values, &mut work, output)
 }

@@ -3,12 +3,11 @@ use mathlib.Core.Path.{_≡_, refl, sym, ap, ap₂, _∙_, subst}
 use mathlib.Core.Bool.{Bool, cond}
 use mathlib.Core.Logic.{inl}
 use mathlib.Core.List.{List, [], map, List·Memᴰ·not-nil}
-use Prim.Native.Nat.{ℕ, _-_, _*_}
+use Prim.Native.Nat.{ℕ, _-_, _*_, _≤_}
 use native.Mathlib.Omega.{arith}
 use borrow.Author.Tests.{lt-ltb}
 use lib.IntN.{ℤ, natAbs}
 use lib.ListN.{length}
-use Rattle.arrays.specs.Claims.{longest}
 use Rattle.arrays.proofs.Sizes.{fits}
 use Rattle.code.specs.declared.Code.{Code}
 use Rattle.code.specs.Code.{codeLength}
@@ -41,12 +40,13 @@ none-allowed s mask c v start e =
 pub set-none : (n : ℕ) (leaves : List ℤ) → SetPre n leaves []
 set-none n leaves = record { few = omega arith; below = λ a l. absurd (omega arith); past = omega arith; small = λ a l. absurd (omega arith) }
 
-module _ {s : Search} {mask : List ℕ} {c : Code} {channel output : List ℕ} {values : List ℤ} (on : SearchPre s mask c channel output) (kept : FirstLeaves longest mask c channel values) where
+module _ {s : Search} {wide : ℕ} {mask : List ℕ} {c : Code} {channel output : List ℕ} {values : List ℤ} (on : SearchPre s mask c channel output) (kept : FirstLeaves wide mask c channel values) where
   abbrev v : List ℤ
   v = channelValues channel
 
-  pub walk-first : WalkPre mask values
-  walk-first = record {
+  pub walk-first : codeLength c ≤ wide → WalkPre mask values
+  walk-first room = record {
+    there = omega (arith, on .coded .mask-size, room, kept .whole);
     fits = omega (arith, on .coded .mask-size, fits (on .coded .n-most));
     small = record { at = λ j l. first-small kept j (omega (arith, on .coded .mask-size)) (on .coded) (values-inside channel (on .well-formed .in-range)) };
   }
@@ -57,10 +57,10 @@ module _ {s : Search} {mask : List ℕ} {c : Code} {channel output : List ℕ} {
       ∙ same-extensions mask (codeLength c) values (firstTrial mask c v .leaves) (λ j m e. ap natAbs (leaf-first kept j m)) [] (inl refl) (codeLength c) (omega arith)
       ∙ sym (ap (λ (t : Bool). cond t (extensions mask (firstTrial mask c v .leaves) [] (codeLength c)) []) (lt-ltb 0 (s .w) (on .well-formed .flips-least)))
 
-  pub first-pool : {count : ℕ} {keys keys′ : List ℕ} → length keys ≡ longest → Inserted 0 0 (s .limit - 1) count (map keyOf (extensions mask values [] (8 * length mask))) keys keys′ → FirstPool s mask c channel count keys′
-  first-pool {count} {keys} {keys′} e p =
+  pub first-pool : {count : ℕ} {keys keys′ : List ℕ} → Inserted 0 0 (s .limit - 1) count (map keyOf (extensions mask values [] (8 * length mask))) keys keys′ → FirstPool s mask c channel count keys′
+  first-pool {count} {keys} {keys′} p =
       let m : s .limit - 1 - 0 ≡ s .limit - 1 = omega arith in
-      let empty : Pool keys 0 0 [] = record { whole = e; ends = refl; at = λ a l. absurd (omega arith); ordered = pairwise-nil } in
+      let empty : Pool keys 0 0 [] = record { ends = refl; at = λ a l. absurd (omega arith); ordered = pairwise-nil } in
       record {
         places = p .places;
         holds =

@@ -31,7 +31,7 @@ use Rattle.sets.specs.declared.Search.{Search}
 use Rattle.sets.specs.Candidate.{Candidate}
 use Rattle.sets.specs.Tried.{leavesOf, generated}
 use Rattle.tried.proofs.Same.{same-extensions, kept-leaf, length-first}
-use Rattle.search.specs.Contracts.{resumedAt, leavesFrom, generatedFrom, LeavesPre, SearchPre}
+use Rattle.search.specs.Contracts.{resumedAt, leavesFrom, generatedFrom, HeldLeaves, LeavesPre, SearchPre}
 use Rattle.search.proofs.Leaves.{loudest, leaf-first, first-small, leaf-before, leaf-after}
 
 -- all leaf values of the trial of a set
@@ -41,7 +41,7 @@ all-leaves s mask c v [] l = absurd (omega arith)
 all-leaves s mask c v (i ∷ is) l = refl
 
 module _ {s : Search} {mask : List ℕ} {c : Code} {channel output is : List ℕ} {values : List ℤ} {a : Arrays} {done : Work} (on : SearchPre s mask c channel output) (flips : Flips mask (codeLength c) is)
-    (kept : FirstLeaves longest mask c channel values) (post : TrialPost longest c (resumedAt s mask c is) (laterTrial (s .restart) mask c (channelValues channel) is) a done) where
+    {first wide : ℕ} (room-first : codeLength c ≤ first) (room-wide : codeLength c ≤ wide) (kept : FirstLeaves first mask c channel values) (post : TrialPost longest wide c (resumedAt s mask c is) (laterTrial (s .restart) mask c (channelValues channel) is) a done) where
   abbrev v : List ℤ
   v = channelValues channel
 
@@ -61,7 +61,7 @@ module _ {s : Search} {mask : List ℕ} {c : Code} {channel output is : List ℕ
   q-most = restartable flips (s .restart) .most
 
   room : q ≤ length values
-  room = omega (arith, q-most, kept .whole, fits (on .coded .n-most))
+  room = omega (arith, q-most, kept .whole, room-first)
 
   later-length : q + length O ≡ codeLength c
   later-length =
@@ -84,12 +84,10 @@ module _ {s : Search} {mask : List ℕ} {c : Code} {channel output is : List ℕ
   small : Within 31 v
   small = values-inside channel (on .well-formed .in-range)
 
-  pub leaves-pre : LeavesPre s mask c is values (a .leaves)
-  leaves-pre = record {
-    flips-most = on .well-formed .flips-most;
-    limit-least = on .well-formed .limit-least;
-    values-whole = kept .whole;
-    leaves-whole = post .whole .leaves;
+  pub held-leaves : HeldLeaves s mask c is values (a .leaves)
+  held-leaves = record {
+    values-there = omega (arith, kept .whole, room-first);
+    leaves-there = omega (arith, post .whole .leaves, room-wide);
     small = record {
       at = λ j l.
           lt-cases j q (λ m. omega (arith, ap natAbs (leaf-before q values (a .leaves) room j m), first-small kept j l (on .coded) small))
@@ -97,8 +95,27 @@ module _ {s : Search} {mask : List ℕ} {c : Code} {channel output is : List ℕ
     };
   }
 
-  pub generated-is : generatedFrom s mask c values (a .leaves) is ≡ generated s mask c (channelValues channel) is
-  generated-is =
+  pub held-generated : generatedFrom s mask c values (a .leaves) is ≡ generated s mask c (channelValues channel) is
+  held-generated =
       ap (λ (xs : List Candidate). cond (ltb (length is) (s .w)) xs [])
       (same-extensions mask (codeLength c) (leavesFrom q values (a .leaves)) (leavesOf (s .restart) mask c v is)
       (λ j l e. ap natAbs (held-at j l ∙ ap (λ (xs : List ℤ). getD xs j (pos 0)) (sym (all-leaves s mask c v is (flips .some))))) is (inr flips) (codeLength c) (omega arith))
+
+-- Trial 1's leaf values are needed only where sets have more than one index: no set of the largest size generates any.
+module _ {s : Search} {mask : List ℕ} {c : Code} {channel output is : List ℕ} {values : List ℤ} {a : Arrays} {done : Work} (on : SearchPre s mask c channel output) (flips : Flips mask (codeLength c) is)
+    {first wide : ℕ} (room-first : codeLength c ≤ first) (room-wide : codeLength c ≤ wide) (kept : 1 < s .w → FirstLeaves first mask c channel values) (post : TrialPost longest wide c (resumedAt s mask c is) (laterTrial (s .restart) mask c (channelValues channel) is) a done) where
+  more : length is < s .w → FirstLeaves first mask c channel values
+  more l = kept (omega (arith, flips .some))
+
+  pub leaves-pre : LeavesPre s mask c is values (a .leaves)
+  leaves-pre = record {
+    flips-most = on .well-formed .flips-most;
+    limit-least = on .well-formed .limit-least;
+    held = λ l. held-leaves on flips room-first room-wide (more l) post;
+  }
+
+  pub generated-is : generatedFrom s mask c values (a .leaves) is ≡ generated s mask c (channelValues channel) is
+  generated-is =
+      let none : List Candidate → Bool → List Candidate = λ xs t. cond t xs [] in
+      lt-cases (length is) (s .w) (λ l. held-generated on flips room-first room-wide (more l) post)
+      (λ l. ap (none _) (le-ltb (length is) (s .w) l) ∙ sym (ap (none _) (le-ltb (length is) (s .w) l)))

@@ -7,7 +7,6 @@ use lib.IntN.{ℤ, pos, natAbs}
 use lib.ListN.{length, getD, take, drop, List·getD-append}
 use lib.Seq.{getD-take, getD-drop, getD-append-add, length-take-le}
 use Rattle.laws.specs.Contracts.{splice}
-use Rattle.arrays.specs.Claims.{longest}
 use Rattle.arrays.proofs.Sizes.{fits}
 use Rattle.code.specs.declared.Code.{Code}
 use Rattle.code.specs.Code.{codeLength}
@@ -26,7 +25,7 @@ use Rattle.search.specs.Contracts.{leavesFrom}
 pub loudest : {mask : List ℕ} {c : Code} → Coded mask c → 31 * 2 ^ c .n ≤ mostMagnitude
 loudest coded = omega (arith, fits (coded .n-most))
 
-module _ {mask : List ℕ} {c : Code} {channel : List ℕ} {values : List ℤ} (kept : FirstLeaves longest mask c channel values) (j : ℕ) (l : j < codeLength c) where
+module _ {wide : ℕ} {mask : List ℕ} {c : Code} {channel : List ℕ} {values : List ℤ} (kept : FirstLeaves wide mask c channel values) (j : ℕ) (l : j < codeLength c) where
   pub leaf-first : getD values j (pos 0) ≡ getD (firstTrial mask c (channelValues channel) .leaves) j (pos 0)
   leaf-first = sym (getD-take (codeLength c) values j (pos 0) l) ∙ ap (λ (xs : List ℤ). getD xs j (pos 0)) (kept .values)
 

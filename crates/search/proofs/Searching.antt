@@ -102,7 +102,7 @@ module _ {s : Search} {mask : List ℕ} {c : Code} {v : List ℤ} {channel outpu
   next-indices = ap indicesOf key-is ∙ indices-back (x .metric) (x .flips) (this .flips .some) (digits this)
 
   pub next-places : PoolPre (at + 1) end (s .limit - 1) keys
-  next-places = record { low-most = omega (arith, g .holds .ends); count-most = g .places .count-most; room-most = g .places .room-most; whole = g .places .whole }
+  next-places = record { low-most = omega (arith, g .holds .ends); count-most = g .places .count-most; room-most = g .places .room-most }
 
   -- its indices, as they were found
   module _ {is : List ℕ} (same : is ≡ x .flips) where

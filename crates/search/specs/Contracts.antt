@@ -2,12 +2,11 @@
 use mathlib.Core.Path.{_≡_}
 use mathlib.Core.Bool.{cond}
 use mathlib.Core.List.{List, [], map}
-use Prim.Native.Nat.{ℕ, _-_, _≤_}
+use Prim.Native.Nat.{ℕ, _-_, _≤_, _<_}
 use lib.Dec.{ltb}
 use lib.IntN.{ℤ}
 use lib.ListN.{length, take}
 use Rattle.laws.specs.Contracts.{splice}
-use Rattle.arrays.specs.Claims.{longest}
 use Rattle.code.specs.declared.Code.{Code}
 use Rattle.code.specs.Code.{codeLength}
 use Rattle.code.specs.Claims.{Coded}
@@ -34,13 +33,17 @@ abbrev pub generatedFrom : Search → List ℕ → Code → List ℤ → List �
 generatedFrom s mask c values leaves is =
     cond (ltb (length is) (s .w)) (extensions mask (leavesFrom (resumedAt s mask c is) values leaves) is (codeLength c)) []
 
--- leaf values whose metrics fit, and a search of at most three flips
+-- leaf values of every index, whose metrics fit
+pub record HeldLeaves (s : Search) (mask : List ℕ) (c : Code) (is : List ℕ) (values leaves : List ℤ) : Type 0 where
+  pub values-there : codeLength c ≤ length values
+  pub leaves-there : codeLength c ≤ length leaves
+  pub small : Small (codeLength c) (leavesFrom (resumedAt s mask c is) values leaves)
+
+-- a search of at most three flips, and such leaf values for a set that is not the largest
 pub record LeavesPre (s : Search) (mask : List ℕ) (c : Code) (is : List ℕ) (values leaves : List ℤ) : Type 0 where
   pub flips-most : s .w ≤ 3
   pub limit-least : 1 ≤ s .limit
-  pub values-whole : length values ≡ longest
-  pub leaves-whole : length leaves ≡ longest
-  pub small : Small (codeLength c) (leavesFrom (resumedAt s mask c is) values leaves)
+  pub held : length is < s .w → HeldLeaves s mask c is values leaves
 
 -- what holds past all refusals before 16
 pub record SearchPre (s : Search) (mask : List ℕ) (c : Code) (channel output : List ℕ) : Type 0 where

@@ -1,31 +1,36 @@
 // The run of trials of decoding by sets.
 use arrays::BitArray;
+use arrays::MIDDLE;
+use arrays::MIDDLE_SIZE;
 use arrays::RuleArray;
+use arrays::SHORT;
+use arrays::SHORT_SIZE;
 use arrays::SIZE;
-use arrays::ValueArray;
 use code::Code;
 use pool::FLIPS;
-use pool::KeyArray;
 use run::Begun;
 use run::Decoded;
 use sets::Search;
 ghost use mathlib.Core.Path.{_≡_};
 ghost use mathlib.Core.List.{map};
-ghost use Prim.Native.Nat.{_-_, _≤_};
+ghost use Prim.Native.Nat.{_-_, _≤_, _<_};
 ghost use lib.ListN.{length, take};
 ghost use Rattle.laws.specs.Contracts.{splice};
 ghost use Rattle.code.specs.Code.{codeLength};
 ghost use Rattle.code.specs.Claims.{Coded};
-ghost use Rattle.node.specs.Contracts.{arrays, Whole};
+ghost use Rattle.node.specs.Contracts.{arrays, Whole, ValueRooms};
 ghost use Rattle.trial.specs.Claims.{Flips};
 ghost use Rattle.trial.specs.Contracts.{FirstLeaves};
 ghost use Rattle.run.specs.Contracts.{LaterTrialsPre};
 ghost use Rattle.pool.specs.Contracts.{keyOf, Small, PoolPre, Inserted};
 ghost use Rattle.search.specs.Contracts.{LeavesPre, generatedFrom, SearchPre, FirstPool, answerBy};
 
+// As many keys as there are later trials at most, with sets of more than one index.
+const KEYS: usize = 511;
+
 // Copies the first `count` values.
-fn copy_values(source: &ValueArray, target: &mut ValueArray, count: usize)
-    requires { do ⌜ (count ≤ (← ⟦SIZE⟧)) × (length (now source) ≡ (← ⟦SIZE⟧)) × (length (now target) ≡ (← ⟦SIZE⟧)) × Small count (now source) ⌝ }
+fn copy_values(source: &[i32], target: &mut [i32], count: usize)
+    requires { ⌜ (count ≤ length (now source)) × (count ≤ length (now target)) × Small count (now source) ⌝ }
     ensures { λ _. ⌜ now (target .exit) ≡ splice (now (target .entry)) 0 (take count (now (source .entry))) ⌝ }
 {
     let mut j = 0;
@@ -42,14 +47,14 @@ fn generate(
     mask: &[u8],
     code: Code,
     flips: &[usize],
-    values: &ValueArray,
-    leaves: &mut ValueArray,
+    values: &[i32],
+    leaves: &mut [i32],
     low: usize,
     count: usize,
-    keys: &mut KeyArray,
+    keys: &mut [u64],
 ) -> usize
     requires { ⌜ Coded (now mask) code × Flips (now mask) (codeLength code) (now flips) × LeavesPre search (now mask) code (now flips) (now values) (now leaves) × PoolPre low count (search .limit - 1) (now keys) ⌝ }
-    ensures { λ r. ⌜ Inserted low count (search .limit - 1) r (map keyOf (generatedFrom search (now (mask .entry)) code (now (values .entry)) (now (leaves .entry)) (now (flips .entry)))) (now (keys .entry)) (now (keys .exit)) × (length (now (leaves .exit)) ≡ length (now (leaves .entry))) ⌝ }
+    ensures { λ r. ⌜ Inserted low count (search .limit - 1) r (map keyOf (generatedFrom search (now (mask .entry)) code (now (values .entry)) (now (leaves .entry)) (now (flips .entry)))) (now (keys .entry)) (now (keys .exit)) ⌝ }
 {
     if search.w as usize <= flips.len() {
         return count;
@@ -69,7 +74,7 @@ fn generate(
 }
 
 // The trials after the first, which took `start` steps and failed, until one passes or no untried set is left. Trial 1 generated the keys
-// up to `count`, and its leaf values are `values`.
+// up to `count`. Where sets have more than one index `values` are its leaf values; else they are not read.
 fn set_trials(
     search: Search,
     mask: &[u8],
@@ -78,17 +83,16 @@ fn set_trials(
     start: u32,
     count: usize,
     first: &BitArray,
-    values: &ValueArray,
+    values: &[i32],
     rules: &mut RuleArray,
-    work: &mut ValueArray,
+    work: &mut [i32],
     bits: &mut BitArray,
     sums: &mut BitArray,
-    leaves: &mut ValueArray,
-    keys: &mut KeyArray,
-    message: &mut [u8],
+    leaves: &mut [i32],
+    keys: &mut [u64],
     output: &mut [u8],
 ) -> Decoded
-    requires { do ⌜ SearchPre search (now mask) code (now channel) (now output) × LaterTrialsPre (← ⟦SIZE⟧) (now mask) code (now channel) start (now first) (now rules) (now message) × FirstLeaves (← ⟦SIZE⟧) (now mask) code (now channel) (now values) × FirstPool search (now mask) code (now channel) count (now keys) × Whole (← ⟦SIZE⟧) (arrays (now work) (now bits) (now sums) (now leaves)) ⌝ }
+    requires { do ⌜ SearchPre search (now mask) code (now channel) (now output) × LaterTrialsPre (← ⟦SIZE⟧) (now mask) code (now channel) start (now first) (now rules) × (1 < search .w → FirstLeaves (length (now work)) (now mask) code (now channel) (now values)) × FirstPool search (now mask) code (now channel) count (now keys) × (codeLength code ≤ length (now work)) × Whole (← ⟦SIZE⟧) (length (now work)) (arrays (now work) (now bits) (now sums) (now leaves)) ⌝ }
     ensures { λ a. ⌜ (a, now (output .exit)) ≡ answerBy search (now (mask .entry)) code (now (channel .entry)) (now (output .entry)) ⌝ }
 {
     let restart = search.restart;
@@ -113,8 +117,8 @@ fn set_trials(
         );
         at += 1;
         steps += done.steps;
-        if trial::trial_passes(mask, code, bits, message) {
-            return run::accept(code.k, at as u32 + 1, steps, message, output);
+        if trial::trial_passes(mask, code, bits, sums) {
+            return run::accept(code.k, at as u32 + 1, steps, sums, output);
         }
         end = generate(
             search,
@@ -134,36 +138,73 @@ fn set_trials(
     }
 }
 
-// The same: trial 1 generates the first sets. Bits and leaf values of later trials, and keys, have arrays of their own, filled only where
+// The same for sets of one index: trial 1 generates all of them, at most one for each index. No later trial generates any, so that trial 1's
+// leaf values are not read again, and the later ones take their place. Bits of later trials, and keys, have arrays of their own, filled only where
 // there is a later trial.
-fn later_trials(
+fn single_trials(
     search: Search,
     mask: &[u8],
     code: Code,
     channel: &[u8],
     start: u32,
     first: &BitArray,
-    values: &ValueArray,
+    values: &mut [i32],
     rules: &mut RuleArray,
-    work: &mut ValueArray,
+    work: &mut [i32],
     sums: &mut BitArray,
-    message: &mut [u8],
     output: &mut [u8],
 ) -> Decoded
-    requires { do ⌜ SearchPre search (now mask) code (now channel) (now output) × LaterTrialsPre (← ⟦SIZE⟧) (now mask) code (now channel) start (now first) (now rules) (now message) × FirstLeaves (← ⟦SIZE⟧) (now mask) code (now channel) (now values) × Whole (← ⟦SIZE⟧) (arrays (now work) (now first) (now sums) (now values)) ⌝ }
+    requires { do ⌜ SearchPre search (now mask) code (now channel) (now output) × LaterTrialsPre (← ⟦SIZE⟧) (now mask) code (now channel) start (now first) (now rules) × FirstLeaves (length (now work)) (now mask) code (now channel) (now values) × (codeLength code ≤ length (now work)) × Whole (← ⟦SIZE⟧) (length (now work)) (arrays (now work) (now first) (now sums) (now values)) × (search .w ≡ 1) ⌝ }
     ensures { λ a. ⌜ (a, now (output .exit)) ≡ answerBy search (now (mask .entry)) code (now (channel .entry)) (now (output .entry)) ⌝ }
 {
-    if search.limit == 1 {
-        return Decoded::Failed {
-            trials: 1,
-            steps: start,
-        };
-    }
     let mut bits = [0u8; SIZE];
-    let mut leaves = [0i32; SIZE];
     let mut keys = [0u64; SIZE];
     let none = [0usize; FLIPS];
+    let unread = [0i32; 1];
     let room = search.limit as usize - 1;
+    let count = pool::extend(mask, values, &none[..0], 0, 0, room, &mut keys);
+    set_trials(
+        search,
+        mask,
+        code,
+        channel,
+        start,
+        count,
+        first,
+        &unread,
+        rules,
+        work,
+        &mut bits,
+        sums,
+        values,
+        &mut keys,
+        output,
+    )
+}
+
+// The same for larger sets: trial 1 generates the first of them, and its leaf values stay.
+fn larger_trials(
+    search: Search,
+    mask: &[u8],
+    code: Code,
+    channel: &[u8],
+    start: u32,
+    first: &BitArray,
+    values: &[i32],
+    rules: &mut RuleArray,
+    work: &mut [i32],
+    sums: &mut BitArray,
+    output: &mut [u8],
+) -> Decoded
+    requires { do ⌜ SearchPre search (now mask) code (now channel) (now output) × LaterTrialsPre (← ⟦SIZE⟧) (now mask) code (now channel) start (now first) (now rules) × FirstLeaves (length (now work)) (now mask) code (now channel) (now values) × (codeLength code ≤ length (now work)) × Whole (← ⟦SIZE⟧) (length (now work)) (arrays (now work) (now first) (now sums) (now values)) × (1 < search .w) ⌝ }
+    ensures { λ a. ⌜ (a, now (output .exit)) ≡ answerBy search (now (mask .entry)) code (now (channel .entry)) (now (output .entry)) ⌝ }
+{
+    let mut bits = [0u8; SIZE];
+    let mut leaves = [0i32; SIZE];
+    let mut keys = [0u64; KEYS];
+    let none = [0usize; FLIPS];
+    let room = search.limit as usize - 1;
+    let wide = work.len();
     let count = pool::extend(mask, values, &none[..0], 0, 0, room, &mut keys);
     set_trials(
         search,
@@ -178,40 +219,90 @@ fn later_trials(
         work,
         &mut bits,
         sums,
-        &mut leaves,
+        &mut leaves[..wide],
         &mut keys,
-        message,
         output,
     )
 }
 
-// Fills the working arrays and runs the trials.
-pub fn decode_in(
+// The same, if another trial is allowed at all.
+fn later_trials(
     search: Search,
     mask: &[u8],
     code: Code,
     channel: &[u8],
+    start: u32,
+    first: &BitArray,
+    values: &mut [i32],
+    rules: &mut RuleArray,
+    work: &mut [i32],
+    sums: &mut BitArray,
     output: &mut [u8],
 ) -> Decoded
-    requires { ⌜ SearchPre search (now mask) code (now channel) (now output) ⌝ }
+    requires { do ⌜ SearchPre search (now mask) code (now channel) (now output) × LaterTrialsPre (← ⟦SIZE⟧) (now mask) code (now channel) start (now first) (now rules) × FirstLeaves (length (now work)) (now mask) code (now channel) (now values) × (codeLength code ≤ length (now work)) × Whole (← ⟦SIZE⟧) (length (now work)) (arrays (now work) (now first) (now sums) (now values)) ⌝ }
+    ensures { λ a. ⌜ (a, now (output .exit)) ≡ answerBy search (now (mask .entry)) code (now (channel .entry)) (now (output .entry)) ⌝ }
+{
+    if search.limit == 1 {
+        return Decoded::Failed {
+            trials: 1,
+            steps: start,
+        };
+    }
+    if search.w == 1 {
+        return single_trials(
+            search,
+            mask,
+            code,
+            channel,
+            start,
+            first,
+            values,
+            rules,
+            work,
+            sums,
+            output,
+        );
+    }
+    larger_trials(
+        search,
+        mask,
+        code,
+        channel,
+        start,
+        first,
+        values,
+        rules,
+        work,
+        sums,
+        output,
+    )
+}
+
+// Fills the arrays of bytes and runs the trials; the arrays of values are as long as the code, or longer.
+fn decode_with(
+    search: Search,
+    mask: &[u8],
+    code: Code,
+    channel: &[u8],
+    values: &mut [i32],
+    work: &mut [i32],
+    output: &mut [u8],
+) -> Decoded
+    requires { do ⌜ SearchPre search (now mask) code (now channel) (now output) × ValueRooms (← ⟦SIZE⟧) (codeLength code) (now values) (now work) ⌝ }
     ensures { λ a. ⌜ (a, now (output .exit)) ≡ answerBy search (now (mask .entry)) code (now (channel .entry)) (now (output .entry)) ⌝ }
 {
     let mut first = [0u8; SIZE];
-    let mut values = [0i32; SIZE];
     let mut rules = [0u8; SIZE];
-    let mut work = [0i32; SIZE];
     let mut sums = [0u8; SIZE];
-    let mut message = [0u8; SIZE];
     match run::begin(
         mask,
         code,
         channel,
         &mut first,
-        &mut values,
+        values,
         &mut rules,
-        &mut work,
+        work,
         &mut sums,
-        &mut message,
         output,
     ) {
         Begun::Passed(answer) => answer,
@@ -222,12 +313,37 @@ pub fn decode_in(
             channel,
             start,
             &first,
-            &values,
+            values,
             &mut rules,
-            &mut work,
+            work,
             &mut sums,
-            &mut message,
             output,
         ),
     }
+}
+
+// Fills the arrays of values, by the length of the code, and runs the trials.
+pub fn decode_in(
+    search: Search,
+    mask: &[u8],
+    code: Code,
+    channel: &[u8],
+    output: &mut [u8],
+) -> Decoded
+    requires { ⌜ SearchPre search (now mask) code (now channel) (now output) ⌝ }
+    ensures { λ a. ⌜ (a, now (output .exit)) ≡ answerBy search (now (mask .entry)) code (now (channel .entry)) (now (output .entry)) ⌝ }
+{
+    if code.n <= SHORT {
+        let mut values = [0i32; SHORT_SIZE];
+        let mut work = [0i32; SHORT_SIZE];
+        return decode_with(search, mask, code, channel, &mut values, &mut work, output);
+    }
+    if code.n <= MIDDLE {
+        let mut values = [0i32; MIDDLE_SIZE];
+        let mut work = [0i32; MIDDLE_SIZE];
+        return decode_with(search, mask, code, channel, &mut values, &mut work, output);
+    }
+    let mut values = [0i32; SIZE];
+    let mut work = [0i32; SIZE];
+    decode_with(search, mask, code, channel, &mut values, &mut work, output)
 }

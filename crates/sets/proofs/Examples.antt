@@ -12,7 +12,7 @@ use Rattle.bits.specs.Mask.{onesBelow}
 use Rattle.bits.specs.Packing.{packed}
 use Rattle.code.specs.declared.Code.{Code}
 use Rattle.code.specs.declared.Description.the-variants.{Accepted as Coding}
-use Rattle.code.specs.Description.{maskOf, describe}
+use Rattle.code.specs.Description.{maskOf, describeUpTo, describe}
 use Rattle.crc.specs.Check.{checkOf}
 use Rattle.transform.specs.Transform.{covers, parity, transformed, xors}
 use Rattle.placing.specs.Place.{taken}
@@ -150,7 +150,7 @@ pub record SetExamples (byte : ℕ) : Type 0 where
       × (setsRestarted wideD pairV 2 512 [] ≡ (Refused (Alone 15), []))
 
 pub set-examples : (byte : ℕ) → SetExamples byte
-unfolding judge refusedOr table number onesBelow packed describe checkOf covers parity transformed xors taken channelValue f g leftValues rightValues firstWhere node information insert ordered run decodedBy decodedWith doubtful extensions insertSet insertEach tried setsBy setsWith
+unfolding judge refusedOr table number onesBelow packed describeUpTo checkOf covers parity transformed xors taken channelValue f g leftValues rightValues firstWhere node information insert ordered run decodedBy decodedWith doubtful extensions insertSet insertEach tried setsBy setsWith
 set-examples byte = record {
   described = refl;
   by-metric = (refl, refl, refl, refl, refl, refl);

@@ -7,10 +7,11 @@ use lib.ListN.{length}
 use Rattle.refusal.specs.declared.Refusal.{Refusal}
 use Rattle.refusal.specs.declared.Refusal.the-variants.{Alone}
 use Rattle.refusal.specs.Judge.{differs, outside, judge, refusedOr}
+use Rattle.arrays.specs.Sizes.{deepest}
 use Rattle.bits.specs.Packing.{bytesFor}
 use Rattle.code.specs.declared.Code.{Code}
 use Rattle.code.specs.Code.{informationCount}
-use Rattle.code.specs.Description.{maskOf, describe, onDescription}
+use Rattle.code.specs.Description.{maskOf, describeUpTo, onDescription}
 use Rattle.channel.specs.Channel.{channelValues, channelRefusals}
 use Rattle.trial.specs.declared.Restart.{Restart}
 use Rattle.trial.specs.declared.Restart.the-variants.{Root, After}
@@ -42,10 +43,14 @@ setsBy s mask c channel output =
     refusedOr (judge (setRefusals s c channel output)) (λ x. (Refused x, output))
     (answerOf mask c output (run (trialPasses mask c) 0 0 (setTrials s mask c (channelValues channel))))
 
--- the same for a description: its refusals first
+-- the same for a description, with `largest` as the largest n: its refusals first
+abbrev pub setsUpTo : ℕ → Search → List ℕ → List ℕ → List ℕ → Decoded × List ℕ
+setsUpTo largest s d channel output =
+    onDescription (describeUpTo largest d) (λ x. (Refused x, output)) (λ c. setsBy s (maskOf d) c channel output)
+
+-- the same with `deepest` as the largest n
 unfoldable pub setsWith : Search → List ℕ → List ℕ → List ℕ → Decoded × List ℕ
-setsWith s d channel output =
-    onDescription (describe d) (λ x. (Refused x, output)) (λ c. setsBy s (maskOf d) c channel output)
+setsWith s d channel output = setsUpTo deepest s d channel output
 
 -- a search by its parts
 abbrev pub searchOf : Restart → ℕ → ℕ → Search

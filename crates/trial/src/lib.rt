@@ -2,7 +2,6 @@
 use arrays::BitArray;
 use arrays::RuleArray;
 use arrays::SIZE;
-use arrays::ValueArray;
 use code::Code;
 use tree::Work;
 ghost use mathlib.Core.Path.{_≡_};
@@ -104,13 +103,13 @@ fn later_trial(
     channel: &[u8],
     first: &BitArray,
     rules: &mut RuleArray,
-    work: &mut ValueArray,
+    work: &mut [i32],
     bits: &mut BitArray,
     sums: &mut BitArray,
-    leaves: &mut ValueArray,
+    leaves: &mut [i32],
 ) -> Work
-    requires { do ⌜ TrialPre (← ⟦SIZE⟧) code (now channel) (now rules) (arrays (now work) (now bits) (now sums) (now leaves)) × LaterTrialPre (← ⟦SIZE⟧) code q (now flips) (now first) ⌝ }
-    ensures { λ done. do ⌜ TrialPost (← ⟦SIZE⟧ .entry) code q (trialBy q (now (first .entry)) (now (rules .entry)) code (channelValues (now (channel .entry))) (now (flips .entry))) (arrays (now (work .exit)) (now (bits .exit)) (now (sums .exit)) (now (leaves .exit))) done × (now (rules .exit) ≡ setAll (now (rules .entry)) (now (flips .entry)) 1) ⌝ }
+    requires { do ⌜ TrialPre (← ⟦SIZE⟧) (length (now work)) code (now channel) (now rules) (arrays (now work) (now bits) (now sums) (now leaves)) × LaterTrialPre (← ⟦SIZE⟧) code q (now flips) (now first) ⌝ }
+    ensures { λ done. do ⌜ TrialPost (← ⟦SIZE⟧ .entry) (length (now (work .entry))) code q (trialBy q (now (first .entry)) (now (rules .entry)) code (channelValues (now (channel .entry))) (now (flips .entry))) (arrays (now (work .exit)) (now (bits .exit)) (now (sums .exit)) (now (leaves .exit))) done × (now (rules .exit) ≡ setAll (now (rules .entry)) (now (flips .entry)) 1) ⌝ }
 {
     put_prefix(flips[0], q, first, bits);
     set_rules(OPPOSITE, flips, rules);
@@ -128,13 +127,13 @@ pub fn set_trial(
     channel: &[u8],
     first: &BitArray,
     rules: &mut RuleArray,
-    work: &mut ValueArray,
+    work: &mut [i32],
     bits: &mut BitArray,
     sums: &mut BitArray,
-    leaves: &mut ValueArray,
+    leaves: &mut [i32],
 ) -> Work
-    requires { do ⌜ TrialPre (← ⟦SIZE⟧) code (now channel) (now rules) (arrays (now work) (now bits) (now sums) (now leaves)) × Coded (now mask) code × Flips (now mask) (codeLength code) (now flips) × PlainRules (← ⟦SIZE⟧) (now mask) code (now rules) × FirstBits (← ⟦SIZE⟧) (now mask) code (now channel) (now first) ⌝ }
-    ensures { λ done. do ⌜ TrialPost (← ⟦SIZE⟧ .entry) code (restartAt restart (now (mask .entry)) (codeLength code) (lowest (now (flips .entry)))) (laterTrial restart (now (mask .entry)) code (channelValues (now (channel .entry))) (now (flips .entry))) (arrays (now (work .exit)) (now (bits .exit)) (now (sums .exit)) (now (leaves .exit))) done × PlainRules (← ⟦SIZE⟧ .entry) (now (mask .entry)) code (now (rules .exit)) ⌝ }
+    requires { do ⌜ TrialPre (← ⟦SIZE⟧) (length (now work)) code (now channel) (now rules) (arrays (now work) (now bits) (now sums) (now leaves)) × Coded (now mask) code × Flips (now mask) (codeLength code) (now flips) × PlainRules (← ⟦SIZE⟧) (now mask) code (now rules) × FirstBits (← ⟦SIZE⟧) (now mask) code (now channel) (now first) ⌝ }
+    ensures { λ done. do ⌜ TrialPost (← ⟦SIZE⟧ .entry) (length (now (work .entry))) code (restartAt restart (now (mask .entry)) (codeLength code) (lowest (now (flips .entry)))) (laterTrial restart (now (mask .entry)) code (channelValues (now (channel .entry))) (now (flips .entry))) (arrays (now (work .exit)) (now (bits .exit)) (now (sums .exit)) (now (leaves .exit))) done × PlainRules (← ⟦SIZE⟧ .entry) (now (mask .entry)) code (now (rules .exit)) ⌝ }
 {
     let q = restart_index(restart, mask, flips[0]);
     later_trial(
@@ -160,13 +159,13 @@ pub fn flip_trial(
     channel: &[u8],
     first: &BitArray,
     rules: &mut RuleArray,
-    work: &mut ValueArray,
+    work: &mut [i32],
     bits: &mut BitArray,
     sums: &mut BitArray,
-    leaves: &mut ValueArray,
+    leaves: &mut [i32],
 ) -> Work
-    requires { do ⌜ TrialPre (← ⟦SIZE⟧) code (now channel) (now rules) (arrays (now work) (now bits) (now sums) (now leaves)) × Coded (now mask) code × Flips (now mask) (codeLength code) (i ∷ []) × PlainRules (← ⟦SIZE⟧) (now mask) code (now rules) × FirstBits (← ⟦SIZE⟧) (now mask) code (now channel) (now first) ⌝ }
-    ensures { λ done. do ⌜ TrialPost (← ⟦SIZE⟧ .entry) code (restartAt restart (now (mask .entry)) (codeLength code) i) (laterTrial restart (now (mask .entry)) code (channelValues (now (channel .entry))) (i ∷ [])) (arrays (now (work .exit)) (now (bits .exit)) (now (sums .exit)) (now (leaves .exit))) done × PlainRules (← ⟦SIZE⟧ .entry) (now (mask .entry)) code (now (rules .exit)) ⌝ }
+    requires { do ⌜ TrialPre (← ⟦SIZE⟧) (length (now work)) code (now channel) (now rules) (arrays (now work) (now bits) (now sums) (now leaves)) × Coded (now mask) code × Flips (now mask) (codeLength code) (i ∷ []) × PlainRules (← ⟦SIZE⟧) (now mask) code (now rules) × FirstBits (← ⟦SIZE⟧) (now mask) code (now channel) (now first) ⌝ }
+    ensures { λ done. do ⌜ TrialPost (← ⟦SIZE⟧ .entry) (length (now (work .entry))) code (restartAt restart (now (mask .entry)) (codeLength code) i) (laterTrial restart (now (mask .entry)) code (channelValues (now (channel .entry))) (i ∷ [])) (arrays (now (work .exit)) (now (bits .exit)) (now (sums .exit)) (now (leaves .exit))) done × PlainRules (← ⟦SIZE⟧ .entry) (now (mask .entry)) code (now (rules .exit)) ⌝ }
 {
     let flips = [i; 1];
     set_trial(
@@ -190,13 +189,13 @@ pub fn first_trial(
     code: Code,
     channel: &[u8],
     first: &mut BitArray,
-    values: &mut ValueArray,
+    values: &mut [i32],
     rules: &mut RuleArray,
-    work: &mut ValueArray,
+    work: &mut [i32],
     sums: &mut BitArray,
 ) -> Work
-    requires { do ⌜ PassPre (← ⟦SIZE⟧) code 0 (now channel) (arrays (now work) (now first) (now sums) (now values)) × (8 * length (now mask) ≡ codeLength code) × (length (now rules) ≡ (← ⟦SIZE⟧)) ⌝ }
-    ensures { λ done. do ⌜ FirstTrialPost (← ⟦SIZE⟧ .entry) (now (mask .entry)) code (now (channel .entry)) (now (rules .exit)) (arrays (now (work .exit)) (now (first .exit)) (now (sums .exit)) (now (values .exit))) done ⌝ }
+    requires { do ⌜ PassPre (← ⟦SIZE⟧) (length (now work)) code 0 (now channel) (arrays (now work) (now first) (now sums) (now values)) × (8 * length (now mask) ≡ codeLength code) × (length (now rules) ≡ (← ⟦SIZE⟧)) ⌝ }
+    ensures { λ done. do ⌜ FirstTrialPost (← ⟦SIZE⟧ .entry) (length (now (work .entry))) (now (mask .entry)) code (now (channel .entry)) (now (rules .exit)) (arrays (now (work .exit)) (now (first .exit)) (now (sums .exit)) (now (values .exit))) done ⌝ }
 {
     sc::rules_from(mask, rules);
     sc::pass(code, 0, channel, rules, work, first, sums, values)

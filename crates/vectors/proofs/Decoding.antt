@@ -9,7 +9,7 @@ use Rattle.refusal.specs.Judge.{judge, refusedOr}
 use Rattle.bits.specs.Bit.{number}
 use Rattle.bits.specs.Mask.{onesBelow}
 use Rattle.bits.specs.Packing.{packed}
-use Rattle.code.specs.Description.{maskOf, describe}
+use Rattle.code.specs.Description.{maskOf, describeUpTo}
 use Rattle.crc.specs.Check.{checkOf}
 use Rattle.transform.specs.Transform.{covers, parity, transformed, xors}
 use Rattle.placing.specs.Place.{taken}
@@ -52,5 +52,5 @@ StarredDecoding byte =
     (flipOrder (maskOf D) (starredCode 3) (channelValues (starredV 2)) ≡ 5 ∷ 3 ∷ 6 ∷ 7 ∷ []) × Rows (decodedFull D) 48 (byte ∷ []) × Rows (decodedRestarted D) 32 (byte ∷ [])
 
 pub starred-decoding : (byte : ℕ) → StarredDecoding byte
-unfolding judge refusedOr table number onesBelow packed describe checkOf covers parity transformed xors taken channelValue f g leftValues rightValues firstWhere node information insert ordered run decodedBy decodedWith
+unfolding judge refusedOr table number onesBelow packed describeUpTo checkOf covers parity transformed xors taken channelValue f g leftValues rightValues firstWhere node information insert ordered run decodedBy decodedWith
 starred-decoding byte = (refl, (refl, refl, refl, refl, refl, refl, refl, refl, refl, refl), (refl, refl, refl, refl, refl, refl, refl, refl, refl, refl))

@@ -7,7 +7,7 @@ use Rattle.refusal.specs.Judge.{judge, refusedOr}
 use Rattle.bits.specs.Mask.{onesBelow}
 use Rattle.code.specs.declared.Code.{Code}
 use Rattle.code.specs.declared.Description.the-variants.{Accepted, Refused}
-use Rattle.code.specs.Description.{describe}
+use Rattle.code.specs.Description.{describeUpTo, describe}
 
 -- D of document 01, with a last byte of choice, `E8` in D itself
 abbrev pub starredD : ℕ → List ℕ
@@ -30,5 +30,5 @@ StarredDescriptions =
     (describe D ≡ Accepted (starredCode 3)) × (describe (starredD 0xC0) ≡ Accepted (starredCode 1)) × (describe (starredD 0x80) ≡ Refused (Alone 8))
 
 pub starred-descriptions : StarredDescriptions
-unfolding describe judge refusedOr onesBelow
+unfolding describeUpTo judge refusedOr onesBelow
 starred-descriptions = (refl, refl, refl)

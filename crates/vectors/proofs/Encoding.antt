@@ -8,7 +8,7 @@ use Rattle.refusal.specs.Judge.{judge, refusedOr}
 use Rattle.bits.specs.Bit.{number}
 use Rattle.bits.specs.Mask.{onesBelow}
 use Rattle.bits.specs.Packing.{packed, unpacked}
-use Rattle.code.specs.Description.{describe}
+use Rattle.code.specs.Description.{describeUpTo}
 use Rattle.vectors.proofs.Descriptions.{D}
 use Rattle.crc.specs.Check.{checkOf}
 use Rattle.transform.specs.Transform.{covers, parity, transformed}
@@ -24,5 +24,5 @@ StarredEncoding byte =
     × (encoded D (0xB0 ∷ []) (byte ∷ []) ≡ (Refused (Alone 10), byte ∷ []))
 
 pub starred-encoding : (byte : ℕ) → StarredEncoding byte
-unfolding judge refusedOr table number onesBelow packed unpacked describe checkOf covers parity transformed placed codeword encodedBy encoded
+unfolding judge refusedOr table number onesBelow packed unpacked describeUpTo checkOf covers parity transformed placed codeword encodedBy encoded
 starred-encoding byte = (refl, refl, refl)

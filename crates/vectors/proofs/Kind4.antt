@@ -13,7 +13,7 @@ use Rattle.bits.specs.Mask.{onesBelow}
 use Rattle.bits.specs.Packing.{packed}
 use Rattle.code.specs.declared.Code.{Code}
 use Rattle.code.specs.declared.Description.the-variants.{Accepted as Coding, Refused as NoCode}
-use Rattle.code.specs.Description.{describe}
+use Rattle.code.specs.Description.{describeUpTo, describe}
 use Rattle.code.specs.Claims.{withStart}
 use Rattle.crc.specs.Check.{checkOf}
 use Rattle.transform.specs.Transform.{covers, parity, transformed, xors}
@@ -65,7 +65,7 @@ pub kind-4-rows :
     × (describe (ofKind 5) ≡ NoCode (Alone 3))
     × (describe (0x0B ∷ 0x00 ∷ 0x04 ∷ 0x00 ∷ 0x03 ∷ 0x01 ∷ 0x00 ∷ 0x00 ∷ 0x02 ∷ 0x00 ∷ 0xE8 ∷ []) ≡ NoCode (Alone 7))
     × (describe (0x0B ∷ 0x00 ∷ 0x04 ∷ 0x00 ∷ 0x03 ∷ 0x01 ∷ 0x01 ∷ 0x00 ∷ 0x02 ∷ 0x00 ∷ 0x80 ∷ []) ≡ NoCode (Alone 25))
-unfolding describe judge refusedOr onesBelow
+unfolding describeUpTo judge refusedOr onesBelow
 kind-4-rows = (refl, refl, refl, refl, refl, refl, refl, refl, refl, refl, refl, refl)
 
 describes : describe (D4 1) ≡ Coding code4
@@ -79,7 +79,7 @@ silent-at-1 byte = silence-fails (D4 1) code4 (byte ∷ []) describes (omega ari
 
 -- with T = 2 it is accepted on trial 2, by computation: a start does not keep later trials from accepting silence
 pub heard-at-2 : (byte : ℕ) → (decodedFull (D4 1) (silence code4) 2 (byte ∷ []) ≡ (Accepted 2 48, 0x80 ∷ [])) × (decodedRestarted (D4 1) (silence code4) 2 (byte ∷ []) ≡ (Accepted 2 35, 0x80 ∷ []))
-unfolding judge refusedOr table number onesBelow packed describe checkOf covers parity transformed xors taken channelValue f g leftValues rightValues firstWhere node information insert ordered run decodedBy decodedWith
+unfolding judge refusedOr table number onesBelow packed describeUpTo checkOf covers parity transformed xors taken channelValue f g leftValues rightValues firstWhere node information insert ordered run decodedBy decodedWith
 heard-at-2 byte = (refl, refl)
 
 -- demand 3 there, for every T that 14 allows
@@ -96,5 +96,5 @@ abbrev silent : ℕ → List ℕ
 silent T = 0x0E ∷ 0x00 ∷ 0x02 ∷ 0x00 ∷ T ∷ 0x00 ∷ replicate 8 0
 
 pub example-4 : printed (D ++ (silent 1 ++ (D4 1 ++ (silent 1 ++ (silent 2 ++ (D4 2 ++ silent 1)))))) ≡ text "code 8 3 1\nok 1 24 00\ncode 8 3 1\nno 16\nok 2 35 80\nno 25\nno 16\nend 7\n"
-unfolding judge refusedOr table number onesBelow packed describe checkOf covers parity transformed xors taken channelValue f g leftValues rightValues firstWhere node information insert ordered run decodedBy decodedWith decimalIn descriptionResponse decodingLine channelLine responded recordsIn responses printedFrom
+unfolding judge refusedOr table number onesBelow packed describeUpTo checkOf covers parity transformed xors taken channelValue f g leftValues rightValues firstWhere node information insert ordered run decodedBy decodedWith decimalIn descriptionResponse decodingLine channelLine responded recordsIn responses printedFrom
 example-4 = refl

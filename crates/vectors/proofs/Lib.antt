@@ -8,3 +8,4 @@ pub mod Resume
 pub mod Instances
 pub mod Starred
 pub mod Sets
+pub mod Longer

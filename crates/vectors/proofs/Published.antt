@@ -18,7 +18,7 @@ use Rattle.bits.specs.Mask.{onesBelow}
 use Rattle.bits.specs.Packing.{packed, unpacked}
 use Rattle.code.specs.declared.Code.{Code}
 use Rattle.code.specs.declared.Description.the-variants.{Accepted as Coding}
-use Rattle.code.specs.Description.{describe}
+use Rattle.code.specs.Description.{describeUpTo, describe}
 use Rattle.crc.specs.Check.{checkOf}
 use Rattle.transform.specs.Transform.{covers, parity, transformed}
 use Rattle.placing.specs.Place.{placed}
@@ -48,7 +48,7 @@ abbrev sent : List ℕ
 sent = 0x57 ∷ 0x08 ∷ 0xF8 ∷ 0xE3 ∷ 0x57 ∷ 0xA2 ∷ 0x07 ∷ 0x2A ∷ 0x07 ∷ 0xA2 ∷ 0x07 ∷ 0xE6 ∷ 0x07 ∷ 0x08 ∷ 0xF8 ∷ 0x2F ∷ []
 
 pub ibm-3740-code : describe description ≡ Coding code
-unfolding describe judge refusedOr onesBelow
+unfolding describeUpTo judge refusedOr onesBelow
 ibm-3740-code = refl
 
 -- the message has the published check behind the string
@@ -58,7 +58,7 @@ ibm-3740-message = refl
 
 -- and it is encoded, whatever bytes the output held
 pub ibm-3740-encoded : (output : List ℕ) → length output ≡ 16 → encoded description digits output ≡ (Done, sent)
-unfolding judge refusedOr table number onesBelow packed unpacked describe checkOf covers parity transformed placed codeword encodedBy encoded
+unfolding judge refusedOr table number onesBelow packed unpacked describeUpTo checkOf covers parity transformed placed codeword encodedBy encoded
 ibm-3740-encoded output size = rw size
 
 -- ---- received at strength 4, it decodes to the string on trial 1, by the noiseless clause

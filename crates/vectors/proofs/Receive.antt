@@ -9,7 +9,7 @@ use Rattle.refusal.specs.Judge.{judge, refusedOr}
 use Rattle.bits.specs.Bit.{number}
 use Rattle.bits.specs.Mask.{onesBelow}
 use Rattle.bits.specs.Packing.{packed}
-use Rattle.code.specs.Description.{describe}
+use Rattle.code.specs.Description.{describeUpTo}
 use Rattle.crc.specs.Check.{checkOf}
 use Rattle.transform.specs.Transform.{covers, parity, transformed, xors}
 use Rattle.placing.specs.Place.{taken}
@@ -32,10 +32,10 @@ channelV T = 0x0E ∷ 0x00 ∷ 0x02 ∷ 0x00 ∷ T ∷ 0x00 ∷ starredV 2
 
 -- the whole input and all that it prints
 pub example : printed (D ++ (channelV 2 ++ channelV 1)) ≡ text "code 8 3 1\nok 2 32 00\nno 16\nend 3\n"
-unfolding judge refusedOr table number onesBelow packed describe checkOf covers parity transformed xors taken channelValue f g leftValues rightValues firstWhere node information insert ordered run decodedBy decodedWith decimalIn descriptionResponse decodingLine channelLine responded recordsIn responses printedFrom
+unfolding judge refusedOr table number onesBelow packed describeUpTo checkOf covers parity transformed xors taken channelValue f g leftValues rightValues firstWhere node information insert ordered run decodedBy decodedWith decimalIn descriptionResponse decodingLine channelLine responded recordsIn responses printedFrom
 example = refl
 
 -- cut inside the second record, and by a length of 3, behind which nothing is read
 pub example-cut : (printed (D ++ take 13 (channelV 2)) ≡ text "code 8 3 1\ncut\nend 1\n") × (printed (0x03 ∷ 0x00 ∷ 0x01 ∷ 0x00 ∷ D) ≡ text "cut\nend 0\n")
-unfolding judge refusedOr onesBelow describe decimalIn descriptionResponse responded recordsIn responses printedFrom
+unfolding judge refusedOr onesBelow describeUpTo decimalIn descriptionResponse responded recordsIn responses printedFrom
 example-cut = (refl, refl)

@@ -8,7 +8,7 @@ use Rattle.laws.specs.Table.{table}
 use Rattle.refusal.specs.declared.Refusal.the-variants.{At}
 use Rattle.refusal.specs.Judge.{judge, refusedOr}
 use Rattle.bits.specs.Mask.{onesBelow}
-use Rattle.code.specs.Description.{describe}
+use Rattle.code.specs.Description.{describeUpTo}
 use Rattle.transform.specs.Transform.{covers, parity, transformed, xors}
 use Rattle.values.specs.Values.{f, g, leftValues, rightValues}
 use Rattle.channel.specs.Channel.{channelValue}
@@ -30,5 +30,5 @@ StarredResume =
     × (resumed D (starredV 0xE0) [] output ≡ (Refused (At 13 7), output))
 
 pub starred-resume : StarredResume
-unfolding judge refusedOr table onesBelow describe covers parity transformed xors channelValue f g leftValues rightValues node firstWhere resumedBy resumed
+unfolding judge refusedOr table onesBelow describeUpTo covers parity transformed xors channelValue f g leftValues rightValues node firstWhere resumedBy resumed
 starred-resume = (refl, refl, refl, refl)

@@ -17,7 +17,7 @@ use Rattle.bits.specs.Bit.{number}
 use Rattle.bits.specs.Mask.{maskBit, onesBelow}
 use Rattle.bits.specs.Packing.{packed, unpacked}
 use Rattle.code.specs.declared.Description.the-variants.{Accepted as Coding}
-use Rattle.code.specs.Description.{maskOf, describe}
+use Rattle.code.specs.Description.{maskOf, describeUpTo, describe}
 use Rattle.crc.specs.Check.{checkOf}
 use Rattle.transform.specs.Transform.{covers, parity, transformed}
 use Rattle.placing.specs.Place.{placed}
@@ -219,7 +219,7 @@ abbrev noiseless80 : List ℕ
 noiseless80 = 0xFC ∷ 0x04 ∷ 0xFC ∷ 0x04 ∷ 0x04 ∷ 0xFC ∷ 0x04 ∷ 0xFC ∷ []
 
 encodes : encoded wideD (0x80 ∷ []) (0 ∷ []) ≡ (Done, 0xA5 ∷ [])
-unfolding judge refusedOr table number onesBelow packed unpacked describe checkOf covers parity transformed placed codeword encodedBy encoded
+unfolding judge refusedOr table number onesBelow packed unpacked describeUpTo checkOf covers parity transformed placed codeword encodedBy encoded
 encodes = refl
 
 small : (m : ℕ) → getD (0x80 ∷ []) m 0 < 256

@@ -6,7 +6,7 @@
 #include <stdint.h>
 
 /* The largest n. */
-#define DEEPEST 10
+#define DEEPEST 12
 
 enum { SIZE = 1 << DEEPEST, HEADER = 8 };
 

@@ -17,9 +17,10 @@ static uint64_t encode(const uint8_t *description, size_t description_len, const
         return answer(10, 0, 0);
     if (codeword_len != code.size / 8)
         return answer(11, 0, 0);
-    uint8_t message[SIZE] = {0}, u[SIZE];
+    uint8_t message[SIZE], u[SIZE];
     unpack(payload, code.k, message);
     put_check(&code, message);
+    memset(message + code.k + code.r, 0, code.size - code.k - code.r); /* place reads a bit past the message */
     place(&code, message, u);
     transform(u, code.size);
     pack(u, code.size, codeword);

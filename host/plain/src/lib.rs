@@ -19,5 +19,5 @@ pub use resume::resume;
 pub use sets::{decode_sets_full, decode_sets_restarted};
 
 /// The largest n and N.
-const DEEPEST: u8 = 10;
+const DEEPEST: u8 = 12;
 const SIZE: usize = 1 << DEEPEST;

@@ -14,7 +14,7 @@ fn f(a: i32, b: i32) -> i32 {
     }
 }
 
-/// The right value under a left sum bit. Nothing wraps: magnitudes stay below 2^15.
+/// The right value under a left sum bit. Nothing wraps: magnitudes stay below 2^17.
 fn g(a: i32, b: i32, sum: u8) -> i32 {
     if sum == 0 {
         b.wrapping_add(a)

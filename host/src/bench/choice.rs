@@ -12,11 +12,11 @@ pub const USAGE: &str = "\
 bench [OPERATION ..] [--n N ..] [--t T ..] [--w W ..] [--k K ..] [--rounds R]
   OPERATION   encode, pass, full, restarted, quantise, sets-full or sets-restarted; all where none is
               named
-  --n N       the code lengths, as n from 5 on; 5, 7 and the largest where none is named
+  --n N       the code lengths, as n from 5 on; 5, 7, 10 and the largest where none is named
   --t T       the trial limits, from 1 on, or all for K + 1; 1, 13 and all where none is named
   --w W       the most flips of a set, 2 or 3; both where none is named
   --k K       the payload sizes of flip sets, those of document 000; all where none is named
-  --rounds R  how many rounds each row takes, instead of as many as about two seconds hold";
+  --rounds R  how many rounds each row takes, instead of 10 to 205, the fewer the longer a round takes";
 
 /// The rows to measure, and the number of rounds where it is set.
 #[derive(Debug, PartialEq, Eq)]
@@ -224,9 +224,9 @@ mod tests {
 
     #[test]
     fn one_row_of_flip_sets() {
-        let choice = read("sets-restarted --w 3 --k 512").expect("a choice");
+        let choice = read("sets-restarted --w 3 --k 256").expect("a choice");
         let search = Search {
-            k: 512,
+            k: 256,
             most_flips: 3,
             limit: 301,
         };

@@ -146,23 +146,10 @@ impl Sent {
 /// A code with a payload of an eighth to a half of its length.
 fn description(random: &mut Random, n: usize) -> Vec<u8> {
     let size = 1 << n;
-    let r = n + random.below(n / 2 + 2);
+    let r = 16.min(n + random.below(n / 2 + 2));
     let k = random.between(size / 8, size / 2);
     let polynomial = samples::polynomial(random, r);
-    record(n, r, polynomial, &reliable_mask(n, k + r))
-}
-
-/// A mask whose information indices are the most reliable ones by polarization weight: the sum of
-/// 2^(j/4) over the one bits j of an index.
-fn reliable_mask(n: usize, ones: usize) -> Vec<bool> {
-    let power = |j: usize| 2f64.powf(j as f64 / 4.0);
-    let weights: Vec<f64> = (0..n).fold(vec![0.0], |weights, j| {
-        let upper: Vec<f64> = weights.iter().map(|weight| weight + power(j)).collect();
-        [weights, upper].concat()
-    });
-    let mut indices: Vec<usize> = (0..1 << n).collect();
-    indices.sort_by(|&a, &b| weights[b].total_cmp(&weights[a]));
-    samples::mask_with(1 << n, &indices[..ones])
+    record(n, r, polynomial, &samples::reliable_mask(n, k + r))
 }
 
 /// A number of the standard normal distribution, by Box and Muller.
@@ -183,13 +170,6 @@ mod tests {
             let failing = frames.failing();
             assert!((26..=28).contains(&failing), "{failing}");
         }
-    }
-
-    #[test]
-    fn reliable_indices() {
-        let mask = reliable_mask(3, 4);
-        let indices: Vec<usize> = (0..8).filter(|&index| mask[index]).collect();
-        assert_eq!(indices, [3, 5, 6, 7]);
     }
 
     #[test]

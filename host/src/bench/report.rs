@@ -72,8 +72,8 @@ pub fn print_setting() {
     println!("one frame in ten fails its first trial. Rows with w are of flip sets: {COUNT} frames of one code at the");
     println!("Eb/N0 of document 000, table I. A ratio is polar's time to the other's in one round, in which the");
     println!("codecs take turns. Each number is a median over the quieter half of the rounds made by {PROCESSES}");
-    println!("processes; how many these are stands last. Before, all codecs have given the same answers and");
-    println!("outputs for all frames.");
+    println!("processes; how many these are stands last, fewer where a round takes more than a second. Before,");
+    println!("all codecs have given the same answers and outputs for all frames.");
     println!();
     println!("processor  {}", processor());
     println!("load       {}", load());

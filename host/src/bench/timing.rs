@@ -21,6 +21,11 @@ const TURN: f64 = 1e6;
 const BUDGET: f64 = 2e9 / PROCESSES as f64;
 const ROUNDS: RangeInclusive<usize> = 5..=41;
 
+/// Rounds that take longer than this, in nanoseconds, are fewer. They are those of the longest frames
+/// with T = K + 1.
+const LONG_ROUND: f64 = 1e9;
+const LONG_ROUNDS: usize = 2;
+
 /// In how many places of the stack the rounds are made.
 const PLACES: usize = 61;
 
@@ -87,11 +92,8 @@ pub fn take(task: Task, codecs: &[Codec], frames: &[Frame], rounds: Option<usize
     let sweep = time(task, &codecs[0], frames, 1).max(1.0);
     let sweeps = (TURN / sweep).ceil();
     let part = (COUNT as f64 * TURN / sweep).ceil() as usize;
-    let within = (BUDGET / (sweep * sweeps * codecs.len() as f64)) as usize;
-    let rounds = match rounds {
-        Some(rounds) => rounds.div_ceil(PROCESSES),
-        None => within.clamp(*ROUNDS.start(), *ROUNDS.end()),
-    };
+    let within = rounds_within_budget(sweep * sweeps * codecs.len() as f64);
+    let rounds = rounds.map_or(within, |rounds| rounds.div_ceil(PROCESSES));
     let mut times = vec![Vec::with_capacity(rounds); codecs.len()];
     for index in 0..rounds {
         let parts = frames.chunks(part);
@@ -103,6 +105,15 @@ pub fn take(task: Task, codecs: &[Codec], frames: &[Frame], rounds: Option<usize
         }
     }
     times.into_iter().map(Times).collect()
+}
+
+/// How many rounds a process makes of a row whose rounds take so long.
+fn rounds_within_budget(round: f64) -> usize {
+    if round > LONG_ROUND {
+        LONG_ROUNDS
+    } else {
+        ((BUDGET / round) as usize).clamp(*ROUNDS.start(), *ROUNDS.end())
+    }
 }
 
 /// Makes a call further down the stack, by about a hundred bytes for each unit of depth: where a
@@ -183,6 +194,12 @@ mod tests {
     fn the_middle_of_an_odd_number() {
         assert_eq!(median(vec![3.0, 1.0, 2.0]), 2.0);
         assert_eq!(median(vec![9.0, 1.0, 2.0, 4.0, 3.0]), 3.0);
+    }
+
+    #[test]
+    fn longer_rounds_are_fewer() {
+        let rounds = [1e6, 2e7, 1e9, 2e9].map(rounds_within_budget);
+        assert_eq!(rounds, [41, 20, 5, 2]);
     }
 
     #[test]

@@ -1,4 +1,4 @@
-//! Writes the cases of `receive` with what the reference prints, and the recording, into the
+//! Writes the cases of `receive` with what the reference prints, and the recordings, into the
 //! repository.
 
 use std::fs;
@@ -15,9 +15,8 @@ fn main() -> Result<()> {
         fs::write(cases.join(format!("{name}.out")), receive(&stream))?;
         fs::write(cases.join(format!("{name}.in")), stream)?;
     }
-    fs::create_dir_all(repository().join("recordings"))?;
-    fs::write(
-        repository().join("recordings/run.bin"),
-        streams::recording(),
-    )
+    let recordings = repository().join("recordings");
+    fs::create_dir_all(&recordings)?;
+    fs::write(recordings.join("run.bin"), streams::recording())?;
+    fs::write(recordings.join("survey.bin"), streams::survey())
 }

@@ -211,7 +211,7 @@ fn has_term_from(polynomial: u16, r: usize) -> bool {
 #[cfg(test)]
 mod tests {
     use super::*;
-    use crate::reference::sizes::DEEPEST;
+    use crate::reference::sizes::{DEEPEST, LONGEST};
     use crate::testing::hex::parse;
     use crate::testing::paper::{D, D_WITH_START};
 
@@ -295,13 +295,30 @@ mod tests {
         let mask: Vec<bool> = (0..8).map(|i| [3, 5, 6, 7].contains(&i)).collect();
         assert_eq!(record(3, 1, 1, &mask), D);
         assert_eq!(record_with_start(3, 1, 1, 1, &mask), D_WITH_START);
-        let long = record(10, 11, 0x0621, &last(10, 512));
+        let long = record(10, 11, 0x0621, &last(10, 8 * 64));
         assert_eq!(long[..8], parse("88 00 01 00 0A 0B 21 06"));
         assert_eq!(long[8..], [[0x00; 64], [0xFF; 64]].concat());
         let long = with_start(&long, 0x0456);
         assert_eq!(long[..10], parse("8A 00 04 00 0A 0B 21 06 56 04"));
         assert_eq!(long[10..], [[0x00; 64], [0xFF; 64]].concat());
         assert_eq!(with_start(&long, 0x0456), long);
+    }
+
+    /// Their length has a second byte that is not zero.
+    #[test]
+    fn the_longest_records() {
+        let longest = record(DEEPEST, 16, 0x8005, &[true; LONGEST]);
+        assert_eq!(longest[..8], parse("08 02 01 00 0C 10 05 80"));
+        assert_eq!(longest[8..], [0xFF; LONGEST_BYTES]);
+        accepted(&longest, code(DEEPEST, 16, 0x8005, LONGEST - 16));
+        let longest = with_start(&longest, 0);
+        assert_eq!(longest[..10], parse("0A 02 04 00 0C 10 05 80 00 00"));
+        assert_eq!(longest.len(), LONGEST_DESCRIPTION);
+        accepted(&longest, code(DEEPEST, 16, 0x8005, LONGEST - 16));
+        refused(&with(&longest, 1, &[0]), 2);
+        let beyond = record(DEEPEST + 1, 16, 0x8005, &[true; 2 * LONGEST]);
+        refused(&beyond, 4);
+        refused(&with_start(&beyond, 0), 4);
     }
 
     #[test]

@@ -321,7 +321,7 @@ mod tests {
     fn leaf_magnitudes_keep_the_bound() {
         let rules = vec![Rule::Usual; LONGEST];
         let largest = pass(&[31; LONGEST], &[], &rules).leaves;
-        assert_eq!(largest.iter().max(), Some(&(31 << DEEPEST)));
+        assert_eq!(largest.iter().max(), Some(&126_976));
         let mut random = Random::new(7);
         for _ in 0..20 {
             let leaves = pass(&random_values(&mut random, LONGEST), &[], &rules).leaves;

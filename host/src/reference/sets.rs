@@ -1,6 +1,7 @@
 //! Flip sets, full and restarted: document 02, request 2.2; document 000, section II-D, with the
 //! metric of (6) and (8) in quarter units.
 
+use std::collections::BTreeSet;
 use std::ops::RangeInclusive;
 
 use crate::reference::description::{information_indices, is_information, Code};
@@ -65,14 +66,21 @@ pub fn limits(code: &Code, most_flips: u32) -> RangeInclusive<u32> {
 
 /// The sum of a set's magnitudes, and 6 for each information index up to and including its largest
 /// whose magnitude is at most 20.
-pub fn metric(mask: &[u8], leaves: &[i64], set: &[usize]) -> i64 {
-    let magnitude = |index: usize| leaves[index].abs();
+fn metric(leaves: &[i64], doubtful: &[i64], set: &[usize]) -> i64 {
     let largest = *set.last().expect("an index");
-    let doubtful = (0..=largest)
-        .filter(|&index| is_information(mask, index) && magnitude(index) <= DOUBTFUL)
-        .count();
-    let sum: i64 = set.iter().map(|&index| magnitude(index)).sum();
-    sum + PENALTY * doubtful as i64
+    let sum: i64 = set.iter().map(|&index| leaves[index].abs()).sum();
+    sum + PENALTY * doubtful[largest]
+}
+
+/// Of each index, how many information indices up to and including it have a magnitude of at most
+/// 20.
+fn doubtful(mask: &[u8], leaves: &[i64]) -> Vec<i64> {
+    let is_doubtful = |index| is_information(mask, index) && leaves[index].abs() <= DOUBTFUL;
+    let count = |sum: &mut i64, index| {
+        *sum += i64::from(is_doubtful(index));
+        Some(*sum)
+    };
+    (0..leaves.len()).scan(0, count).collect()
 }
 
 /// A set with its metric. Tuples and lists compare as the order of sets wants it: by metric, then
@@ -82,11 +90,12 @@ type Candidate = (i64, Vec<usize>);
 /// The sets with one information index more, above all others, and their metrics in the trial of
 /// the set given. Trial 1's are the single indices.
 fn candidates(mask: &[u8], leaves: &[i64], set: &[usize]) -> Vec<Candidate> {
+    let doubtful = doubtful(mask, leaves);
     information_indices(mask)
         .into_iter()
         .filter(|index| set.iter().all(|other| other < index))
         .map(|index| [set, &[index]].concat())
-        .map(|longer| (metric(mask, leaves, &longer), longer))
+        .map(|longer| (metric(leaves, &doubtful, &longer), longer))
         .collect()
 }
 
@@ -131,11 +140,11 @@ struct Run {
 }
 
 /// Makes trials until one passes, or T are made, or no untried set is left. No untried set is ever
-/// dropped, and all are sorted before each trial.
+/// dropped.
 fn run(frame: &Frame, most_flips: u32, limit: u32, later_trial: LaterTrial) -> Run {
     let first = frame.first_trial();
     let mut tried = first.clone();
-    let mut untried = Vec::new();
+    let mut untried = BTreeSet::new();
     let mut run = Run {
         sets: vec![vec![]],
         steps: first.steps,
@@ -146,11 +155,9 @@ fn run(frame: &Frame, most_flips: u32, limit: u32, later_trial: LaterTrial) -> R
         if last.len() < most_flips as usize {
             untried.extend(candidates(frame.mask, &tried.leaves, last));
         }
-        untried.sort();
-        if untried.is_empty() {
+        let Some((_, set)) = untried.pop_first() else {
             break;
-        }
-        let (_, set) = untried.remove(0);
+        };
         tried = later_trial(frame, &first, &set);
         run.sets.push(set);
         run.steps += tried.steps;
@@ -199,10 +206,15 @@ mod tests {
     type Decoder = fn(&[u8], &[u8], u32, u32, &mut [u8]) -> Result<Accepted, Refusal>;
     const BOTH: [Decoder; 2] = [decode_sets_full, decode_sets_restarted];
 
+    /// The largest trial limit where w is above 1.
+    const MOST: u32 = *LIMITS_OF_SETS.end();
+
     #[test]
     fn metrics_by_hand() {
         let leaves = [0, 0, 0, -20, 0, 21, 20, -5];
-        let of = |set: &[usize]| metric(&MASK_OF_D, &leaves, set);
+        let doubtful = doubtful(&MASK_OF_D, &leaves);
+        assert_eq!(doubtful, [0, 0, 0, 1, 1, 1, 2, 3]);
+        let of = |set: &[usize]| metric(&leaves, &doubtful, set);
         assert_eq!([of(&[3]), of(&[5])], [20 + 6, 21 + 6]);
         assert_eq!([of(&[6]), of(&[7])], [20 + 12, 5 + 18]);
         assert_eq!([of(&[3, 6]), of(&[5, 7])], [20 + 20 + 12, 21 + 5 + 18]);
@@ -268,7 +280,7 @@ mod tests {
         let d = with_a_check_of_three_bits();
         let mut sizes = [0; 4];
         for channel in samples::small_vectors() {
-            for (most_flips, limit) in [(1, 5), (2, 5), (2, 12), (3, 9), (3, 512)] {
+            for (most_flips, limit) in [(1, 5), (2, 5), (2, 12), (3, 9), (3, MOST)] {
                 let frame = Frame::read(&d, &channel).expect("a frame");
                 let sets = sets_tried(&frame, most_flips, limit);
                 check_sets(&sets, most_flips);
@@ -307,8 +319,9 @@ mod tests {
         for channel in samples::small_vectors() {
             let frame = Frame::read(&d, &channel).expect("a frame");
             let leaves = frame.first_trial().leaves;
+            let doubtful = doubtful(&MASK_OF_D, &leaves);
             let mut order = [3, 5, 6, 7];
-            order.sort_by_key(|&index| (metric(&MASK_OF_D, &leaves, &[index]), index));
+            order.sort_by_key(|&index| (metric(&leaves, &doubtful, &[index]), index));
             let tried = sets_tried(&frame, 1, 5);
             let expected = order.map(|index| vec![index]);
             assert_eq!(tried[1..], expected[..tried.len() - 1]);
@@ -321,7 +334,7 @@ mod tests {
         let d = with_a_check_of_three_bits();
         for channel in samples::small_vectors() {
             let frame = Frame::read(&d, &channel).expect("a frame");
-            let all = sets_tried(&frame, 3, 512);
+            let all = sets_tried(&frame, 3, MOST);
             for limit in 1..=16 {
                 let some = sets_tried(&frame, 3, limit);
                 assert_eq!(some, all[..all.len().min(limit as usize)]);
@@ -379,7 +392,7 @@ mod tests {
             let channel = samples::noiseless(random, &x);
             for decoder in BOTH {
                 let most_flips = random.between(1, 3) as u32;
-                let limit = random.between(1, code.information().min(512)) as u32;
+                let limit = random.between(1, code.information().min(MOST as usize)) as u32;
                 let mut output = random.bytes(packed_length(code.k));
                 let answer = decoder(d, &channel, most_flips, limit, &mut output);
                 let steps = code.n << code.n;

@@ -1,10 +1,10 @@
-//! The sizes of document 01: n lies in `LAYERS`, and the others follow from the largest n, but for
-//! the longest record.
+//! The sizes of document 01, with the largest n of document 02, request 2.3: n lies in `LAYERS`, and
+//! the others follow from the largest n, but for the longest record.
 
 use std::ops::RangeInclusive;
 
 /// The layers of a code, n.
-pub const LAYERS: RangeInclusive<usize> = 3..=10;
+pub const LAYERS: RangeInclusive<usize> = 3..=12;
 
 /// The largest n.
 pub const DEEPEST: usize = *LAYERS.end();

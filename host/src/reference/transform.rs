@@ -1,14 +1,18 @@
 //! The polar transform: document 01, "Check and encoder". Bits are 0 or 1, one per byte.
 
+use std::iter::successors;
+
 /// x_j is the exclusive-or of every u_i for which each one bit of j is also one in i.
 pub fn transform(u: &[u8]) -> Vec<u8> {
     (0..u.len())
-        .map(|j| {
-            (0..u.len())
-                .filter(|i| i & j == j)
-                .fold(0, |sum, i| sum ^ u[i])
-        })
+        .map(|j| with_bits(j, u.len()).fold(0, |sum, i| sum ^ u[i]))
         .collect()
+}
+
+/// The indices below `size` in which each one bit of j is one, ascending: the next one after i has
+/// the other bits of i + 1.
+fn with_bits(j: usize, size: usize) -> impl Iterator<Item = usize> {
+    successors(Some(j), move |i| Some((i + 1) | j)).take_while(move |&i| i < size)
 }
 
 #[cfg(test)]
@@ -37,6 +41,17 @@ mod tests {
             .collect()
     }
 
+    /// Those that are left where all others are sorted out.
+    #[test]
+    fn indices_with_the_bits_of_another() {
+        for size in [1, 2, 64, 128] {
+            for j in 0..size {
+                let all = (0..size).filter(|i| i & j == j);
+                assert!(with_bits(j, size).eq(all), "{j} of {size}");
+            }
+        }
+    }
+
     #[test]
     fn the_smallest_is_the_kernel() {
         assert_eq!(transform(&[1, 0]), [1, 0]);
@@ -47,9 +62,9 @@ mod tests {
     #[test]
     fn is_the_matrix_of_document_000() {
         let mut random = Random::new(1);
-        for n in 0..=8 {
+        for n in 0..=DEEPEST {
             let matrix = kronecker_power(n);
-            for _ in 0..10 {
+            for _ in 0..3 {
                 let u = random.bits(1 << n);
                 assert_eq!(transform(&u), times(&u, &matrix));
             }

@@ -57,15 +57,17 @@ fn log_phi(mean: f64) -> f64 {
 #[cfg(test)]
 mod tests {
     use super::*;
-    use crate::reference::sizes::{DEEPEST, LONGEST};
+    use crate::simulation::DEPTH;
+
+    const SIZE: usize = 1 << DEPTH;
 
     #[test]
     fn a_set_has_its_size_and_the_best_indices() {
         for (ones, mean) in [(144, 0.67), (272, 1.33), (528, 3.56)] {
-            let mask = information_set(DEEPEST, ones, mean);
-            assert_eq!(mask.len(), LONGEST);
+            let mask = information_set(DEPTH, ones, mean);
+            assert_eq!(mask.len(), SIZE);
             assert_eq!(mask.iter().filter(|&&one| one).count(), ones);
-            assert!(mask[LONGEST - 1] && !mask[0]);
+            assert!(mask[SIZE - 1] && !mask[0]);
         }
     }
 
@@ -73,9 +75,9 @@ mod tests {
     #[test]
     fn a_set_is_closed_under_setting_bits() {
         for (ones, mean) in [(144, 0.67), (272, 1.33), (528, 3.56)] {
-            let mask = information_set(DEEPEST, ones, mean);
-            for index in (0..LONGEST).filter(|&index| mask[index]) {
-                assert!((0..DEEPEST).all(|bit| mask[index | 1 << bit]), "{index}");
+            let mask = information_set(DEPTH, ones, mean);
+            for index in (0..SIZE).filter(|&index| mask[index]) {
+                assert!((0..DEPTH).all(|bit| mask[index | 1 << bit]), "{index}");
             }
         }
     }

@@ -1,5 +1,7 @@
 //! What the operations are lent, all for one description.
 
+use std::ops::RangeInclusive;
+
 use crate::reference::description::{describe, mask_of};
 use crate::reference::encode::codeword;
 use crate::reference::packing::{pack, packed_length};
@@ -52,6 +54,26 @@ impl Call {
             7 => self.room[random.below(3)] += 1,
             8 => self.most_flips = samples::wrong_most_flips(random),
             _ => (),
+        }
+    }
+}
+
+/// Gives calls for descriptions of kind 1 to a test, some with a fault; more of the shorter codes.
+pub fn for_calls(
+    seed: u64,
+    layers: RangeInclusive<usize>,
+    mut test: impl FnMut(&mut Random, Call),
+) {
+    let mut random = Random::new(seed);
+    for n in layers {
+        for round in 0..(40_000 >> n).max(300) {
+            let d = match round % 2 {
+                0 => samples::useful_description_of_kind_1(&mut random, n),
+                _ => samples::description_of_kind_1(&mut random, n),
+            };
+            let mut call = Call::new(&mut random, d, [0, 4, 8, 12][round % 4]);
+            call.spoil(&mut random);
+            test(&mut random, call);
         }
     }
 }

@@ -58,8 +58,8 @@ pub fn check(d: &[u8], channel: &[u8], limit: u32, before: &[u8]) -> Result<Acce
     full.0
 }
 
-/// The flipped index of each trial after the first.
-fn flipped(d: &[u8], channel: &[u8], trials: usize) -> Vec<usize> {
+/// The flipped index of each of so many trials, after the first.
+pub fn flipped(d: &[u8], channel: &[u8], trials: usize) -> Vec<usize> {
     if trials == 1 {
         return vec![];
     }

@@ -1,6 +1,7 @@
 //! Small examples of flip sets, calculated by hand. Their codes have N = 8 and the information
 //! indices 3, 5, 6 and 7; a later trial resumes at 5, 6, 7 or 8 and then makes 11, 8, 7 or 0 steps.
 
+use crate::reference::sets::LIMITS_OF_SETS;
 use crate::testing::samples::value_byte;
 
 /// A call, and what comes of it.
@@ -33,6 +34,9 @@ const D: &[u8] = &[9, 0, 1, 0, 3, 1, 1, 0, 0xE8];
 const CHECK_7: &[u8] = &[9, 0, 1, 0, 3, 2, 3, 0, 0xE8]; // z^2 + z + 1
 const CHECK_B: &[u8] = &[9, 0, 1, 0, 3, 3, 3, 0, 0xE8]; // z^3 + z + 1
 const CHECK_D: &[u8] = &[9, 0, 1, 0, 3, 3, 5, 0, 0xE8]; // z^3 + z^2 + 1
+
+/// The largest trial limit where sets may have two indices.
+const MOST: u32 = *LIMITS_OF_SETS.end();
 
 /// CHECK_D as kind 4, with start 5.
 const CHECK_D_WITH_START: &[u8] = &[11, 0, 4, 0, 3, 3, 5, 0, 5, 0, 0xE8];
@@ -99,7 +103,7 @@ pub const EXAMPLES: [Example; 11] = [
         description: CHECK_B,
         values: [4, 6, -5, -3, -4, 3, 1, -5],
         most_flips: 2,
-        limit: 512,
+        limit: MOST,
         sets: &[
             &[3],
             &[3, 5],
@@ -151,7 +155,7 @@ pub const EXAMPLES: [Example; 11] = [
         description: CHECK_B,
         values: [0, 3, 1, -1, -2, -2, 3, -1],
         most_flips: 2,
-        limit: 512,
+        limit: MOST,
         sets: &[&[3], &[3, 5], &[5], &[6], &[3, 6], &[5, 6]],
         payload: Some(0x00),
         restarted_steps: 24 + 11 + 11 + 8 + 7 + 11 + 8,

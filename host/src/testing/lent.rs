@@ -1,8 +1,9 @@
 //! Calls of the library on buffers that are lent between guard bytes. Each gives the answer, and the
 //! output after it.
 
+use crate::testing::call::Call;
 use crate::testing::guard::{lend_input, lend_output};
-use crate::testing::library::{self, SetDecoder};
+use crate::testing::library::{self, Decoder, SetDecoder};
 
 pub fn encode(d: &[u8], payload: &[u8], before: &[u8]) -> (u64, Vec<u8>) {
     lend_input(d, |d| {
@@ -48,4 +49,21 @@ pub fn decode_sets(
         by(d, channel, most_flips, limit, output)
     };
     decode(by, d, channel, limit, before)
+}
+
+/// Encode, resume, the decoders and those with flip sets, each full and restarted, on the inputs of a
+/// call and a description.
+pub fn answers(call: &Call, d: &[u8]) -> [(u64, Vec<u8>); 6] {
+    let [codeword, bits, payload] = call.room.map(|length| vec![0xEE; length]);
+    let (channel, most_flips, limit) = (&call.channel, call.most_flips, call.limit);
+    let decode = |by: Decoder| self::decode(by, d, channel, limit, &payload);
+    let decode_sets = |by| self::decode_sets(by, d, channel, most_flips, limit, &payload);
+    [
+        encode(d, &call.payload, &codeword),
+        resume(d, channel, &call.prefix, &bits),
+        decode(library::decode_full),
+        decode(library::decode_restarted),
+        decode_sets(library::decode_sets_full),
+        decode_sets(library::decode_sets_restarted),
+    ]
 }

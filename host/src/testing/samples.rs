@@ -261,6 +261,19 @@ pub fn useful_mask(size: usize, ones: usize) -> Vec<bool> {
     mask_with(size, &indices[..ones])
 }
 
+/// A mask of 2^n indices whose information indices are the most reliable ones by polarization
+/// weight: the sum of 2^(j/4) over the one bits j of an index.
+pub fn reliable_mask(n: usize, ones: usize) -> Vec<bool> {
+    let power = |j: usize| 2f64.powf(j as f64 / 4.0);
+    let weights: Vec<f64> = (0..n).fold(vec![0.0], |weights, j| {
+        let upper: Vec<f64> = weights.iter().map(|weight| weight + power(j)).collect();
+        [weights, upper].concat()
+    });
+    let mut indices: Vec<usize> = (0..1 << n).collect();
+    indices.sort_by(|&a, &b| weights[b].total_cmp(&weights[a]));
+    mask_with(1 << n, &indices[..ones])
+}
+
 /// A mask of `size` indices whose information indices are these.
 pub fn mask_with(size: usize, information: &[usize]) -> Vec<bool> {
     let mut mask = vec![false; size];
@@ -435,9 +448,11 @@ mod tests {
 
     /// Four of eight are those of D.
     #[test]
-    fn useful_indices() {
-        let d = record(3, 1, 1, &useful_mask(8, 4));
-        assert_eq!(information_indices(mask_of(&d)), [3, 5, 6, 7]);
+    fn useful_and_reliable_indices() {
+        for mask in [useful_mask(8, 4), reliable_mask(3, 4)] {
+            let d = record(3, 1, 1, &mask);
+            assert_eq!(information_indices(mask_of(&d)), [3, 5, 6, 7]);
+        }
     }
 
     #[test]

@@ -1,13 +1,20 @@
-//! Streams of records for the program `receive`: the cases in tests/cases, the recording that is
+//! Streams of records for the program `receive`: the cases in tests/cases, the recordings that are
 //! shipped, and random ones.
 
-use crate::reference::description::{describe, mask_of, record, record_with_start, Code};
+use std::ops::RangeInclusive;
+
+use crate::reference::description::{
+    describe, mask_of, record, record_with_start, with_start, Code,
+};
 use crate::reference::encode::codeword;
-use crate::reference::sizes::{DEEPEST, LAYERS, LONGEST, LONGEST_RECORD};
+use crate::reference::sizes::{DEEPEST, LONGEST, LONGEST_RECORD};
 use crate::testing::hex::parse;
 use crate::testing::paper::{D, D_WITH_START, V};
 use crate::testing::random::Random;
 use crate::testing::samples;
+
+/// The n of the long codes that have cases of their own.
+const LONG: RangeInclusive<usize> = 10..=DEEPEST;
 
 /// A channel record.
 pub fn channel(limit: u16, values: &[u8]) -> Vec<u8> {
@@ -17,9 +24,15 @@ pub fn channel(limit: u16, values: &[u8]) -> Vec<u8> {
 
 /// A record of any kind, of `length` bytes in all, whose body is zeros.
 pub fn blank(length: usize, kind: u16) -> Vec<u8> {
-    let mut record = vec![0; length];
+    let [low, high] = kind.to_le_bytes();
+    resized(&[0, 0, low, high], length)
+}
+
+/// A record that is cut, or goes on with zeros, to `length` bytes.
+fn resized(record: &[u8], length: usize) -> Vec<u8> {
+    let mut record = record.to_vec();
+    record.resize(length, 0);
     record[..2].copy_from_slice(&(length as u16).to_le_bytes());
-    record[2..4].copy_from_slice(&kind.to_le_bytes());
     record
 }
 
@@ -27,6 +40,12 @@ pub fn blank(length: usize, kind: u16) -> Vec<u8> {
 fn frame(random: &mut Random, d: &[u8], code: &Code, strength: usize, noise: usize) -> Vec<u8> {
     let sent = codeword(code, mask_of(d), &random.bits(code.k));
     samples::noisy(random, &sent, strength, noise)
+}
+
+/// A channel record with little noise, which trial 1 decodes.
+pub fn clear(random: &mut Random, d: &[u8], limit: u16) -> Vec<u8> {
+    let code = describe(d).expect("an accepted description");
+    channel(limit, &frame(random, d, &code, 20, 1))
 }
 
 /// A channel record of eight zeros.
@@ -37,13 +56,26 @@ fn silence(limit: u16) -> Vec<u8> {
 /// The recording: a code of N = 128, k = 40, r = 11 and then 300 frames, sixty at each of five
 /// noise levels.
 pub fn recording() -> Vec<u8> {
-    let mut random = Random::new(2026);
     let d = record(7, 11, 0x621, &samples::useful_mask(128, 51));
-    let code = describe(&d).expect("an accepted description");
-    let mut stream = d.clone();
-    for noise in [4, 5, 6, 7, 8] {
-        for _ in 0..60 {
-            stream.extend(channel(16, &frame(&mut random, &d, &code, 7, noise)));
+    recorded(2026, &d, [4, 5, 6, 7, 8], 60)
+}
+
+/// The recording of a survey: the longest description, with k = 1,024 and a check of 16 bits that
+/// starts at FFFF, and then twenty frames, four at each of five noise levels.
+pub fn survey() -> Vec<u8> {
+    let mask = samples::reliable_mask(DEEPEST, 1_024 + 16);
+    let d = record_with_start(DEEPEST, 16, 0x1021, 0xFFFF, &mask);
+    recorded(2027, &d, [6, 7, 8, 9, 10], 4)
+}
+
+/// A description and then frames under it, so many at each noise level, with T = 16.
+fn recorded(seed: u64, d: &[u8], levels: [usize; 5], frames: usize) -> Vec<u8> {
+    let mut random = Random::new(seed);
+    let code = describe(d).expect("an accepted description");
+    let mut stream = d.to_vec();
+    for noise in levels {
+        for _ in 0..frames {
+            stream.extend(channel(16, &frame(&mut random, d, &code, 7, noise)));
         }
     }
     stream
@@ -52,9 +84,11 @@ pub fn recording() -> Vec<u8> {
 /// The cases: a name and a stream each.
 pub fn cases() -> Vec<(String, Vec<u8>)> {
     let mut cases = refused_descriptions();
+    cases.extend(refused_long_descriptions());
     cases.extend(refused_frames());
     cases.extend(cuts());
     cases.extend(accepted());
+    cases.extend(long_codes());
     cases.extend(with_a_start());
     cases.extend(frames_with_a_start());
     cases
@@ -98,6 +132,27 @@ fn refused_descriptions() -> Vec<(String, Vec<u8>)> {
         .to_vec()
 }
 
+/// A description of each kind beyond the largest n, and the longest ones with a byte more and with
+/// one less, while D is held.
+fn refused_long_descriptions() -> Vec<(String, Vec<u8>)> {
+    let frame = channel(2, &V);
+    let longest = record(DEEPEST, 1, 1, &[true; LONGEST]);
+    let beyond = record(DEEPEST + 1, 1, 1, &[true; 2 * LONGEST]);
+    let kinds = [
+        ("description", longest.clone(), beyond.clone()),
+        ("kind-4", with_start(&longest, 1), with_start(&beyond, 1)),
+    ];
+    let of = |(kind, longest, beyond): (&str, Vec<u8>, Vec<u8>)| {
+        let named = |end: &str, d: &[u8]| case(&format!("{kind}-refused-{end}"), &[&D, d, &frame]);
+        [
+            named("4-beyond", &beyond),
+            named("5-longest-and-more", &resized(&longest, longest.len() + 1)),
+            named("5-longest-but-one", &resized(&longest, longest.len() - 1)),
+        ]
+    };
+    kinds.into_iter().flat_map(of).collect()
+}
+
 /// D with a start: silence at two limits and with start 0, a start that stays held when others are
 /// refused, and kinds that are nearly 4.
 fn with_a_start() -> Vec<(String, Vec<u8>)> {
@@ -118,7 +173,7 @@ fn with_a_start() -> Vec<(String, Vec<u8>)> {
 }
 
 /// Frames under the recording's code with a start, under more and more noise and of zeros alone, and
-/// the longest description.
+/// one under each of the long codes.
 fn frames_with_a_start() -> Vec<(String, Vec<u8>)> {
     let mut random = Random::new(21);
     let d = record_with_start(7, 11, 0x621, 0x5A5, &samples::useful_mask(128, 51));
@@ -126,14 +181,14 @@ fn frames_with_a_start() -> Vec<(String, Vec<u8>)> {
     let noise = [1, 5, 6, 7, 7, 7, 7, 8];
     let noisy = noise.map(|noise| channel(16, &frame(&mut random, &d, &code, 7, noise)));
     let zeros = channel(16, &[0; 128]);
-    let mask = samples::useful_mask(LONGEST, LONGEST / 2);
-    let longest = record_with_start(DEEPEST, 16, 0x8005, 0xFFFF, &mask);
-    let code = describe(&longest).expect("an accepted description");
-    let clear = channel(1, &frame(&mut random, &longest, &code, 20, 1));
-    vec![
-        case("kind-4-frames", &[&d, &noisy.concat(), &zeros]),
-        case("kind-4-largest-code", &[&longest, &clear]),
-    ]
+    let mut cases = vec![case("kind-4-frames", &[&d, &noisy.concat(), &zeros])];
+    for n in LONG {
+        let mask = samples::useful_mask(1 << n, 1 << (n - 1));
+        let long = record_with_start(n, 16, 0x8005, 0xFFFF, &mask);
+        let name = format!("kind-4-code-of-{}", 1 << n);
+        cases.push(case(&name, &[&long, &clear(&mut random, &long, 1)]));
+    }
+    cases
 }
 
 /// A channel record refused by each number that it can meet.
@@ -173,10 +228,7 @@ fn cuts() -> Vec<(String, Vec<u8>)> {
 
 /// Streams without a refusal of theirs, or with many records.
 fn accepted() -> Vec<(String, Vec<u8>)> {
-    let mut random = Random::new(1024);
-    let long = samples::useful_description_of_kind_1(&mut random, DEEPEST);
-    let code = describe(&long).expect("an accepted description");
-    let clear = frame(&mut random, &long, &code, 20, 1);
+    let long = samples::useful_description_of_kind_1(&mut Random::new(1 << 10), 10);
     let longest = blank(LONGEST_RECORD, 2);
     let other = ["04 00 00 00", "05 00 03 00 FF", "06 00 FF FF 01 00"].map(parse);
     let many = [D.to_vec(), channel(2, &V), other[1].clone()].concat();
@@ -185,10 +237,24 @@ fn accepted() -> Vec<(String, Vec<u8>)> {
         case("other-kinds", &[&other[0], &other[1], &other[2]]),
         case("longest-record", &[&D, &longest, &channel(2, &V)]),
         case("longest-other-kind", &[&blank(LONGEST_RECORD, 65_535)]),
-        case("largest-code", &[&long, &channel(1, &clear)]),
         case("last-description", &[&long, &D, &channel(5, &V)]),
         case("many-records", &[&many.repeat(400)]),
     ]
+}
+
+/// A frame under each of the long codes, and all of them in turns with D.
+fn long_codes() -> Vec<(String, Vec<u8>)> {
+    let mut cases = Vec::new();
+    let mut turns = Vec::new();
+    for n in LONG {
+        let mut random = Random::new(1 << n);
+        let d = samples::useful_description_of_kind_1(&mut random, n);
+        let records = [d.clone(), clear(&mut random, &d, 1)].concat();
+        cases.push(case(&format!("code-of-{}", 1 << n), &[&records]));
+        turns.extend([records, D.to_vec(), channel(5, &V)].concat());
+    }
+    cases.push(case("long-codes-in-turns", &[&turns]));
+    cases
 }
 
 /// A short stream with a record of every sort.
@@ -241,19 +307,20 @@ pub fn printing(length: usize) -> Vec<u8> {
 pub fn long_lines(before: usize, frames: usize) -> Vec<u8> {
     let mut random = Random::new(before as u64);
     let d = record(DEEPEST, 1, 1, &[true; LONGEST]);
-    let code = describe(&d).expect("an accepted description");
-    let some = [1, 2, 3].map(|_| channel(1, &frame(&mut random, &d, &code, 20, 1)));
+    let some = [1, 2, 3].map(|_| clear(&mut random, &d, 1));
     let frames = some.iter().cycle().take(frames).cloned();
     let stream = [blank(4, 7).repeat(before), d].into_iter().chain(frames);
     stream.flatten().collect()
 }
 
-/// A random stream of up to `count` records; one of four is cut at a random place.
-pub fn random_stream(random: &mut Random, count: usize) -> Vec<u8> {
+/// A random stream of up to `count` records, with codes of these n; one of four is cut at a random
+/// place.
+pub fn random_stream(random: &mut Random, layers: RangeInclusive<usize>, count: usize) -> Vec<u8> {
     let mut held = D.to_vec();
     let mut stream = Vec::new();
     for _ in 0..random.below(count + 1) {
-        let next = random_record(random, &held);
+        let n = random.between(*layers.start(), *layers.end());
+        let next = random_record(random, n, &held);
         if describe(&next).is_ok() {
             held = next.clone();
         }
@@ -265,14 +332,11 @@ pub fn random_stream(random: &mut Random, count: usize) -> Vec<u8> {
     stream
 }
 
-/// A record of any sort; `held` is the description that a frame is made for.
-fn random_record(random: &mut Random, held: &[u8]) -> Vec<u8> {
+/// A record of any sort; a description is of this n, and `held` is the one that a frame is made for.
+fn random_record(random: &mut Random, n: usize, held: &[u8]) -> Vec<u8> {
     let code = describe(held).expect("an accepted description");
     match random.below(16) {
-        0..4 => {
-            let n = random.between(*LAYERS.start(), 7);
-            samples::useful_description(random, n)
-        }
+        0..4 => samples::useful_description(random, n),
         4 => {
             let refusal = [4, 5, 6, 7, 25, 8][random.below(6)];
             samples::refused_description(random, refusal)
@@ -290,8 +354,17 @@ fn random_record(random: &mut Random, held: &[u8]) -> Vec<u8> {
         9 => channel(random.between(1, 4) as u16, &vec![0; code.size()]),
         _ => {
             let noise = random.below(10);
-            let limit = random.below(code.information() + 3) as u16;
+            let limit = random_limit(random, &code);
             channel(limit, &frame(random, held, &code, 7, noise))
         }
+    }
+}
+
+/// A trial limit of up to 40, now and then the first that is refused.
+fn random_limit(random: &mut Random, code: &Code) -> u16 {
+    let beyond = code.information() + 2;
+    match random.below(8) {
+        0 => beyond as u16,
+        _ => random.below(beyond.min(41)) as u16,
     }
 }

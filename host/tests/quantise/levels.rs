@@ -1,5 +1,6 @@
 //! Accepted calls: levels, peak and clipped count.
 
+use host::reference::sizes::LAYERS;
 use host::testing::random::Random;
 
 use crate::calls::accepted;
@@ -208,6 +209,19 @@ fn every_short_length() {
             let scale = right_scale(&mut random);
             accepted(scale, &any_samples(&mut random, count));
             accepted(scale, &useful_samples(&mut random, count, scale));
+        }
+    }
+}
+
+/// As many samples as a frame has, of each n.
+#[test]
+fn frames_of_every_length() {
+    let mut random = Random::new(13);
+    for size in LAYERS.map(|n| 1 << n) {
+        for _ in 0..20 {
+            let scale = right_scale(&mut random);
+            accepted(scale, &any_samples(&mut random, size));
+            accepted(scale, &useful_samples(&mut random, size, scale));
         }
     }
 }

@@ -1,6 +1,8 @@
 //! Frames of every length: codewords under noise, values that were never sent, the longest runs.
 
-use host::reference::description::{describe, mask_of, record, with_start, Code};
+use host::reference::description::{
+    describe, information_indices, mask_of, record, with_start, Code,
+};
 use host::reference::encode::codeword;
 use host::reference::frame::Frame;
 use host::reference::packing::{pack, packed_length};
@@ -8,12 +10,12 @@ use host::reference::placing::place;
 use host::reference::sets::{limits, sets_tried, LIMITS_OF_SETS};
 use host::reference::sizes::{DEEPEST, LAYERS, LONGEST, MOST_TRIALS};
 use host::reference::transform::transform;
+use host::testing::passing::passing_description;
 use host::testing::random::Random;
 use host::testing::samples;
 use host::testing::sets::{Lent, FULL, RESTARTED};
 
 use crate::outcomes::Outcomes;
-use crate::passing::passing_description;
 
 /// The code of an accepted description.
 fn code_of(d: &[u8]) -> Code {
@@ -65,7 +67,7 @@ fn check_frames(
     let mut random = Random::new(seed);
     let mut outcomes = Outcomes::default();
     for n in LAYERS {
-        for round in 0..(count >> n).max(30) {
+        for round in 0..(count >> n).max(60) {
             let (d, channel) = frame(&mut random, n, round);
             let most_flips = samples::most_flips(&mut random);
             let of = Lent {
@@ -180,6 +182,44 @@ fn check_chosen(random: &mut Random, n: usize, flips: usize, outcomes: &mut Outc
         channel: &channel,
         most_flips: 3,
         limit: random.between(50, 60) as u32,
+    };
+    outcomes.check(of, &room(random, &d));
+}
+
+/// Seven information indices, the strongest of all among them, under strong values: sets with it come
+/// last, and their metrics reach the bound of a leaf value.
+#[test]
+fn strong_sets() {
+    let mut random = Random::new(7);
+    let mut outcomes = Outcomes::default();
+    for n in LAYERS {
+        for round in 0..(3_000 >> n).max(12) {
+            check_strong(&mut random, n, 1 + round % 3, &mut outcomes);
+        }
+    }
+    println!("{outcomes:?}");
+    outcomes.accept_at_least([0, 100, 100, 100]);
+    assert_eq!(outcomes.failed + outcomes.used_up, 0, "{outcomes:?}");
+}
+
+/// Compares a call that a set of so many flips, with the strongest index, accepts. The only other
+/// message that passes differs at all seven indices.
+fn check_strong(random: &mut Random, n: usize, flips: usize, outcomes: &mut Outcomes) {
+    let mut mask = samples::mask(random, (1 << n) - 1, 6);
+    mask.push(true);
+    let d = record(n, 6, 0b11_1111, &mask);
+    let x = transform(&place(mask_of(&d), &random.bits(7)));
+    let channel = samples::noisy(random, &x, 31, 1);
+    let mut set = information_indices(mask_of(&d));
+    while set.len() > flips {
+        set.remove(random.below(set.len() - 1));
+    }
+    let d = passing_description(&d, &channel, &set);
+    let of = Lent {
+        description: &d,
+        channel: &channel,
+        most_flips: 3,
+        limit: *LIMITS_OF_SETS.end(),
     };
     outcomes.check(of, &room(random, &d));
 }

@@ -3,8 +3,8 @@
 use host::reference::description::{describe, record};
 use host::reference::packing::packed_length;
 use host::reference::refusal::refusal_number;
-use host::reference::sets::{limits, MOST_FLIPS};
-use host::reference::sizes::{LAYERS, MOST_TRIALS};
+use host::reference::sets::{limits, LIMITS_OF_SETS, MOST_FLIPS};
+use host::reference::sizes::{DEEPEST, LAYERS, MOST_TRIALS};
 use host::testing::random::Random;
 use host::testing::samples::{self, for_descriptions};
 use host::testing::sets::{check, Lent, FULL, RESTARTED};
@@ -13,8 +13,8 @@ use crate::outcomes::Outcomes;
 
 /// Limits that are refused with this w, among them those that are allowed with another.
 fn beyond(most: u32) -> impl Iterator<Item = u32> {
-    let powers = [9, 10, 11, 16, 24, 31].map(|i| 1 << i);
-    let near = powers.into_iter().flat_map(|power| [power, power + 1]);
+    let powers = (9..=DEEPEST + 1).chain([16, 24, 31]).map(|i| 1 << i);
+    let near = powers.flat_map(|power| [power, power + 1]);
     near.chain([0, most + 1, MOST_TRIALS as u32 + 1, u32::MAX])
         .filter(move |limit| !(1..=most).contains(limit))
 }
@@ -72,7 +72,7 @@ fn sets_that_are_used_up() {
             description: &d,
             channel: &channel,
             most_flips: 2,
-            limit: random.between(10, 512) as u32,
+            limit: random.between(10, *LIMITS_OF_SETS.end() as usize) as u32,
         };
         outcomes.check(of, &[random.byte()]);
     }

@@ -5,5 +5,4 @@ mod examples;
 mod frames;
 mod limits;
 mod outcomes;
-mod passing;
 mod refusals;

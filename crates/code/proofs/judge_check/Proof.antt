@@ -10,7 +10,8 @@ use Rattle.refusal.specs.declared.Judgement.{Judgement}
 use Rattle.refusal.specs.Judge.{judge}
 use Rattle.refusal.proofs.Judge.{judge-none, judge-yes, judge-no}
 use Rattle.refusal.proofs.Tests.{outside-past}
-use Rattle.code.specs.Description.{word, startOf, isWide, badPolynomial, descriptionRefusals}
+use Rattle.code.specs.Description.{word, startOf, isWide, badPolynomial}
+use Rattle.code.specs.Contracts.{descriptionRefusals}
 use Rattle.code.proofs.TwoKinds.{fields-there}
 use Rattle.code.proofs.judge_check.Statement.{statement}
 use Rattle.code.proofs.judge_check.Tie as tie

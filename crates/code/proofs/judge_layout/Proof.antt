@@ -14,7 +14,8 @@ use Rattle.refusal.specs.Judge.{judge}
 use Rattle.refusal.proofs.Judge.{judge-none, judge-yes, judge-no}
 use Rattle.refusal.proofs.Tests.{outside-past}
 use Rattle.arrays.specs.Sizes.{deepest}
-use Rattle.code.specs.Description.{word, isDescription, maskAt, descriptionRefusals}
+use Rattle.code.specs.Description.{word, isDescription, maskAt}
+use Rattle.code.specs.Contracts.{descriptionRefusals}
 use Rattle.code.proofs.TwoKinds.{mask-at-most, fields-there}
 use Rattle.code.proofs.judge_layout.Statement.{statement}
 use Rattle.code.proofs.judge_layout.Tie as tie

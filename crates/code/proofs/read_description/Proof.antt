@@ -13,8 +13,9 @@ use Rattle.refusal.specs.Judge.{judge, refusedOr}
 use Rattle.refusal.proofs.Judge.{refused-by, append-fine, append-refused}
 use Rattle.code.specs.declared.Description.{Description}
 use Rattle.code.specs.declared.Description.the-variants.{Accepted, Refused}
-use Rattle.code.specs.Description.{descriptionRefusals, codeOf, describe}
+use Rattle.code.specs.Description.{codeOf, describeUpTo}
 use Rattle.code.specs.Claims.{Laid}
+use Rattle.code.specs.Contracts.{descriptionRefusals}
 use Rattle.code.proofs.WellFormed.{fine-laid}
 use Rattle.code.proofs.read_description.Statement.{statement}
 use Rattle.code.proofs.read_description.Tie as tie
@@ -46,7 +47,7 @@ module _ (c : tie.After-enum-told) where
   laid = fine-laid d layout-fine
 
 returns : tie.Need-returns
-unfolding describe
+unfolding describeUpTo
 returns c =
     let t = c .before in
     let k = t .before .before in
@@ -56,7 +57,7 @@ returns c =
     ∙ append-fine (check (d a)) (ones (d a)) (sym (k .judge-check .ensures) ∙ t .enum-told2 .given .1)))
 
 returns-2 : tie.Need-returns-2
-unfolding describe
+unfolding describeUpTo
 returns-2 c =
     let x = c .before in
     let k = x .before .before in
@@ -66,7 +67,7 @@ returns-2 c =
     ∙ append-refused (check (d a)) (ones (d a)) _ (sym (k .judge-check .ensures) ∙ x .x .given .1)))
 
 returns-3 : tie.Need-returns-3
-unfolding describe
+unfolding describeUpTo
 returns-3 c =
     let x = c .before in
     let l = x .before .before in

@@ -5,7 +5,6 @@ use Prim.Native.Nat.{ℕ}
 use borrow.Author.Needs.{needs}
 use denote.Ref.{now}
 use Rattle.refusal.proofs.Judge.{refused-by}
-use Rattle.arrays.proofs.Sizes.{fits}
 use Rattle.encoder.specs.declared.Encoded.the-variants.{Done, Refused}
 use Rattle.encoder.specs.Encode.{codeword, encodedBy}
 use Rattle.encoder.specs.Claims.{WellFormed}
@@ -23,17 +22,15 @@ module _ (c : tie.After-enum-told) where
       fine-well-formed (s .args .code) (now (s .args .payload)) (now (s .args .output))
       (sym (c .before .before .judge-encoding .ensures) ∙ c .enum-told .given .1)
 
-encode-in-requires : tie.Need-encode-in-requires
-encode-in-requires c κs =
-    let e = c .before .before in
-    record { coded = s e .pre; well-formed = well-formed e; room-size = fits (s e .pre .n-most) }
+write-codeword-requires : tie.Need-write-codeword-requires
+write-codeword-requires c κs = let e = c .before in (s e .pre, well-formed e)
 
 returns : tie.Need-returns
 returns c =
-    let k = c .before .before .before in
-    let e = k .before .before .before in
+    let k = c .before .before in
+    let e = k .before .before in
     let x = s e .args in
-    ap (λ (bytes : List ℕ). (Done, bytes)) (k .encode-in .ensures)
+    ap (λ (bytes : List ℕ). (Done, bytes)) (k .write-codeword .ensures)
     ∙ sym (well-formed-answer (x .code) (now (x .payload)) (now (x .output)) (now (x .mask)) (well-formed e))
 
 returns-2 : tie.Need-returns-2
@@ -50,8 +47,7 @@ encode-by-spec =
     (tie.spec
     (λ c κs. search needs)
     (λ c. search needs)
-    (λ c. search needs)
-    encode-in-requires
+    write-codeword-requires
     (λ c. search needs)
     (λ c. search needs)
     returns

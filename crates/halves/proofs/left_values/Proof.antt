@@ -34,9 +34,7 @@ loop-again c =
 
 returns-2 : tie.Need-returns-2 Inv-loop μ-loop
 unfolding leftValues
-returns-2 c =
-    let p = c .before .before .before .pre in
-    computed-all (c .before .before .if1 .left) (c .before .loop .inv) (omega arith) (omega (arith, p .whole, p .fits))
+returns-2 c = computed-all (c .before .before .if1 .left) (c .before .loop .inv) (omega arith) (omega arith)
 
 pub left-values-spec : {M : Type 1} → statement M
 left-values-spec =
@@ -62,4 +60,5 @@ left-values-spec =
     (λ c. search needs)
     (λ c. search needs)
     loop-again
+    (λ c. search needs)
     returns-2)

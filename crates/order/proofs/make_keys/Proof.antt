@@ -55,7 +55,7 @@ loop-again c =
 returns : tie.Need-returns Inv-loop μ-loop
 returns c =
     let s = c .before .before .before in
-    filling-done (c .before .loop .inv) (c .loop-test .left) (omega (arith, s .pre .whole, s .pre .fits))
+    filling-done (c .before .loop .inv) (c .loop-test .left) (omega (arith, s .pre .there))
 
 pub make-keys-spec : {M : Type 1} → statement M
 make-keys-spec =
@@ -73,4 +73,5 @@ make-keys-spec =
     (λ c. search needs)
     (λ c. search needs)
     loop-again
+    (λ c. c .before .loop .inv .same)
     returns)

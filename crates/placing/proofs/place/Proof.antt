@@ -35,19 +35,19 @@ unfolding onesBelow
 loop-holds c = (filling-none, refl)
 
 -- the byte that a turn reads
-byte : (c : tie.After-shared-slice-known3 Inv-loop μ-loop) → getD (now (c .before .before .before .before .before .before .args .mask)) (c .before .before .before .loop .m) 0 < 256
+byte : (c : tie.After-shared-slice-known3 Inv-loop μ-loop) → getD (now (c .before .before .before .before .before .before .before .args .mask)) (c .before .before .before .loop .m) 0 < 256
 byte c = omega (arith, c .shared-slice-known3 .given (c .before .before .before .loop .m))
 
 add-c : tie.Need-add-c Inv-loop μ-loop
 add-c c =
-    let s = c .before .before .before .before .before .before in
+    let s = c .before .before .before .before .before .before .before in
     let l = c .before .before .before .loop in
     omega (arith, count.ones-le 8 _ (byte c), ones-le (now (s .args .mask)) (8 * l .m), l .inv .1, s .pre .0 .short)
 
 loop-again : tie.Need-loop-again Inv-loop μ-loop
 loop-again c =
     let l = c .before .before .before .loop in
-    let mask = now (c .before .before .before .before .before .before .args .mask) in (
+    let mask = now (c .before .before .before .before .before .before .before .args .mask) in (
       filling-more (l .inv .0) (l .m) _ (omega arith) (omega arith) (c .before .placed-byte .ensures),
       ap (λ (k : ℕ). k + count.ones (getD mask (l .m) 0)) (l .inv .1) ∙ sym (ones-next mask (l .m) (byte c)),
     )
@@ -55,11 +55,11 @@ loop-again c =
 returns : tie.Need-returns Inv-loop μ-loop
 unfolding packed
 returns c =
-    let s = c .before .before .before .before in
+    let s = c .before .before .before .before .before in
     let mask = now (s .args .mask) in
     let message = now (s .args .message) in
     let size : length mask ≡ bytesFor (length (bits mask message)) = omega (arith, length-placed mask message (8 * length mask)) in
-    filling-done (c .before .loop .inv .0) (omega arith) (omega (arith, s .pre .1, s .pre .0 .short))
+    filling-done (c .before .loop .inv .0) (omega arith) (omega (arith, s .pre .1))
     ∙ ap (λ (k : ℕ). splice (now (s .args .u)) 0 (table (packedByte (bits mask message)) k)) size
 
 pub place-spec : {M : Type 1} → statement M
@@ -69,12 +69,13 @@ place-spec =
     Inv-loop
     μ-loop
     loop-holds
-    (λ c κs. let s = c .before .before .before .before in (s .pre .0, omega arith, c .before .loop .inv .1))
-    (λ c. omega (arith, c .before .before .before .before .before .pre .0 .short))
+    (λ c κs. let s = c .before .before .before .before .before in (s .pre .0, omega arith, c .before .loop .inv .1))
+    (λ c. omega (arith, c .before .before .before .before .before .before .pre .0 .short))
     (λ c. search needs)
     (λ c. omega (arith, count.ones-le 8 _ (byte c)))
     add-c
     (λ c. search needs)
     (λ c. search needs)
     loop-again
+    (λ c. c .before .loop .inv .0 .same)
     returns)

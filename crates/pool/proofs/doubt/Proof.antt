@@ -40,6 +40,6 @@ doubt-spec =
     (tie.spec
     (λ c κs. search needs)
     returns
-    (λ c κs. let p = s c .pre in (omega (arith, p .0 .fits, p .1), omega (arith, p .0 .small .at (s c .args .j) (p .1))))
+    (λ c κs. let p = s c .pre in (omega (arith, p .0 .there, p .1), omega (arith, p .0 .small .at (s c .args .j) (p .1))))
     returns-2
     returns-3)

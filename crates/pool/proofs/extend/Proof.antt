@@ -1,5 +1,5 @@
 -- `pool::extend` meets its contract: at each turn the sets are inserted that append an index below j.
-use mathlib.Core.Path.{_≡_, sym, ap, ap₂, _∙_, subst}
+use mathlib.Core.Path.{_≡_, refl, sym, ap, ap₂, _∙_, subst}
 use mathlib.Core.List.{List, map, _++_}
 use Prim.Native.Nat.{ℕ, _+_, _-_, _*_, _≤_}
 use native.Mathlib.Omega.{arith}
@@ -22,6 +22,7 @@ Inv-loop mask leaves set low count room keys₀ stem small₀ end₀ j₀ keys s
     (pastLargest set ≤ j)
     × (j ≤ 8 * length mask)
     × (small ≡ doubtful mask leaves j)
+    × (length keys ≡ length keys₀)
     × Inserted low count room end (map keyOf (extensions mask leaves set j)) keys₀ keys
 
 abbrev μ-loop : tie.MeasureT-loop
@@ -30,7 +31,7 @@ abbrev μ-loop : tie.MeasureT-loop
 -- the stem
 module _ (c : tie.After-stem-of Inv-loop μ-loop) where
   abbrev s : tie.Start Inv-loop μ-loop
-  s = c .before .before .before
+  s = c .before .before .before .before
 
   abbrev mask : List ℕ
   mask = now (s .args .mask)
@@ -55,6 +56,7 @@ loop-holds c =
       omega (arith, from-is t),
       omega (arith, from-is t, s t .pre .1 .past),
       c .doubtful .ensures,
+      refl,
       subst (λ (new : List ℕ). Inserted (s t .args .low) (s t .args .count) (s t .args .room) (s t .args .count) new (now (s t .args .keys)) (now (s t .args .keys)))
           (ap (map keyOf) (sym none)) (inserted-none (s t .pre .2)),
     )
@@ -75,17 +77,19 @@ module _ (c : tie.After-doubt Inv-loop μ-loop) where
 
 loop-again : tie.Need-loop-again Inv-loop μ-loop
 loop-again c =
-    let d = c .before .before in
+    let r = c .before .before in
+    let d = r .before .before in
     let i = l d .loop .inv in
     let p = t d in
     let keys-are = ap (λ (x : Stem). keysWith (mask p) (leaves p) x (l d .loop .small + d .doubt .result) (l d .loop .j)) (p .stem-of .ensures) in (
       omega (arith, i .0),
       omega (arith, d .before .loop-test .taken),
       more d,
-      subst (λ (new : List ℕ). Inserted (s p .args .low) (s p .args .count) (s p .args .room) (c .append .result) new (now (s p .args .keys)) (c .append .last .1 .1 .1 .1 .1 .1 .1 .1 .0))
+      r .append .kept .1 .1 .1 .1 .1 .1 .1 .1 .0 ∙ i .3,
+      subst (λ (new : List ℕ). Inserted (s p .args .low) (s p .args .count) (s p .args .room) (r .append .result) new (now (s p .args .keys)) (r .append .last .1 .1 .1 .1 .1 .1 .1 .1 .0))
           (ap (λ (xs : List ℕ). map keyOf (extensions (mask p) (leaves p) (set p) (l d .loop .j)) ++ xs) keys-are
           ∙ sym (extension-keys (mask p) (leaves p) (set p) (l d .loop .j) (l d .loop .small + d .doubt .result) (s p .pre .1 .few) (i .0) (more d)))
-          (inserted-more (i .3) (c .append .ensures)),
+          (inserted-more (i .4) (r .append .ensures)),
     )
 
 returns : tie.Need-returns Inv-loop μ-loop
@@ -94,7 +98,7 @@ returns c =
     let p = k .before .before in
     let i = k .loop .inv in
     let e : k .loop .j ≡ 8 * length (mask p) = omega (arith, i .1, c .loop-test .left) in
-    subst (λ (n : ℕ). Inserted (s p .args .low) (s p .args .count) (s p .args .room) (k .loop .end) (map keyOf (extensions (mask p) (leaves p) (set p) n)) (now (s p .args .keys)) (k .loop .keys)) e (i .3)
+    subst (λ (n : ℕ). Inserted (s p .args .low) (s p .args .count) (s p .args .room) (k .loop .end) (map keyOf (extensions (mask p) (leaves p) (set p) n)) (now (s p .args .keys)) (k .loop .keys)) e (i .4)
 
 pub extend-spec : {M : Type 1} → statement M
 extend-spec =
@@ -103,8 +107,8 @@ extend-spec =
     Inv-loop
     μ-loop
     (λ c κs.
-    let p = c .before .before .pre in
-    record { few = p .1 .few; below = λ a m. omega (arith, p .1 .below a m, p .0 .fits); past = omega (arith, p .1 .past, p .0 .fits); small = p .1 .small })
+    let p = c .before .before .before .pre in
+    record { few = p .1 .few; below = λ a m. omega (arith, p .1 .below a m, p .0 .there, p .0 .fits); past = omega (arith, p .1 .past, p .0 .there, p .0 .fits); small = p .1 .small })
     (λ c κs. (s c .pre .0, omega (arith, from-is c, s c .pre .1 .past)))
     loop-holds
     (λ c. omega (arith, s (c .before .before) .pre .0 .fits))
@@ -112,8 +116,9 @@ extend-spec =
     (λ c. omega (arith, few c))
     (λ c κs.
     let d = c .before in
-    (s (t d) .pre .0, d .before .loop-test .taken, fits (t d), few d, l d .loop .inv .3 .places))
+    (s (t d) .pre .0, d .before .loop-test .taken, fits (t d), few d, l d .loop .inv .4 .places))
     (λ c. search needs)
     (λ c. search needs)
     loop-again
+    (λ c. c .before .loop .inv .3)
     returns)

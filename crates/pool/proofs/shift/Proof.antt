@@ -16,7 +16,7 @@ loop-again : tie.Need-loop-again Inv-loop μ-loop
 loop-again c =
     let l = c .before .before in
     let s = l .before in
-    shift-more (l .loop .inv) (c .before .loop-test .taken) (omega (arith, l .loop .inv .most, s .pre .1, s .pre .2))
+    shift-more (l .loop .inv) (c .before .loop-test .taken) (omega (arith, l .loop .inv .most, s .pre .1))
 
 pub shift-spec : {M : Type 1} → statement M
 shift-spec =
@@ -26,11 +26,12 @@ shift-spec =
     μ-loop
     (λ c. shift-none _ _ _ (c .pre .0))
     (λ c. omega (arith, c .loop-test .taken))
-    (λ c. search needs)
     (λ c. omega (arith, c .before .loop .inv .most, c .before .before .pre .1))
     (λ c. search needs)
-    (λ c. omega (arith, c .before .before .loop .inv .most, c .before .before .before .pre .1))
+    (λ c. search needs)
+    (λ c. search needs)
     (λ c. omega (arith, c .before .loop-test .taken))
     (λ c. search needs)
     loop-again
+    (λ c. c .before .loop .inv .whole)
     (λ c. shift-done (c .before .loop .inv) (c .loop-test .left)))

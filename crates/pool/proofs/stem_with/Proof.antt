@@ -25,7 +25,7 @@ pub stem-with-spec : {M : Type 1} → statement M
 stem-with-spec =
     tie.close
     (tie.spec
-    (λ c κs. (c .pre .0, omega (arith, c .pre .1)))
+    (λ c κs. (omega (arith, c .pre .0), omega (arith, c .pre .1)))
     (λ c. search needs)
     (λ c. search needs)
     (λ c. omega (arith, product (c .before .before .before)))

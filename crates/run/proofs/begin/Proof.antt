@@ -2,16 +2,16 @@
 use mathlib.Core.Path.{_≡_, refl, sym, ap, _∙_}
 use mathlib.Core.Bool.{Bool}
 use mathlib.Core.List.{List}
-use Prim.Native.Nat.{ℕ, _+_, _≤_}
+use Prim.Native.Nat.{ℕ, _+_}
 use native.Mathlib.Nat.{zero-add}
 use native.Mathlib.Omega.{arith}
 use borrow.Author.Needs.{needs}
 use denote.Ref.{now}
 use lib.IntN.{ℤ}
 use lib.ListN.{length}
+use Rattle.arrays.specs.Claims.{longest}
 use Rattle.arrays.proofs.Sizes.{fits}
 use Rattle.bits.proofs.Lists.{bits-nil}
-use Rattle.code.specs.Code.{codeLength}
 use Rattle.channel.specs.Channel.{channelValues}
 use Rattle.tree.specs.declared.Work.{Work}
 use Rattle.tree.specs.Node.{Out}
@@ -19,13 +19,13 @@ use Rattle.trial.specs.Trial.{firstTrial, trialPasses}
 use Rattle.trial.proofs.Bounds.{first-bits, first-steps}
 use Rattle.run.specs.Trials.{passed, run, answerOf}
 use Rattle.run.proofs.LoopInvariant.{run-passes, run-fails}
-use Rattle.run.proofs.LoopStep.{values-inside, payload-bits, accepted}
+use Rattle.run.proofs.LoopStep.{values-inside, arrays-again, payload-bits, accepted}
 use Rattle.run.proofs.begin.Statement.{statement}
 use Rattle.run.proofs.begin.Tie as tie
 
 first-trial-requires : tie.Need-first-trial-requires
 first-trial-requires c κs =
-    let s = c .before .before .before .before .before .before .before .before .before in
+    let s = c .before .before .before .before .before .before .before .before in
     let p = s .pre in (
       record {
         n-least = omega (arith, p .0 .n-least);
@@ -34,6 +34,7 @@ first-trial-requires c κs =
         long = p .1;
         small = values-inside (now (s .args .channel)) (p .2);
         bits = bits-nil;
+        fits = p .4 .fits;
         whole = p .4 .whole;
       },
       p .0 .mask-size,
@@ -43,7 +44,7 @@ first-trial-requires c κs =
 -- trial 1
 module _ (c : tie.After-first-trial) where
   abbrev s : tie.Start
-  s = c .before .before .before .before .before .before .before .before .before .before
+  s = c .before .before .before .before .before .before .before .before .before
 
   abbrev mask : List ℕ
   mask = now (s .args .mask)
@@ -63,26 +64,28 @@ module _ (c : tie.After-first-trial) where
 
 trial-passes-requires : tie.Need-trial-passes-requires
 trial-passes-requires c κs =
-    let f = c .before .before in
+    let f = c .before .before .before .before in
     let p = s f .pre in
-    (p .0, omega (arith, f .first-trial .ensures .bits .whole, fits (p .0 .n-most)), p .4 .message-size)
+    let w = f .first-trial .ensures .whole in
+    (p .0, omega (arith, w .bits, fits (p .0 .n-most)), omega (arith, w .sums, fits (p .0 .n-most)))
 
 -- its check
 module _ (c : tie.After-trial-passes) where
   abbrev f : tie.After-first-trial
-  f = c .before .before .before
+  f = c .before .before .before .before .before
 
   ok-is : c .trial-passes .result ≡ ok f (o f .bits)
   ok-is = c .trial-passes .ensures .0 ∙ ap (ok f) (f .first-trial .ensures .bits .bits)
 
-  message-long : codeLength (s f .args .code) ≤ length (c .trial-passes .last .1 .1 .1 .0)
-  message-long = omega (arith, c .trial-passes .kept .1 .1 .1 .0, s f .pre .4 .message-size)
+  -- the message stands in the place of the sums
+  same-room : length (c .trial-passes .last .1 .1 .1 .0) ≡ longest
+  same-room = c .trial-passes .kept .1 .1 .1 .0 ∙ f .first-trial .ensures .whole .sums
 
 accept-requires : tie.Need-accept-requires
 accept-requires c κs =
-    let p = c .before .before .before .before .before in
+    let p = c .before .before .before .before in
     let on = s (f p) .pre in (
-      omega (arith, message-long p, on .0 .K-most),
+      omega (arith, same-room p, on .0 .K-most, fits (on .0 .n-most)),
       payload-bits (on .0) _ _ (f p .first-trial .ensures .bits .bits) (p .trial-passes .ensures .1) (first-bits (mask (f p)) (s (f p) .args .code) (v (f p))),
       on .3,
     )
@@ -90,8 +93,8 @@ accept-requires c κs =
 returns : tie.Need-returns
 returns c later =
     let d = c .before .before in
-    let t = d .before .before .before in
-    let p = t .before .before .before in
+    let t = d .before .before .before .before in
+    let p = t .before in
     let x = s (f p) .args in
     let e = d .accept .ensures in
     accepted (s (f p) .pre .0) _ _ (f p .first-trial .ensures .bits .bits) (p .trial-passes .ensures .1) (now (x .output)) (e .0) (e .1)
@@ -101,19 +104,18 @@ returns c later =
 
 returns-2 : tie.Need-returns-2
 returns-2 c =
-    let p = c .before .before .before in
+    let p = c .before in
     let t = f p .first-trial .ensures in (
       record {
         start-most = omega (arith, counted (f p), first-steps (mask (f p)) (s (f p) .args .code) (v (f p)));
         first-bits = t .bits;
         plain = t .plain;
-        message-size = message-long p;
         goes-on = λ later.
             run-fails (ok (f p)) 0 0 (o (f p)) later (sym (ok-is p) ∙ c .if1 .left)
             ∙ ap (λ (steps : ℕ). run (ok (f p)) 1 steps later) (sym (counted (f p)));
       },
-      t .leaves,
-      t .whole,
+      record { values = t .leaves .values; whole = t .leaves .whole ∙ sym (t .whole .work) },
+      arrays-again (t .whole) (same-room p),
       refl,
     )
 
@@ -126,6 +128,8 @@ begin-spec =
     accept-requires
     (λ c. search needs)
     (λ c. search needs)
+    (λ c. search needs)
     returns
+    (λ c. search needs)
     (λ c. search needs)
     returns-2)

@@ -28,34 +28,34 @@ use Rattle.run.specs.declared.Decoded.the-variants.{Failed}
 use Rattle.run.specs.Trials.{flipOrder, answerOf}
 use Rattle.run.proofs.FlipOrder.{order-flips}
 use Rattle.run.proofs.LoopInvariant.{LoopInvariant, loop-starts, loop-ends, loop-passes, loop-goes-on}
-use Rattle.run.proofs.LoopStep.{trial-on, order-long, payload-bits, accepted}
+use Rattle.run.proofs.LoopStep.{trial-on, arrays-again, order-long, payload-bits, accepted}
 use Rattle.run.proofs.flip_trials.Statement.{statement}
 use Rattle.run.proofs.flip_trials.Tie as tie
 
 abbrev Inv-loop : tie.InvT-loop
-Inv-loop mask code channel start first keys rules₀ work₀ bits₀ sums₀ leaves₀ message₀ output₀ restart limit size made₀ steps₀ key₀ rules work bits sums leaves message output made steps key =
+Inv-loop mask code channel start first keys rules₀ work₀ bits₀ sums₀ leaves₀ output₀ restart limit size made₀ steps₀ key₀ rules work bits sums leaves output made steps key =
     let v = channelValues channel in
     LoopInvariant (trialPasses mask code) (λ i. laterTrial restart mask code v (i ∷ [])) (flipOrder mask code v) limit start made steps
     × LastKey (firstTrial mask code v .leaves) (flipOrder mask code v) (made - 1) (toZ w32 key)
     × PlainRules longest mask code rules
-    × Whole longest (arrays work bits sums leaves)
-    × (length message ≡ length message₀)
+    × Whole longest (length work) (arrays work bits sums leaves)
+    × (length work ≡ length work₀)
     × (output ≡ output₀)
 
 abbrev μ-loop : tie.MeasureT-loop
-μ-loop mask code channel start first keys rules₀ work₀ bits₀ sums₀ leaves₀ message₀ output₀ restart limit size made₀ steps₀ key₀ rules work bits sums leaves message output made steps key =
+μ-loop mask code channel start first keys rules₀ work₀ bits₀ sums₀ leaves₀ output₀ restart limit size made₀ steps₀ key₀ rules work bits sums leaves output made steps key =
     limit - made
 
 loop-holds : tie.Need-loop-holds Inv-loop μ-loop
 loop-holds c =
-    let s = c .before .before .before .before in
+    let s = c .before .before .before in
     let on = s .pre .0 in
-    (loop-starts (on .well-formed .limit-least) (steps-fit (on .coded .n-most) (s .pre .1 .start-most)), last-none, s .pre .1 .plain, s .pre .3, refl, refl)
+    (loop-starts (on .well-formed .limit-least) (steps-fit (on .coded .n-most) (s .pre .1 .start-most)), last-none, s .pre .1 .plain, s .pre .5, refl, refl)
 
 -- at the loop's head
 module _ (c : tie.At-loop Inv-loop μ-loop) where
   abbrev s : tie.Start Inv-loop μ-loop
-  s = c .before .before .before .before .before
+  s = c .before .before .before .before
 
   abbrev mask : List ℕ
   mask = now (s .args .mask)
@@ -114,7 +114,7 @@ flip-trial-requires c κs =
     let inv = l .loop .inv in
     let on = s l .pre .0 in
     let w = on .well-formed in
-    (trial-on (on .coded) (w .channel-size) (w .in-range) (inv .2 .whole) (inv .3), on .coded, flips f, inv .2, s l .pre .1 .first-bits)
+    (trial-on (on .coded) (w .channel-size) (w .in-range) (inv .2 .whole) (omega (arith, s l .pre .4, inv .4)) (inv .3), on .coded, flips f, inv .2, s l .pre .1 .first-bits)
 
 -- the trial
 module _ (c : tie.After-flip-trial Inv-loop μ-loop) where
@@ -138,17 +138,14 @@ module _ (c : tie.After-flip-trial Inv-loop μ-loop) where
 
 trial-passes-requires : tie.Need-trial-passes-requires Inv-loop μ-loop
 trial-passes-requires c κs =
-    let t = c .before .before .before in
-    let p = s (at t) .pre in (
-      p .0 .coded,
-      omega (arith, t .flip-trial .ensures .0 .whole .bits, size-fits (at t)),
-      omega (arith, p .1 .message-size, at t .loop .inv .4),
-    )
+    let t = c .before .before .before .before .before in
+    let w = t .flip-trial .ensures .0 .whole in
+    (s (at t) .pre .0 .coded, omega (arith, w .bits, size-fits (at t)), omega (arith, w .sums, size-fits (at t)))
 
 -- its check
 module _ (c : tie.After-trial-passes Inv-loop μ-loop) where
   abbrev trial : tie.After-flip-trial Inv-loop μ-loop
-  trial = c .before .before .before .before
+  trial = c .before .before .before .before .before .before
 
   abbrev a : tie.At-loop Inv-loop μ-loop
   a = at trial
@@ -156,29 +153,41 @@ module _ (c : tie.After-trial-passes Inv-loop μ-loop) where
   ok-is : c .trial-passes .result ≡ trialPasses (mask a) (s a .args .code) (o trial .bits)
   ok-is = c .trial-passes .ensures .0 ∙ ap (trialPasses (mask a) (s a .args .code)) (trial .flip-trial .ensures .0 .bits)
 
-  same-room : length (c .trial-passes .last .1 .1 .1 .0) ≡ length (now (s a .args .message))
-  same-room = c .trial-passes .kept .1 .1 .1 .0 ∙ a .loop .inv .4
+  -- the message stands in the place of the sums
+  same-room : length (c .trial-passes .last .1 .1 .1 .0) ≡ longest
+  same-room = c .trial-passes .kept .1 .1 .1 .0 ∙ trial .flip-trial .ensures .0 .whole .sums
 
 accept-requires : tie.Need-accept-requires Inv-loop μ-loop
 accept-requires c κs =
-    let p = c .before .before .before .before .before in
+    let p = c .before .before .before .before in
     let on = s (a p) .pre in (
-      omega (arith, same-room p, on .1 .message-size, on .0 .coded .K-most),
+      omega (arith, same-room p, on .0 .coded .K-most, size-fits (a p)),
       payload-bits (on .0 .coded) _ _ (trial p .flip-trial .ensures .0 .bits) (p .trial-passes .ensures .1)
           (later-bits (mask (a p)) (s (a p) .args .code) (v (a p)) (i (found (trial p)) ∷ []) (q (trial p))),
       ap length (a p .loop .inv .5) ∙ on .0 .well-formed .output-size,
     )
 
+-- where it passed, the arrays of values are as long as they were
+same-length : tie.Need-same-length Inv-loop μ-loop
+same-length c =
+    let p = c .before .before .before .before .before .before .before in
+    trial p .flip-trial .ensures .0 .whole .work ∙ a p .loop .inv .4
+
 same-length-2 : tie.Need-same-length-2 Inv-loop μ-loop
 same-length-2 c =
+    let p = c .before .before .before .before .before .before .before in
+    trial p .flip-trial .ensures .0 .whole .leaves ∙ a p .loop .inv .4 ∙ sym (s (a p) .pre .5 .leaves)
+
+same-length-3 : tie.Need-same-length-3 Inv-loop μ-loop
+same-length-3 c =
     let d = c .before .before in
-    d .accept .kept .1 .1 .1 .1 .0 ∙ ap length (a (d .before .before .before .before .before .before) .loop .inv .5)
+    d .accept .kept .1 .1 .1 .1 .0 ∙ ap length (a (d .before .before .before .before .before) .loop .inv .5)
 
 returns : tie.Need-returns Inv-loop μ-loop
 returns c =
     let d = c .before .before in
-    let t = d .before .before .before in
-    let p = t .before .before .before in
+    let t = d .before .before .before .before in
+    let p = t .before in
     let l = a p in
     let x = s l .args in
     let f = found (trial p) in
@@ -189,7 +198,7 @@ returns c =
 
 loop-again : tie.Need-loop-again Inv-loop μ-loop
 loop-again c =
-    let p = c .before .before .before in
+    let p = c .before in
     let l = a p in
     let f = found (trial p) in
     let e = trial p .flip-trial .ensures in
@@ -197,8 +206,8 @@ loop-again c =
       loop-goes-on (going l) (order-long (s l .pre .0)) (k f .before .loop-test .taken) (next f) (took (trial p)) (sym (ok-is p) ∙ c .if1 .left) (few (trial p)),
       next-place (s l .pre .2) (l .loop .inv .1) (here (k f)) (least (k f)) m,
       e .1,
-      e .0 .whole,
-      same-room p,
+      arrays-again (e .0 .whole) (same-room p),
+      e .0 .whole .work ∙ l .loop .inv .4,
       l .loop .inv .5,
     )
 
@@ -216,18 +225,20 @@ flip-trials-spec =
     Inv-loop
     μ-loop
     loop-holds
-    (λ c κs. omega (arith, size-fits (c .before), s (c .before) .pre .0 .well-formed .channel-size))
+    (λ c κs. omega (arith, s (c .before) .pre .3, s (c .before) .pre .0 .well-formed .channel-size))
     (λ c κs. next-positive (s (head c) .pre .2) (head c .loop .inv .1) (here c) (least c))
     flip-trial-requires
-    (λ c. omega (arith, made-most (at c)))
-    (λ c. omega (arith, few (c .before), going (at (c .before)) .few, made-most (at (c .before))))
+    (λ c. omega (arith, made-most (at (c .before .before))))
+    (λ c. let t = c .before .before .before in omega (arith, few t, going (at t) .few, made-most (at t)))
     trial-passes-requires
     accept-requires
-    (λ c. search needs)
+    same-length
     same-length-2
+    same-length-3
     returns
     (λ c. search needs)
     loop-again
-    (λ c. search needs)
+    (λ c. c .before .loop .inv .4)
+    (λ c. let l = c .before in l .loop .inv .3 .leaves ∙ l .loop .inv .4 ∙ sym (s l .pre .5 .leaves))
     (λ c. search needs)
     returns-2)

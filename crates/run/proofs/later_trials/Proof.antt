@@ -3,6 +3,7 @@ use mathlib.Core.Path.{refl, sym, ap, _∙_}
 use native.Mathlib.Omega.{arith}
 use borrow.Author.Needs.{needs}
 use denote.Ref.{now}
+use lib.Seq.{length-take-le}
 use Rattle.arrays.proofs.Sizes.{steps-fit}
 use Rattle.order.proofs.Keys.{keys-made}
 use Rattle.run.specs.Trials.{answerOf}
@@ -13,7 +14,7 @@ use Rattle.run.proofs.later_trials.Tie as tie
 
 returns : tie.Need-returns
 returns c =
-    let s = c .before .before .before .before .before .before in
+    let s = c .before .before .before .before .before in
     let x = s .args in
     let on = s .pre .0 in
     ap (answerOf (now (x .mask)) (x .code) (now (x .output)))
@@ -22,11 +23,13 @@ returns c =
 flip-trials-requires : tie.Need-flip-trials-requires
 flip-trials-requires c κs =
     let m = c .before .before .before .before .before .before .before .before in
-    let p = m .before .before .before .before .before .before .before .before .pre in (
+    let p = m .before .before .before .before .before .before .before .pre in (
       p .0,
       p .1,
-      keys-made (keys-pre (p .0) (p .2)) (p .0 .coded .mask-size) (p .2 .values) (m .make-keys .ensures),
-      record { work = p .3 .work; bits = refl; sums = p .3 .sums; leaves = refl },
+      keys-made (keys-pre (p .0) (p .3) (p .2)) (p .0 .coded .mask-size) (p .2 .values) (m .make-keys .ensures),
+      omega (arith, m .make-keys .kept .1 .0, p .2 .whole, p .3),
+      p .3,
+      record { work = refl; bits = refl; sums = p .4 .sums; leaves = length-take-le _ _ (omega (arith, p .4 .within)); within = p .4 .within },
     )
 
 pub later-trials-spec : {M : Type 1} → statement M
@@ -34,8 +37,11 @@ later-trials-spec =
     tie.close
     (tie.spec
     returns
-    (λ c κs. let p = c .before .before .before .before .before .before .before .pre in keys-pre (p .0) (p .2))
+    (λ c κs. let p = c .before .before .before .before .before .before .pre in keys-pre (p .0) (p .3) (p .2))
+    (λ c. c .before .before .before .before .before .before .before .before .before .before .before .before .before .pre .4 .within)
+    (λ c. sym (length-take-le _ _ (c .before .before .before .before .before .before .before .before .before .before .before .before .before .before .pre .4 .within)))
     flip-trials-requires
+    (λ c. search needs)
     (λ c. search needs)
     (λ c. search needs)
     (λ c. search needs))

@@ -29,7 +29,7 @@ loop-again c =
     let here = c .before .loop-test .taken in
     let source = now (s .args .source) in
     filling-more (l .inv) _ _ here (omega arith)
-    (back-small w32 (getD source (l .j) (pos 0)) (omega (arith, s .pre .3 .at (l .j) here)) ∙ sym (getD-take (s .args .count) source (l .j) (pos 0) here))
+    (back-small w32 (getD source (l .j) (pos 0)) (omega (arith, s .pre .2 .at (l .j) here)) ∙ sym (getD-take (s .args .count) source (l .j) (pos 0) here))
 
 returns : tie.Need-returns Inv-loop μ-loop
 returns c =
@@ -55,4 +55,5 @@ copy-values-spec =
     (λ c. search needs)
     (λ c. search needs)
     loop-again
+    (λ c. c .before .loop .inv .same)
     returns)

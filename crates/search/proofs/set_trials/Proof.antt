@@ -23,6 +23,7 @@ use Rattle.run.specs.declared.Decoded.the-variants.{Failed}
 use Rattle.run.specs.Trials.{answerOf}
 use Rattle.run.proofs.LoopStep.{trial-on, payload-bits, accepted}
 use Rattle.sets.specs.Candidate.{Candidate}
+use Rattle.sets.proofs.Limit.{limit-fits}
 use Rattle.pool.specs.Contracts.{keyOf, Inserted}
 use Rattle.search.specs.Contracts.{resumedAt}
 use Rattle.search.proofs.Searching.{Searching, search-starts, search-ends, search-next, next-some, next-indices, next-places, next-flips, search-passes, search-goes-on}
@@ -31,22 +32,23 @@ use Rattle.search.proofs.set_trials.Statement.{statement}
 use Rattle.search.proofs.set_trials.Tie as tie
 
 abbrev Inv-loop : tie.InvT-loop
-Inv-loop search mask code channel start count first values rules₀ work₀ bits₀ sums₀ leaves₀ keys₀ message₀ output₀ restart end₀ at₀ steps₀ rules work bits sums leaves keys message output end at steps =
+Inv-loop search mask code channel start count first values rules₀ work₀ bits₀ sums₀ leaves₀ keys₀ output₀ restart end₀ at₀ steps₀ rules work bits sums leaves keys output end at steps =
     ((untried : List Candidate) × Searching search mask code (channelValues channel) start at end steps keys untried)
     × PlainRules longest mask code rules
-    × Whole longest (arrays work bits sums leaves)
-    × (length message ≡ length message₀)
+    × Whole longest (length work) (arrays work bits sums leaves)
+    × (length work ≡ length work₀)
+    × (length keys ≡ length keys₀)
     × (output ≡ output₀)
 
 abbrev μ-loop : tie.MeasureT-loop
-μ-loop search mask code channel start count first values rules₀ work₀ bits₀ sums₀ leaves₀ keys₀ message₀ output₀ restart end₀ at₀ steps₀ rules work bits sums leaves keys message output end at steps =
+μ-loop search mask code channel start count first values rules₀ work₀ bits₀ sums₀ leaves₀ keys₀ output₀ restart end₀ at₀ steps₀ rules work bits sums leaves keys output end at steps =
     search .limit - 1 - at
 
 loop-holds : tie.Need-loop-holds Inv-loop μ-loop
 loop-holds c =
     let s = c .before .before .before .before in
     let p = s .pre in
-    ((_, search-starts (steps-fit (p .0 .coded .n-most) (p .1 .start-most)) (p .3)), p .1 .plain, p .4, refl, refl)
+    ((_, search-starts (steps-fit (p .0 .coded .n-most) (p .1 .start-most)) (p .3)), p .1 .plain, p .5, refl, refl, refl)
 
 -- at the loop's head
 module _ (c : tie.At-loop Inv-loop μ-loop) where
@@ -69,7 +71,9 @@ module _ (c : tie.At-loop Inv-loop μ-loop) where
   going = c .loop .inv .0 .1
 
   at-most : c .loop .at ≤ longest
-  at-most = omega (arith, going .places .low-most, going .places .count-most, going .places .room-most)
+  at-most =
+      let on = s .pre .0 in
+      omega (arith, going .places .low-most, going .places .count-most, on .well-formed .limit-most, limit-fits (s .args .search .w) (s .args .code) (omega (arith, on .coded .K-most, size-fits)))
 
 -- the next set
 module _ (c : tie.In-loop Inv-loop μ-loop) where
@@ -112,7 +116,7 @@ set-trial-requires c κs =
     let j = c .before .before .before .before .before .before in
     let p = s (h j) .pre in
     let inv = h j .loop .inv in
-    (trial-on (p .0 .coded) (p .0 .well-formed .channel-size) (p .0 .well-formed .in-range) (inv .1 .whole) (inv .2), p .0 .coded, set-flips j, inv .1, p .1 .first-bits)
+    (trial-on (p .0 .coded) (p .0 .well-formed .channel-size) (p .0 .well-formed .in-range) (inv .1 .whole) (omega (arith, p .4, inv .3)) (inv .2), p .0 .coded, set-flips j, inv .1, p .1 .first-bits)
 
 -- its trial
 module _ (c : tie.After-set-trial Inv-loop μ-loop) where
@@ -136,41 +140,56 @@ module _ (c : tie.After-set-trial Inv-loop μ-loop) where
 
 trial-passes-requires : tie.Need-trial-passes-requires Inv-loop μ-loop
 trial-passes-requires c κs =
-    let k = c .before .before .before in
-    let p = s (a k) .pre in
-    (p .0 .coded, omega (arith, k .set-trial .ensures .0 .whole .bits, size-fits (a k)), omega (arith, p .1 .message-size, a k .loop .inv .3))
+    let k = c .before .before .before .before .before in
+    let w = k .set-trial .ensures .0 .whole in
+    (s (a k) .pre .0 .coded, omega (arith, w .bits, size-fits (a k)), omega (arith, w .sums, size-fits (a k)))
 
 -- its check
 module _ (c : tie.After-trial-passes Inv-loop μ-loop) where
   abbrev k : tie.After-set-trial Inv-loop μ-loop
-  k = c .before .before .before .before
+  k = c .before .before .before .before .before .before
 
   ok-is : c .trial-passes .result ≡ trialPasses (mask (a k)) (s (a k) .args .code) (o k .bits)
   ok-is = c .trial-passes .ensures .0 ∙ ap (trialPasses (mask (a k)) (s (a k) .args .code)) (k .set-trial .ensures .0 .bits)
 
-  same-room : length (c .trial-passes .last .1 .1 .1 .0) ≡ length (now (s (a k) .args .message))
-  same-room = c .trial-passes .kept .1 .1 .1 .0 ∙ a k .loop .inv .3
+  -- the message stands in the place of the sums
+  same-room : length (c .trial-passes .last .1 .1 .1 .0) ≡ longest
+  same-room = c .trial-passes .kept .1 .1 .1 .0 ∙ k .set-trial .ensures .0 .whole .sums
 
 accept-requires : tie.Need-accept-requires Inv-loop μ-loop
 accept-requires c κs =
-    let p = c .before .before .before .before .before in
+    let p = c .before .before .before .before in
     let t = k p in
     let on = s (a t) .pre in (
-      omega (arith, same-room p, on .1 .message-size, on .0 .coded .K-most),
+      omega (arith, same-room p, on .0 .coded .K-most, size-fits (a t)),
       payload-bits (on .0 .coded) _ _ (t .set-trial .ensures .0 .bits) (p .trial-passes .ensures .1) (later-bits (mask (a t)) (s (a t) .args .code) (v (a t)) (set (j t)) (q t)),
-      ap length (a t .loop .inv .4) ∙ on .0 .well-formed .output-size,
+      ap length (a t .loop .inv .5) ∙ on .0 .well-formed .output-size,
     )
+
+-- where it passed, the arrays of values and keys are as long as they were
+same-length : tie.Need-same-length Inv-loop μ-loop
+same-length c =
+    let t = k (c .before .before .before .before .before .before .before) in
+    t .set-trial .ensures .0 .whole .work ∙ a t .loop .inv .3
 
 same-length-2 : tie.Need-same-length-2 Inv-loop μ-loop
 same-length-2 c =
+    let t = k (c .before .before .before .before .before .before .before) in
+    t .set-trial .ensures .0 .whole .leaves ∙ a t .loop .inv .3 ∙ sym (s (a t) .pre .5 .leaves)
+
+same-length-3 : tie.Need-same-length-3 Inv-loop μ-loop
+same-length-3 c = a (k (c .before .before .before .before .before .before .before)) .loop .inv .4
+
+same-length-4 : tie.Need-same-length-4 Inv-loop μ-loop
+same-length-4 c =
     let d = c .before .before in
-    d .accept .kept .1 .1 .1 .1 .0 ∙ ap length (a (k (d .before .before .before .before .before .before)) .loop .inv .4)
+    d .accept .kept .1 .1 .1 .1 .0 ∙ ap length (a (k (d .before .before .before .before .before)) .loop .inv .5)
 
 returns : tie.Need-returns Inv-loop μ-loop
 returns c =
     let d = c .before .before in
-    let b = d .before .before .before in
-    let p = b .before .before .before in
+    let b = d .before .before .before .before in
+    let p = b .before in
     let t = k p in
     let x = s (a t) .args in
     let on = s (a t) .pre in
@@ -181,36 +200,39 @@ returns c =
 
 generate-requires : tie.Need-generate-requires Inv-loop μ-loop
 generate-requires c κs =
-    let t = k (c .before .before .before .before .before .before) in
+    let t = k (c .before .before .before .before) in
     let p = s (a t) .pre in
-    (p .0 .coded, set-flips (j t), leaves-pre (p .0) (set-flips (j t)) (p .2) (t .set-trial .ensures .0), next-places (p .0) (next (i (j t)) .2))
+    (p .0 .coded, set-flips (j t), leaves-pre (p .0) (set-flips (j t)) (p .4) (omega (arith, p .4, a t .loop .inv .3)) (p .2) (t .set-trial .ensures .0), next-places (p .0) (next (i (j t)) .2))
 
 loop-again : tie.Need-loop-again Inv-loop μ-loop
 loop-again c =
-    let e = c .before .before .before .before in
-    let p = e .before .before .before in
+    let w = c .before .before .before in
+    let e = w .before .before .before .before in
+    let p = e .before in
     let t = k p in
     let x = s (a t) .args in
     let on = s (a t) .pre in
-    let g = c .generate .ensures in
-    let y = t .set-trial .ensures in (
+    let g = w .generate .ensures in
+    let y = t .set-trial .ensures in
+    let h = y .0 .whole in (
       (
         _,
         search-goes-on (on .0) (next (i (j t)) .2) (set-is (j t)) (took t) (sym (ok-is p) ∙ e .if1 .left) (few t)
-            (subst (λ (new : List Candidate). Inserted (a t .loop .at + 1) (a t .loop .end) (x .search .limit - 1) (c .generate .result) (map keyOf new) (a t .loop .keys) (c .generate .last .1 .1 .1 .1 .1 .1 .1 .1 .0))
-            (generated-is (on .0) (set-flips (j t)) (on .2) (y .0)) (g .0)),
+            (subst (λ (new : List Candidate). Inserted (a t .loop .at + 1) (a t .loop .end) (x .search .limit - 1) (w .generate .result) (map keyOf new) (a t .loop .keys) (w .generate .last .1 .1 .1 .1 .1 .1 .1 .1 .0))
+            (generated-is (on .0) (set-flips (j t)) (on .4) (omega (arith, on .4, a t .loop .inv .3)) (on .2) (y .0)) g),
       ),
       y .1,
-      record { work = y .0 .whole .work; bits = y .0 .whole .bits; sums = y .0 .whole .sums; leaves = g .1 ∙ y .0 .whole .leaves },
-      same-room p,
-      a t .loop .inv .4,
+      record { work = refl; bits = h .bits; sums = same-room p; leaves = w .generate .kept .1 .1 .1 .1 .1 .0 ∙ h .leaves ∙ sym (h .work); within = omega (arith, h .work, h .within) },
+      h .work ∙ a t .loop .inv .3,
+      w .generate .kept .1 .1 .1 .1 .1 .1 .1 .1 .0 ∙ a t .loop .inv .4,
+      a t .loop .inv .5,
     )
 
 returns-2 : tie.Need-returns-2 Inv-loop μ-loop
 returns-2 c =
     let b = c .before in
     let x = s b .args in
-    ap (λ (bytes : List ℕ). (Failed (b .loop .at + 1) (b .loop .steps), bytes)) (b .loop .inv .4)
+    ap (λ (bytes : List ℕ). (Failed (b .loop .at + 1) (b .loop .steps), bytes)) (b .loop .inv .5)
     ∙ ap (answerOf (mask b) (x .code) (now (x .output))) (sym (s b .pre .1 .goes-on _ ∙ search-ends (going b) (c .loop-test .left)))
 
 pub set-trials-spec : {M : Type 1} → statement M
@@ -221,29 +243,33 @@ set-trials-spec =
     μ-loop
     loop-holds
     (λ c. search needs)
-    (λ c. omega (arith, c .loop-test .taken, going (l c) .places .count-most, going (l c) .places .room-most))
+    (λ c. let i = c .before in omega (arith, i .loop-test .taken, going (l i) .places .count-most, going (l i) .places .room-most))
     indices-of-requires
     (λ c. room c)
     (λ c. size-is (c .before))
     set-trial-requires
-    (λ c. omega (arith, at-most (a c)))
-    (λ c. omega (arith, few (c .before), going (a (c .before)) .few, at-most (a (c .before))))
+    (λ c. omega (arith, at-most (a (c .before .before))))
+    (λ c. let t = c .before .before .before in omega (arith, few t, going (a t) .few, at-most (a t)))
     trial-passes-requires
-    (λ c. omega (arith, at-most (a (k (c .before .before .before)))))
-    (λ c. omega (arith, at-most (a (k (c .before .before .before)))))
+    (λ c. omega (arith, at-most (a (k (c .before)))))
+    (λ c. omega (arith, at-most (a (k (c .before)))))
     accept-requires
-    (λ c. same-room (c .before .before .before .before .before .before .before .before))
+    same-length
     same-length-2
+    same-length-3
+    same-length-4
     returns
-    (λ c. room (j (k (c .before .before .before))))
-    (λ c. size-is (j (k (c .before .before .before .before))))
+    (λ c. room (j (k (c .before))))
+    (λ c. size-is (j (k (c .before .before))))
     generate-requires
     (λ c.
-    let i′ = i (j (k (c .before .before .before .before .before .before .before))) in
+    let i′ = i (j (k (c .before .before .before .before .before .before .before .before))) in
     omega (arith, i′ .loop-test .taken, going (l i′) .places .count-most))
     loop-again
     (λ c. omega (arith, at-most (c .before)))
     (λ c. omega (arith, at-most (c .before)))
-    (λ c. search needs)
+    (λ c. c .before .loop .inv .3)
+    (λ c. let b = c .before in b .loop .inv .2 .leaves ∙ b .loop .inv .3 ∙ sym (s b .pre .5 .leaves))
+    (λ c. c .before .loop .inv .4)
     (λ c. search needs)
     returns-2)

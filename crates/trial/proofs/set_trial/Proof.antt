@@ -2,6 +2,7 @@
 use mathlib.Core.Path.{_≡_, sym, ap₂, _∙_, subst}
 use Prim.Native.Nat.{ℕ, _≤_}
 use native.Mathlib.Omega.{arith}
+use borrow.Author.Needs.{needs}
 use denote.Ref.{now}
 use Rattle.arrays.specs.Claims.{longest}
 use Rattle.arrays.proofs.Sizes.{fits}
@@ -41,10 +42,11 @@ later-trial-requires c κs =
 
 returns : tie.Need-returns
 returns c =
-    let r = c .before .before .before .before .before .before in
+    let l = c .before .before in
+    let r = l .before .before .before .before .before .before in
     let p = s r .pre in
-    let t = c .later-trial .ensures in
+    let t = l .later-trial .ensures in
     (post-from (p .3) (p .4) (now (s r .args .flips)) (q-is r) (q-most r) (t .0), subst (PlainRules longest (now (s r .args .mask)) (s r .args .code)) (sym (t .1)) (plain-again (p .3) (p .2) (fits (p .1 .n-most))))
 
 pub set-trial-spec : {M : Type 1} → statement M
-set-trial-spec = tie.close (tie.spec (λ c. c .before .before .before .before .pre .2 .some) restart-index-requires later-trial-requires returns)
+set-trial-spec = tie.close (tie.spec (λ c. c .before .before .before .before .pre .2 .some) restart-index-requires later-trial-requires (λ c. search needs) (λ c. search needs) returns)

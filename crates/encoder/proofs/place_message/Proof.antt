@@ -1,22 +1,26 @@
--- `encoder::encode_in` meets its contract.
+-- `encoder::place_message` meets its contract.
 use mathlib.Core.Path.{_≡_, sym, ap, _∙_, subst}
 use mathlib.Core.List.{List, _++_}
-use Prim.Native.Nat.{ℕ, _+_}
+use Prim.Native.Nat.{ℕ, _+_, _*_}
 use native.Mathlib.Omega.{arith}
 use borrow.Author.Needs.{needs}
 use denote.Ref.{now}
 use lib.ListN.{length, take, drop}
 use lib.Seq.{length-take-le, take-at}
+use Rattle.laws.specs.Contracts.{splice}
+use Rattle.laws.proofs.Segment.{splice-whole}
+use Rattle.arrays.proofs.Sizes.{mask-fits}
 use Rattle.bits.specs.Claims.{Bits}
 use Rattle.bits.specs.Packing.{packed, unpacked}
 use Rattle.bits.proofs.Lists.{bits-unpacked}
-use Rattle.code.specs.Code.{codeLength, informationCount}
-use Rattle.transform.specs.Transform.{transformed}
+use Rattle.bits.proofs.Packing.{length-packed}
+use Rattle.code.specs.Code.{informationCount}
 use Rattle.placing.specs.Place.{placed}
-use Rattle.encoder.specs.Encode.{messageOf, codeword}
+use Rattle.placing.proofs.Placing.{length-placed}
+use Rattle.encoder.specs.Encode.{messageOf}
 use Rattle.encoder.proofs.Message.{bits-message}
-use Rattle.encoder.proofs.encode_in.Statement.{statement}
-use Rattle.encoder.proofs.encode_in.Tie as tie
+use Rattle.encoder.proofs.place_message.Statement.{statement}
+use Rattle.encoder.proofs.place_message.Tie as tie
 
 -- the part of the room that is lent for the message
 part-length : (c : tie.After-message-of-arg) → length (take (c .before .before .before .before .before .before .before .args .code .k + c .before .before .before .before .before .before .before .args .code .r) (now (c .before .before .before .before .before .before .before .args .room))) ≡ c .before .before .before .before .before .before .before .args .code .k + c .before .before .before .before .before .before .before .args .code .r
@@ -55,27 +59,31 @@ module _ (c : tie.After-message-of) where
   message-is : take size (message ++ drop size (now (s .args .room))) ≡ messageOf (s .args .code) (unpacked (now (s .args .payload)) (s .args .code .k))
   message-is = part-is ∙ c .message-of .ensures
 
-write-codeword-requires : tie.Need-write-codeword-requires
-write-codeword-requires c κs =
+place-requires : tie.Need-place-requires
+place-requires c κs =
     let m = c .before .before .before .before in
-    let p = s m .pre in
-    record {
-      n-least = p .coded .n-least;
-      n-most = p .coded .n-most;
-      mask-size = p .coded .mask-size;
-      bits = subst Bits (sym (message-is m)) (bits-message (s m .args .code) _ (bits-unpacked _ _));
-      output-size = omega (arith, p .well-formed .output-size, p .coded .mask-size);
-    }
+    let p = s m .pre in (
+      record {
+        short = mask-fits (p .coded .n-most) (p .coded .mask-size);
+        bits = subst Bits (sym (message-is m)) (bits-message (s m .args .code) _ (bits-unpacked _ _));
+      },
+      omega (arith, p .well-formed .output-size, p .coded .mask-size),
+    )
 
 returns : tie.Need-returns
-unfolding codeword
 returns c =
     let m = c .before .before .before .before .before .before .before in
-    c .before .before .write-codeword .ensures
-    ∙ ap (λ (u : List ℕ). packed (transformed (s m .args .code .n) (placed (now (s m .args .mask)) u (codeLength (s m .args .code))))) (message-is m)
+    let p = s m .pre in
+    let mask = now (s m .args .mask) in
+    let u : List ℕ = placed mask (messageOf (s m .args .code) (unpacked (now (s m .args .payload)) (s m .args .code .k))) (8 * length mask) in
+    let long : length (packed u) ≡ length (now (s m .args .output)) = length-packed u ∙ omega (arith, length-placed mask (messageOf (s m .args .code) (unpacked (now (s m .args .payload)) (s m .args .code .k))) (8 * length mask), p .well-formed .output-size, p .coded .mask-size) in
+    c .before .before .place .ensures
+    ∙ ap (λ (x : List ℕ). splice (now (s m .args .output)) 0 (packed (placed mask x (8 * length mask)))) (message-is m)
+    ∙ splice-whole (now (s m .args .output)) (packed u) long
+    ∙ ap (λ (k : ℕ). packed (placed mask (messageOf (s m .args .code) (unpacked (now (s m .args .payload)) (s m .args .code .k))) k)) (p .coded .mask-size)
 
-pub encode-in-spec : {M : Type 1} → statement M
-encode-in-spec =
+pub place-message-spec : {M : Type 1} → statement M
+place-message-spec =
     tie.close
     (tie.spec
     (λ c. search needs)
@@ -85,7 +93,7 @@ encode-in-spec =
     message-of-requires
     (λ c. search needs)
     (λ c. let m = c .before .before .before in sym (ap length (part-is m) ∙ message-length m))
-    write-codeword-requires
+    place-requires
     (λ c. search needs)
     (λ c. search needs)
     returns)

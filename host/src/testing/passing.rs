@@ -1,10 +1,10 @@
 //! Frames that a chosen trial accepts: under one start of the check its bits pass, whatever they are.
 
-use host::reference::check::check;
-use host::reference::description::{with_start, Code};
-use host::reference::frame::Frame;
-use host::reference::pass::{pass, plain_rules, Rule};
-use host::reference::placing::take;
+use crate::reference::check::check;
+use crate::reference::description::{with_start, Code};
+use crate::reference::frame::Frame;
+use crate::reference::pass::{pass, plain_rules, Rule};
+use crate::reference::placing::take;
 
 /// The description of kind 4 under which the trial that flips a set passes.
 pub fn passing_description(d: &[u8], channel: &[u8], set: &[usize]) -> Vec<u8> {
