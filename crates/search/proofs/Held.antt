@@ -12,7 +12,6 @@ use lib.ListN.{length, getD, take}
 use Rattle.laws.proofs.Indices.{lt-cases}
 use Rattle.laws.proofs.Segment.{getD-segment}
 use Rattle.arrays.specs.Claims.{longest}
-use Rattle.arrays.proofs.Sizes.{fits}
 use Rattle.code.specs.declared.Code.{Code}
 use Rattle.code.specs.Code.{codeLength}
 use Rattle.values.specs.Claims.{Within}

@@ -1,5 +1,4 @@
 -- What only contracts below the public operations cite. Nothing here need be believed.
-use mathlib.Core.Path.{_≡_}
 use mathlib.Core.Bool.{cond}
 use mathlib.Core.List.{List, [], map}
 use Prim.Native.Nat.{ℕ, _-_, _≤_, _<_}

@@ -26,7 +26,7 @@ use Rattle.run.specs.declared.Decoded.the-variants.{Accepted, Failed, Refused}
 use Rattle.run.specs.Trials.{flipOrder, run}
 use Rattle.flip.specs.Decode.{decodedBy, decodedWith, decodedRestarted}
 use Rattle.sets.specs.Candidate.{metricOf, doubtful, extensions, insert as insertSet, insertEach}
-use Rattle.sets.specs.Tried.{leavesOf, generated, tried, flipSets}
+use Rattle.sets.specs.Tried.{leavesOf, tried, flipSets}
 use Rattle.sets.specs.DecodeSets.{searchOf, setsBy, setsWith, setsFull, setsRestarted}
 
 -- Document 01's D with r = 3 and the polynomial z^3 + z + 1, so that k = 1. Its information indices are 3, 5, 6 and 7.
