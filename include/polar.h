@@ -73,10 +73,16 @@ uint64_t polar_resume(const uint8_t *description, size_t description_len,
 /* Decode channel values, N bytes as above, into the payload, packed as above in ceil(k/8) bytes. Trial 1 is a plain pass. Each later trial
  * takes the opposite decision at one information index: that of the smallest magnitude of trial 1's leaf value first, of equal magnitudes
  * the lower index. The first trial whose check passes ends the run. trial_limit counts trial 1. The full decoder repeats each trial from
- * the root; the restarted one resumes after the flipped index and gives the same trial and payload, in fewer steps where more than one
- * trial is made. Acceptance carries the trial and the steps of all trials made. Refusals of the description, 12, 13, then
+ * the root. The half one resumes a later trial at N/2 where the flipped index is N/2 or above, and otherwise at 0; the restarted one after
+ * the flipped index. All three give the same payload and trial, or the same refusal. The restarted one makes fewer steps than the others
+ * where more than one trial is made, and the half one at most as many as the full one. Acceptance carries the trial and the steps of all
+ * trials made. Refusals of the description, 12, 13, then
  *   14 trial_limit outside 1..K + 1; 15 output not ceil(k/8) bytes; 16 all trials fail, with trial_limit and the steps made. */
 uint64_t polar_decode_full(const uint8_t *description, size_t description_len,
+                           const uint8_t *channel, size_t channel_len,
+                           uint32_t trial_limit,
+                           uint8_t *payload, size_t payload_len);
+uint64_t polar_decode_half(const uint8_t *description, size_t description_len,
                            const uint8_t *channel, size_t channel_len,
                            uint32_t trial_limit,
                            uint8_t *payload, size_t payload_len);
@@ -85,17 +91,23 @@ uint64_t polar_decode_restarted(const uint8_t *description, size_t description_l
                                 uint32_t trial_limit,
                                 uint8_t *payload, size_t payload_len);
 
-/* Decode as above, with up to most_flips opposite decisions in a trial, 1 to 3: for frames that one flip cannot recover. A later trial takes
- * the opposite of its own usual decision at each index of a set. A failed trial 1 makes a set of each information index; a failed trial
- * whose set has fewer than most_flips indices makes one more set of each information index above its largest, appended. A set's metric is
- * the sum of the leaf magnitudes at its indices, and 6 for each information index up to and including its largest whose leaf magnitude is
- * at most 20, in the trial that made it. The untried set with the least metric is next, of equal metrics the one whose list of indices comes
- * first, compared from the first index. The restarted decoder resumes after the lowest index of the set. The order of single flips is not
- * that of polar_decode_full and polar_decode_restarted, also with most_flips 1. Refusals of the description, 12, 13, then
+/* Decode as above, with up to most_flips opposite decisions in a trial, 1 to 3: for frames that one flip cannot recover. A later trial
+ * takes the opposite of its own usual decision at each index of a set. A failed trial 1 makes a set of each information index; a failed
+ * trial whose set has fewer than most_flips indices makes one more set of each information index above its largest, appended. A set's
+ * metric is the sum of the leaf magnitudes at its indices, and 6 for each information index up to and including its largest whose leaf
+ * magnitude is at most 20, in the trial that made it. The untried set with the least metric is next, of equal metrics the one whose list of
+ * indices comes first, compared from the first index. A later trial resumes by the lowest index of its set as above by the flipped one: in
+ * the half decoder at N/2 where it is N/2 or above, and otherwise at 0; in the restarted one after it. All three give the same payload and
+ * trial, or the same refusal, with steps as above. The order of single flips is not that of the decoders above, also with most_flips 1.
+ * Refusals of the description, 12, 13, then
  *   26 most_flips outside 1..3; 14 trial_limit outside 1..K + 1 where most_flips is 1, and outside 1..512 where it is more;
  *   15 output not ceil(k/8) bytes; 16 all trials fail, with their number, which is below trial_limit where no set is left,
  *   and the steps made. */
 uint64_t polar_decode_sets_full(const uint8_t *description, size_t description_len,
+                                const uint8_t *channel, size_t channel_len,
+                                uint32_t most_flips, uint32_t trial_limit,
+                                uint8_t *payload, size_t payload_len);
+uint64_t polar_decode_sets_half(const uint8_t *description, size_t description_len,
                                 const uint8_t *channel, size_t channel_len,
                                 uint32_t most_flips, uint32_t trial_limit,
                                 uint8_t *payload, size_t payload_len);

@@ -18,12 +18,12 @@ typedef float quantiser(float, const float *, size_t, uint8_t *, size_t, uint64_
 struct table {
     encoder *encode;
     resumer *resume;
-    decoder *decode_full, *decode_restarted;
-    set_decoder *decode_sets_full, *decode_sets_restarted;
+    decoder *decode_full, *decode_half, *decode_restarted;
+    set_decoder *decode_sets_full, *decode_sets_half, *decode_sets_restarted;
     set_clock *decode_sets_by_clock;
     quantiser *quantise;
 };
 
 extern const struct table TABLE;
-const struct table TABLE = {encode, resume, decode_full, decode_restarted, decode_sets_full, decode_sets_restarted,
-                            decode_sets_by_clock, quantise};
+const struct table TABLE = {encode, resume, decode_full, decode_half, decode_restarted, decode_sets_full, decode_sets_half,
+                            decode_sets_restarted, decode_sets_by_clock, quantise};

@@ -13,9 +13,9 @@ mod task;
 mod timing;
 
 pub use choice::{Choice, USAGE};
-pub use codec::others;
+pub use codec::{others, Codec};
 
-use codec::{Codec, LIBRARY};
+use codec::LIBRARY;
 use frames::{Frame, Frames};
 use report::Row;
 use task::Task;

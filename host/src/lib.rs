@@ -4,7 +4,7 @@
 //! - `reference`: the documents, written from the paper, for reading and not for speed
 //! - `testing`: inputs, calls into the codec's libraries, and what else the tests need
 //! - `bench`: the benchmark, beside plain C and the package `plain`
-//! - `simulation`: what flipping gains under noise
+//! - `simulation`: what flipping gains under noise, and what restarting saves beside the papers
 //! - `silence`: whether a code accepts zero values as a frame
 
 pub mod bench;

@@ -14,6 +14,7 @@ pub mod placing;
 pub mod quantise;
 pub mod receive;
 pub mod refusal;
+pub mod restart;
 pub mod resume;
 pub mod sets;
 pub mod sizes;

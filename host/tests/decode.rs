@@ -1,5 +1,5 @@
-//! The library's decoders, held to the reference and to each other on more than 250,000 calls, more
-//! than 120,000 of them under descriptions of kind 4.
+//! The library's decoders, held to the reference and to each other on more than 450,000 calls, more
+//! than 240,000 of them under descriptions of kind 4.
 
 use host::reference::description::{describe, mask_of, record, with_start, Code, REFUSALS};
 use host::reference::encode::codeword;
@@ -9,7 +9,8 @@ use host::reference::placing::place;
 use host::reference::refusal::{refusal_number, Refusal};
 use host::reference::sizes::{DEEPEST, LAYERS, LONGEST, LONGEST_BYTES, MOST_STEPS, MOST_TRIALS};
 use host::reference::transform::transform;
-use host::testing::decoders::{check, flipped, Pair, FULL, RESTARTED};
+use host::testing::decoders::{check, flipped, stays, Pair, ALL, FULL, HALF, RESTARTED};
+use host::testing::faulty::each_pair;
 use host::testing::met::Met;
 use host::testing::paper::{D, D_WITH_START, V};
 use host::testing::passing::passing_description;
@@ -71,7 +72,7 @@ fn number(refusal: u64, middle: u64, steps: u64) -> u64 {
 #[test]
 fn rows_of_the_paper() {
     let right = [4, 252, 4, 252, 252, 4, 252, 4];
-    for decoder in [FULL, RESTARTED] {
+    for decoder in ALL {
         let of = |channel: &[u8], limit| decoder.run(&D, channel, limit, &[0xEE]);
         assert_eq!(of(&right, 1), (number(0, 1, 24), vec![0xA0]));
         assert_eq!(of(&V, 1), (number(16, 1, 24), vec![0xEE]));
@@ -86,6 +87,7 @@ fn rows_of_the_paper() {
     }
     let v = |decoder: Pair| decoder.run(&D, &V, 2, &[0xEE]);
     assert_eq!(v(FULL), (number(0, 2, 48), vec![0x00]));
+    assert_eq!(v(HALF), (number(0, 2, 36), vec![0x00]));
     assert_eq!(v(RESTARTED), (number(0, 2, 32), vec![0x00]));
 }
 
@@ -93,10 +95,11 @@ fn rows_of_the_paper() {
 #[test]
 fn silence_under_d_with_start_1() {
     let of = |decoder: Pair, limit| decoder.run(&D_WITH_START, &[0; 8], limit, &[0xEE]);
-    for decoder in [FULL, RESTARTED] {
+    for decoder in ALL {
         assert_eq!(of(decoder, 1), (number(16, 1, 24), vec![0xEE]));
     }
     assert_eq!(of(FULL, 2), (number(0, 2, 48), vec![0x80]));
+    assert_eq!(of(HALF, 2), (number(0, 2, 48), vec![0x80]));
     assert_eq!(of(RESTARTED, 2), (number(0, 2, 35), vec![0x80]));
 }
 
@@ -159,20 +162,45 @@ fn check_limits(random: &mut Random, d: &[u8]) {
     }
 }
 
-/// The longest runs: the longest code, all indices information indices, every trial made.
+/// What is accepted stays under a larger limit, with its steps, by all decoders; where none accepts,
+/// more trials are made.
 #[test]
-fn the_most_trials() {
+fn a_larger_limit_changes_nothing_that_is_accepted() {
+    let mut accepted = 0;
+    for_descriptions(14, LAYERS, 150, |random, d, code| {
+        let channel = samples::channel(random, code.size(), 31);
+        let first = random.between(1, code.information().min(20));
+        let larger = limit(random, d, 60).max(first as u32);
+        let before = room(random, d);
+        for decoder in ALL {
+            let of = |limit| decoder.run(d, &channel, limit, &before);
+            accepted += usize::from(stays(of(first as u32), of(larger)));
+        }
+    });
+    assert!(accepted >= 500, "{accepted}");
+}
+
+/// The longest run: the longest code, all indices information indices, every trial made.
+fn check_most_trials(d: &[u8]) {
     let mut random = Random::new(3);
-    let d = record(DEEPEST, 16, 0x8005, &[true; LONGEST]);
     let channel = samples::channel(&mut random, LONGEST, 31);
     let failed = Refusal::AllFailed {
         trials: MOST_TRIALS,
         steps: MOST_TRIALS * MOST_STEPS,
     };
-    for d in [with_start(&d, 0xFFFF), d] {
-        let answer = check(&d, &channel, MOST_TRIALS as u32, &room(&mut random, &d));
-        assert_eq!(answer, Err(failed));
-    }
+    let answer = check(d, &channel, MOST_TRIALS as u32, &room(&mut random, d));
+    assert_eq!(answer, Err(failed));
+}
+
+#[test]
+fn the_most_trials() {
+    check_most_trials(&record(DEEPEST, 16, 0x8005, &[true; LONGEST]));
+}
+
+#[test]
+fn the_most_trials_with_a_start() {
+    let d = record(DEEPEST, 16, 0x8005, &[true; LONGEST]);
+    check_most_trials(&with_start(&d, 0xFFFF));
 }
 
 /// Frames of long codes that one of all trials accepts, mostly after hundreds of others.
@@ -244,14 +272,14 @@ fn right_signs() {
     }
 }
 
-/// The payload on trial 1, by both decoders.
+/// The payload on trial 1, by all decoders.
 fn check_right_signs(random: &mut Random, d: &[u8]) {
     let (x, payload) = sent(random, d);
     let channel = samples::noiseless(random, &x);
     let limit = limit(random, d, usize::MAX);
     let n = code_of(d).n;
     let accepted = number(0, 1, (n << n) as u64);
-    for decoder in [FULL, RESTARTED] {
+    for decoder in ALL {
         let answer = decoder.run(d, &channel, limit, &room(random, d));
         assert_eq!(answer, (accepted, payload.clone()));
     }
@@ -348,6 +376,17 @@ fn refused_descriptions() {
         let answer = check(d, &channel, limit, &before);
         assert_eq!(refusal_number(&answer), refusal);
     });
+}
+
+/// Of two faults the first decides.
+#[test]
+fn each_pair_of_faults() {
+    let order = [&REFUSALS[..], &[12, 13, 14, 15]].concat();
+    let met = each_pair(&order, |call| {
+        let (d, channel) = (&call.description, &call.channel);
+        refusal_number(&check(d, channel, call.limit, &call.before))
+    });
+    met.are_all(&[&order]);
 }
 
 /// Faults of every kind at once, so that their order decides.

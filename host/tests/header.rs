@@ -88,6 +88,7 @@ zeros: refusal 0, value 1, steps 24, 00
 32: refusal 13, value 7, steps 0, ee
 start 1, zeros, T = 1: refusal 16, value 1, steps 24, ee
 start 1, zeros, T = 2: refusal 0, value 2, steps 48, 80
+flips 3, 4, 5: refusal 0, value 4, steps 96, 10
 ";
 
 /// What full decoding with flip sets gives.
@@ -97,6 +98,7 @@ V, w = 1, T = 2: refusal 0, value 2, steps 48, c0
 a pair, w = 1, T = 2: refusal 16, value 2, steps 48, ee
 a pair, w = 2, T = 3: refusal 0, value 3, steps 72, 80
 no set passes, w = 2, T = 512: refusal 16, value 11, steps 264, ee
+lowest indices 4, 3, 3, 4, 5, 4: refusal 0, value 7, steps 168, 90
 w = 0, T = 0: refusal 26, value 0, steps 0, ee
 w = 4, T = 1: refusal 26, value 0, steps 0, ee
 w = 1, T = 6: refusal 14, value 0, steps 0, ee
@@ -104,7 +106,7 @@ w = 2, T = 513: refusal 14, value 0, steps 0, ee
 ";
 
 /// What is printed with fewer steps.
-fn restarted(text: &str, steps: &[(&str, &str)]) -> String {
+fn fewer(text: &str, steps: &[(&str, &str)]) -> String {
     let replace = |text: String, (full, fewer): &(&str, &str)| text.replace(full, fewer);
     steps.iter().fold(text.to_string(), replace)
 }
@@ -114,11 +116,25 @@ fn rows_of_the_paper() {
     let expected = [
         ENCODED_AND_RESUMED,
         DECODED,
-        &restarted(DECODED, &[("48, 00", "32, 00"), ("48, 80", "35, 80")]),
+        &fewer(DECODED, &[("48, 00", "36, 00"), ("96, 10", "72, 10")]),
+        &fewer(
+            DECODED,
+            &[
+                ("48, 00", "32, 00"),
+                ("48, 80", "35, 80"),
+                ("96, 10", "55, 10"),
+            ],
+        ),
         DECODED_BY_SETS,
-        &restarted(
+        &fewer(DECODED_BY_SETS, &[("264,", "192,"), ("168,", "120,")]),
+        &fewer(
             DECODED_BY_SETS,
-            &[("48,", "35,"), ("72,", "46,"), ("264,", "106,")],
+            &[
+                ("48,", "35,"),
+                ("72,", "46,"),
+                ("264,", "106,"),
+                ("168,", "89,"),
+            ],
         ),
     ]
     .concat();

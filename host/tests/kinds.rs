@@ -19,7 +19,7 @@ fn damage(random: &mut Random, d: &mut [u8]) {
 
 #[test]
 fn start_0_answers_as_kind_1() {
-    let mut met: [Met; 6] = Default::default();
+    let mut met: [Met; 8] = Default::default();
     for_calls(1, LAYERS, |random, mut call| {
         damage(random, &mut call.description);
         let plain = answers(&call, &call.description);
@@ -28,14 +28,14 @@ fn start_0_answers_as_kind_1() {
             met.count((answer & 0xFF) as usize);
         }
     });
-    let [encoded, resumed, full, restarted, sets_full, sets_restarted] = met;
+    let [encoded, resumed, full, restarted, sets_full, sets_restarted, half, sets_half] = met;
     const DESCRIPTION: [usize; 6] = [0, 4, 5, 6, 7, 8];
     encoded.are_all(&[&DESCRIPTION, &[9, 10, 11]]);
     resumed.are_all(&[&DESCRIPTION, &[12, 13, 17, 18, 19]]);
-    for met in [full, restarted] {
+    for met in [full, half, restarted] {
         met.are_all(&[&DESCRIPTION, &[12, 13, 14, 15, 16]]);
     }
-    for met in [sets_full, sets_restarted] {
+    for met in [sets_full, sets_half, sets_restarted] {
         met.are_all(&[&DESCRIPTION, &[12, 13, 26, 14, 15, 16]]);
     }
 }

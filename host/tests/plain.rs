@@ -1,16 +1,33 @@
 //! The plain codecs that the benchmark compares with, held to the reference.
 
-use host::bench::others;
+use host::bench::{others, Codec};
 use host::reference::encode::encode;
-use host::reference::flip::{decode_full, decode_restarted};
+use host::reference::flip::{decode, Accepted};
 use host::reference::number::{decode_number, encode_number, quantise_numbers, resume_number};
 use host::reference::quantise::quantise;
+use host::reference::refusal::Refusal;
+use host::reference::restart::Restart;
 use host::reference::resume::resume;
-use host::reference::sets::{decode_sets_full, decode_sets_restarted};
+use host::reference::sets::decode_sets;
 use host::reference::sizes::LAYERS;
 use host::testing::call::Call;
+use host::testing::library::{Decoder, SetDecoder};
 use host::testing::random::Random;
 use host::testing::samples;
+
+/// A codec's decoders.
+const DECODERS: [fn(&Codec) -> Decoder; 3] = [
+    |codec| codec.decode_full,
+    |codec| codec.decode_half,
+    |codec| codec.decode_restarted,
+];
+
+/// Those with flip sets.
+const SET_DECODERS: [fn(&Codec) -> SetDecoder; 3] = [
+    |codec| codec.decode_sets_full,
+    |codec| codec.decode_sets_half,
+    |codec| codec.decode_sets_restarted,
+];
 
 /// Each operation on these inputs, whether they suit each other or not.
 fn check(call: &Call) {
@@ -19,28 +36,26 @@ fn check(call: &Call) {
         payload,
         channel,
         prefix,
-        limit,
         room,
         ..
     } = call;
-    let [mut codeword, mut bits, mut full] = room.map(|length| vec![0xEE; length]);
-    let mut restarted = full.clone();
+    let [mut codeword, mut bits, _] = room.map(|length| vec![0xEE; length]);
     let encoded = encode_number(&encode(d, payload, &mut codeword));
     let resumed = resume_number(&resume(d, channel, prefix, &mut bits));
-    let fully = decode_number(&decode_full(d, channel, *limit, &mut full));
-    let again = decode_number(&decode_restarted(d, channel, *limit, &mut restarted));
     for codec in others() {
         let name = codec.name;
-        let [mut first, mut second, mut third] = room.map(|length| vec![0xEE; length]);
+        let [mut first, mut second, _] = room.map(|length| vec![0xEE; length]);
         let answer = (codec.encode)(d, payload, &mut first);
         assert_eq!((answer, &first), (encoded, &codeword), "{name}: {d:02x?}");
         let answer = (codec.resume)(d, channel, prefix, &mut second);
         assert_eq!((answer, &second), (resumed, &bits), "{name}: {d:02x?}");
-        let mut fourth = third.clone();
-        let answer = (codec.decode_full)(d, channel, *limit, &mut third);
-        assert_eq!((answer, &third), (fully, &full), "{name}: {d:02x?}");
-        let answer = (codec.decode_restarted)(d, channel, *limit, &mut fourth);
-        assert_eq!((answer, &fourth), (again, &restarted), "{name}: {d:02x?}");
+    }
+    let limit = call.limit;
+    for (restart, decoder) in Restart::ALL.into_iter().zip(DECODERS) {
+        let reference = |output: &mut [u8]| decode(restart, d, channel, limit, output);
+        compare(call, reference, |codec, output| {
+            decoder(codec)(d, channel, limit, output)
+        });
     }
 }
 
@@ -48,19 +63,29 @@ fn check(call: &Call) {
 fn check_sets(call: &Call) {
     let (d, channel) = (&call.description, &call.channel);
     let (most_flips, limit) = (call.most_flips, call.limit);
-    let [_, _, mut full] = call.room.map(|length| vec![0xEE; length]);
-    let mut restarted = full.clone();
-    let fully = decode_number(&decode_sets_full(d, channel, most_flips, limit, &mut full));
-    let again = decode_sets_restarted(d, channel, most_flips, limit, &mut restarted);
-    let again = decode_number(&again);
+    for (restart, decoder) in Restart::ALL.into_iter().zip(SET_DECODERS) {
+        let reference =
+            |output: &mut [u8]| decode_sets(restart, d, channel, most_flips, limit, output);
+        compare(call, reference, |codec, output| {
+            decoder(codec)(d, channel, most_flips, limit, output)
+        });
+    }
+}
+
+/// Holds a decoder of each codec to the reference's.
+fn compare(
+    call: &Call,
+    reference: impl Fn(&mut [u8]) -> Result<Accepted, Refusal>,
+    decode: impl Fn(&Codec, &mut [u8]) -> u64,
+) {
+    let before = vec![0xEE; call.room[2]];
+    let mut payload = before.clone();
+    let expected = decode_number(&reference(&mut payload));
     for codec in others() {
-        let name = codec.name;
-        let mut first = vec![0xEE; full.len()];
-        let mut second = first.clone();
-        let answer = (codec.decode_sets_full)(d, channel, most_flips, limit, &mut first);
-        assert_eq!((answer, &first), (fully, &full), "{name}: {d:02x?}");
-        let answer = (codec.decode_sets_restarted)(d, channel, most_flips, limit, &mut second);
-        assert_eq!((answer, &second), (again, &restarted), "{name}: {d:02x?}");
+        let mut output = before.clone();
+        let answer = decode(&codec, &mut output);
+        let (name, d) = (codec.name, &call.description);
+        assert_eq!((answer, &output), (expected, &payload), "{name}: {d:02x?}");
     }
 }
 

@@ -1,5 +1,5 @@
-//! Answers for codes of up to n = 10, recorded from a library with no larger n: a library with more
-//! gives the same, output and steps included.
+//! Answers for codes of up to n = 10, recorded from a library with no larger n and without half
+//! restart: a library with more gives the same, output and steps included.
 
 use std::ops::RangeInclusive;
 

@@ -141,11 +141,11 @@ fn descriptions_in_the_header() {
 #[test]
 fn operations_in_the_header() {
     let header = text("include/polar.h");
-    let of = |function| listed(&comment(&header, function));
+    let of = |function: &str| listed(&comment(&header, function));
     assert_eq!(of("polar_encode"), ENCODE);
     assert_eq!(of("polar_resume"), RESUME);
-    assert_eq!(of("polar_decode_full"), DECODERS);
-    assert_eq!(of("polar_decode_restarted"), DECODERS);
-    assert_eq!(of("polar_decode_sets_full"), SET_DECODERS);
-    assert_eq!(of("polar_decode_sets_restarted"), SET_DECODERS);
+    for restart in ["full", "half", "restarted"] {
+        assert_eq!(of(&format!("polar_decode_{restart}")), DECODERS);
+        assert_eq!(of(&format!("polar_decode_sets_{restart}")), SET_DECODERS);
+    }
 }

@@ -10,7 +10,7 @@ use host::reference::packing::packed_length;
 use host::reference::refusal::Refusal;
 use host::reference::sizes::LAYERS;
 use host::silence::{first_accepted, run};
-use host::testing::decoders::{check, FULL, REFERENCE, RESTARTED};
+use host::testing::decoders::{check, ALL, REFERENCE};
 use host::testing::files::repository;
 use host::testing::lent;
 use host::testing::library::{self, Decoder};
@@ -20,6 +20,8 @@ use host::testing::samples;
 /// The library's decoders on buffers between guard bytes.
 const LENT_FULL: Decoder =
     |d, channel, limit, payload| decode_lent(library::decode_full, d, channel, limit, payload);
+const LENT_HALF: Decoder =
+    |d, channel, limit, payload| decode_lent(library::decode_half, d, channel, limit, payload);
 const LENT_RESTARTED: Decoder =
     |d, channel, limit, payload| decode_lent(library::decode_restarted, d, channel, limit, payload);
 
@@ -44,14 +46,14 @@ fn for_starts(seed: u64, count: usize, mut test: impl FnMut(&mut Random, &[u8], 
     }
 }
 
-/// Refusal 16 with T = 1 and n × N steps by both decoders, the output as it was.
+/// Refusal 16 with T = 1 and n × N steps by all decoders, the output as it was.
 #[test]
 fn silence_fails_trial_1_under_a_start() {
     for_starts(1, 100_000, |random, d, code| {
         let zeros = vec![0; code.size()];
         let before = random.bytes(packed_length(code.k));
         let steps = ((code.n << code.n) as u64) << 32;
-        for decoder in [FULL, RESTARTED] {
+        for decoder in ALL {
             let answer = decoder.run(d, &zeros, 1, &before);
             assert_eq!(answer, (steps | 1 << 8 | 16, before.clone()), "{d:02x?}");
         }
@@ -124,7 +126,9 @@ fn the_search_agrees_with_the_reference() {
             let d = samples::description(&mut random, n);
             let by_library = first_accepted(LENT_RESTARTED, &d);
             assert_eq!(by_library, first_accepted(REFERENCE, &d), "{d:02x?}");
-            assert_eq!(by_library, first_accepted(LENT_FULL, &d), "{d:02x?}");
+            for decoder in [LENT_FULL, LENT_HALF] {
+                assert_eq!(by_library, first_accepted(decoder, &d), "{d:02x?}");
+            }
         }
     }
 }

@@ -36,7 +36,7 @@ fn spellings() -> Vec<String> {
 }
 
 /// Lines that may say so: where their path starts, and what they have.
-const ALLOWED: [(&str, &str); 13] = [
+const ALLOWED: [(&str, &str); 14] = [
     // the one place of each language, and this test
     ("crates/arrays/src/lib.rt", ""),
     ("crates/arrays/specs/Sizes.antt", ""),
@@ -46,6 +46,7 @@ const ALLOWED: [(&str, &str); 13] = [
     ("crates/sets/", "512"),
     ("crates/setflip/", "512"),
     ("crates/vectors/proofs/Sets.antt", "512"),
+    ("crates/vectors/proofs/Half.antt", "512"),
     ("host/src/reference/sets.rs", "LIMITS_OF_SETS: "),
     ("host/bench/plain/sets.h", "MOST_LIMIT = 512"),
     ("host/plain/src/sets.rs", "MOST_LIMIT: usize = 512"),

@@ -69,14 +69,15 @@ fn resume() {
 
 #[test]
 fn decoders() {
-    let both: [(&str, library::Decoder); 2] = [
+    let all: [(&str, library::Decoder); 3] = [
         ("full", library::decode_full),
+        ("half", library::decode_half),
         ("restarted", library::decode_restarted),
     ];
     let mut random = Random::new(3);
     for d in descriptions() {
         let channel = samples::channel(&mut random, LONGEST, 31);
-        for (name, decode) in both {
+        for (name, decode) in all {
             decoder(name, decode, &d, &channel);
         }
     }
@@ -96,14 +97,15 @@ fn decoder(name: &str, decode: library::Decoder, d: &[u8], channel: &[u8]) {
 
 #[test]
 fn decoders_with_flip_sets() {
-    let both: [(&str, library::SetDecoder); 2] = [
+    let all: [(&str, library::SetDecoder); 3] = [
         ("full", library::decode_sets_full),
+        ("half", library::decode_sets_half),
         ("restarted", library::decode_sets_restarted),
     ];
     let mut random = Random::new(4);
     for d in descriptions() {
         let channel = samples::channel(&mut random, LONGEST, 31);
-        for (name, decode) in both {
+        for (name, decode) in all {
             set_decoder(name, decode, &d, &channel);
         }
     }

@@ -1,5 +1,5 @@
--- The decoders of any two restarts give the same answer, and each skips exactly the steps that its restarts save.
-use mathlib.Core.Path.{_≡_, sym, ap, ap₂, _∙_}
+-- The decoders of every restart give the same answer, and each skips exactly the steps that its restarts save.
+use mathlib.Core.Path.{_≡_, refl, sym, ap, ap₂, _∙_, subst}
 use mathlib.Core.Bool.{Bool}
 use mathlib.Core.Logic.{_⊎_, inl, inr, ⊎-elim}
 use mathlib.Core.List.{List, map}
@@ -11,12 +11,13 @@ use lib.Seq.{take-all}
 use Rattle.bits.specs.Packing.{packed}
 use Rattle.code.specs.declared.Code.{Code}
 use Rattle.code.specs.declared.Description.the-variants.{Accepted as Coding}
-use Rattle.code.specs.Code.{codeLength}
+use Rattle.code.specs.Code.{codeLength, informationCount}
 use Rattle.code.specs.Description.{maskOf, describe}
 use Rattle.code.proofs.Facts.{described}
 use Rattle.channel.specs.Channel.{channelValues}
 use Rattle.tree.specs.Node.{Out}
 use Rattle.trial.specs.declared.Restart.{Restart}
+use Rattle.trial.specs.declared.Restart.the-variants.{Root}
 use Rattle.trial.specs.Trial.{lowest, messageIn, trialPasses}
 use Rattle.run.specs.declared.Decoded.{Decoded}
 use Rattle.run.specs.declared.Decoded.the-variants.{Accepted, Failed}
@@ -24,79 +25,84 @@ use Rattle.run.specs.Trials.{Verdict, passed, failed, run, answerOf}
 use Rattle.run.specs.WellFormed.{WellFormed}
 use Rattle.flip.specs.Decode.{planOf, decodedWith}
 use Rattle.flip.proofs.WellFormed.{well-formed-answer, decoded-by}
-use Rattle.demands.specs.Claims.{stepsOf, Ends, SameButSteps, flippedIn, skippedBy, Compare}
+use Rattle.demands.specs.Claims.{stepsOf, PassedAt, AllFailed, Ends, SameButSteps, flippedIn, skippedBy, Compare}
 use Rattle.demands.proofs.Trials.{FlipsEach, trialsOf, length-trials-of, same-trials, sets-made, steps-trials, singles, flips-singles, trials-are, length-singles, lowest-singles}
 use Rattle.demands.proofs.Run.{run-ends, run-same}
 
 -- ---- any sets
 
--- What `Compare` says of single flips, for any sets: z and z′ are what two restarts answer after the trials of these sets.
-pub record TwoRestarts (a b : Restart) (mask : List ℕ) (c : Code) (sets : List (List ℕ)) (output output′ : List ℕ) (z z′ : Decoded × List ℕ) : Type 0 where
+-- What `Compare` says of single flips, for any sets and every restart: `answer` is what the decoder of each restart answers after the trials of
+-- these sets, with any output that fits.
+pub record EveryRestart (mask : List ℕ) (c : Code) (sets : List (List ℕ)) (Fitting : List ℕ → Type 0) (answer : Restart → List ℕ → Decoded × List ℕ) : Type 0 where
   pub made : ℕ
-  pub steps : ℕ
-  pub steps′ : ℕ
+  pub steps : Restart → ℕ
   pub most : made ≤ length sets + 1
   -- a set for each trial made after the first
   pub each : length (take (made - 1) sets) + 1 ≡ made
   pub answers :
-      ((payload : List ℕ) × (z ≡ (Accepted made steps, payload)) × (z′ ≡ (Accepted made steps′, payload)))
-      ⊎ ((made ≡ length sets + 1) × (z ≡ (Failed made steps, output)) × (z′ ≡ (Failed made steps′, output′)))
-  pub counted : steps + skippedBy a mask c (map lowest (take (made - 1) sets)) ≡ made * c .n * codeLength c
-  pub counted′ : steps′ + skippedBy b mask c (map lowest (take (made - 1) sets)) ≡ made * c .n * codeLength c
+      ((payload : List ℕ) × ((r : Restart) (o : List ℕ) → Fitting o → answer r o ≡ (Accepted made (steps r), payload)))
+      ⊎ ((made ≡ length sets + 1) × ((r : Restart) (o : List ℕ) → Fitting o → answer r o ≡ (Failed made (steps r), o)))
+  pub counted : (r : Restart) → steps r + skippedBy r mask c (map lowest (take (made - 1) sets)) ≡ made * c .n * codeLength c
 
-module _ (a b : Restart) (mask : List ℕ) (c : Code) (v : List ℤ) (sets : List (List ℕ)) (flips : FlipsEach mask c sets) (output output′ : List ℕ) where
+-- the steps of a verdict, and it with other steps
+abbrev stepsIn : Verdict → ℕ
+stepsIn (passed trial steps bits) = steps
+stepsIn (failed made steps) = steps
+
+abbrev inSteps : ℕ → Verdict → Verdict
+inSteps s (passed trial steps bits) = passed trial s bits
+inSteps s (failed made steps) = failed made s
+
+same-but-steps : (x y : Verdict) → SameButSteps x y → y ≡ inSteps (stepsIn y) x
+same-but-steps (passed t s u) (passed t′ s′ u′) e = ap₂ (λ (t : ℕ) (u : List ℕ). passed t s′ u) (sym (e .0)) (sym (e .1))
+same-but-steps (failed m s) (failed m′ s′) e = ap (λ (m : ℕ). failed m s′) (sym e)
+same-but-steps (passed t s u) (failed m′ s′) e = absurd e
+same-but-steps (failed m s) (passed t′ s′ u′) e = absurd e
+
+module _ (mask : List ℕ) (c : Code) (v : List ℤ) (sets : List (List ℕ)) (flips : FlipsEach mask c sets) where
   abbrev ok : List ℕ → Bool
   ok = trialPasses mask c
 
-  abbrev left : List Out
-  left = trialsOf a mask c v sets
+  abbrev os : Restart → List Out
+  os r = trialsOf r mask c v sets
 
-  abbrev right : List Out
-  right = trialsOf b mask c v sets
+  abbrev of : Restart → Verdict
+  of r = run ok 0 0 (os r)
 
-  -- by the verdicts of both runs
-  both : (x x′ : Verdict) → Ends ok left x → Ends ok right x′ → SameButSteps x x′ → {z z′ : Decoded × List ℕ}
-      → z ≡ answerOf mask c output x → z′ ≡ answerOf mask c output′ x′ → TwoRestarts a b mask c sets output output′ z z′
-  both (passed t s u) (passed t′ s′ u′) p p′ e q q′ =
-      let most : t ≤ length sets + 1 = omega (arith, p .most, length-trials-of mask c v a sets) in
-      let same : s′ ≡ stepsOf (take t right) = p′ .steps-are ∙ ap (λ (z : ℕ). stepsOf (take z right)) (sym (e .0)) in
-      record {
-        made = t;
-        steps = s;
-        steps′ = s′;
-        most = most;
-        each = sets-made sets t (p .least) most;
-        answers =
-            inl (
-              packed (take (c .k) (messageIn mask c u)),
-              q,
-              q′ ∙ ap₂ (λ (z : ℕ) (y : List ℕ). (Accepted z s′, packed (take (c .k) (messageIn mask c y)))) (sym (e .0)) (sym (e .1)),
-            );
-        counted = steps-trials mask c v a sets flips t (p .least) most (p .steps-are);
-        counted′ = steps-trials mask c v b sets flips t (p .least) most same;
-      }
-  both (failed m s) (failed m′ s′) p p′ e q q′ =
-      let all : m ≡ length sets + 1 = p .all ∙ length-trials-of mask c v a sets in
-      let least : 1 ≤ m = omega arith in
-      let most : m ≤ length sets + 1 = omega arith in
-      let whole : s ≡ stepsOf (take m left) = p .steps-are ∙ ap stepsOf (sym (take-all m left (omega (arith, p .all)))) in
-      let whole′ : s′ ≡ stepsOf (take m right) = p′ .steps-are ∙ ap stepsOf (sym (take-all m right (omega (arith, p′ .all, e)))) in
-      record {
-        made = m;
-        steps = s;
-        steps′ = s′;
-        most = most;
-        each = sets-made sets m least most;
-        answers = inr (all, q, q′ ∙ ap (λ (z : ℕ). (Failed z s′, output′)) (sym e));
-        counted = steps-trials mask c v a sets flips m least most whole;
-        counted′ = steps-trials mask c v b sets flips m least most whole′;
-      }
-  both (passed t s u) (failed m′ s′) p p′ e q q′ = absurd e
-  both (failed m s) (passed t′ s′ u′) p p′ e q q′ = absurd e
+  -- full decoding's verdict, in steps of its own
+  same : (x : Verdict) → of Root ≡ x → (r : Restart) → of r ≡ inSteps (stepsIn (of r)) x
+  same x e r = same-but-steps x (of r) (subst (λ (y : Verdict). SameButSteps y (of r)) e (run-same ok (os Root) (os r) (same-trials mask c v Root r sets flips)))
 
-  -- by the answers of both runs
-  pub two-restarts : {z z′ : Decoded × List ℕ} → z ≡ answerOf mask c output (run ok 0 0 left) → z′ ≡ answerOf mask c output′ (run ok 0 0 right) → TwoRestarts a b mask c sets output output′ z z′
-  two-restarts = both (run ok 0 0 left) (run ok 0 0 right) (run-ends ok left) (run-ends ok right) (run-same ok left right (same-trials mask c v a b sets flips))
+  pub every-restart : {Fitting : List ℕ → Type 0} {answer : Restart → List ℕ → Decoded × List ℕ}
+      → ((r : Restart) (o : List ℕ) → Fitting o → answer r o ≡ answerOf mask c o (of r)) → EveryRestart mask c sets Fitting answer
+  every-restart {Fitting} {answer} a = go (of Root) refl
+    where
+      go : (x : Verdict) → of Root ≡ x → EveryRestart mask c sets Fitting answer
+      go (passed t s u) e =
+          let p : (r : Restart) → PassedAt ok (os r) t (stepsIn (of r)) u = λ r. subst (Ends ok (os r)) (same (passed t s u) e r) (run-ends ok (os r)) in
+          let most : t ≤ length sets + 1 = omega (arith, p Root .most, length-trials-of mask c v Root sets) in
+          record {
+            made = t;
+            steps = λ r. stepsIn (of r);
+            most = most;
+            each = sets-made sets t (p Root .least) most;
+            answers = inl (packed (take (c .k) (messageIn mask c u)), λ r o f. a r o f ∙ ap (answerOf mask c o) (same (passed t s u) e r));
+            counted = λ r. steps-trials mask c v r sets flips t (p Root .least) most (p r .steps-are);
+          }
+      go (failed m s) e =
+          let p : (r : Restart) → AllFailed ok (os r) m (stepsIn (of r)) = λ r. subst (Ends ok (os r)) (same (failed m s) e r) (run-ends ok (os r)) in
+          let all : m ≡ length sets + 1 = p Root .all ∙ length-trials-of mask c v Root sets in
+          let least : 1 ≤ m = omega arith in
+          let most : m ≤ length sets + 1 = omega arith in
+          record {
+            made = m;
+            steps = λ r. stepsIn (of r);
+            most = most;
+            each = sets-made sets m least most;
+            answers = inr (all, λ r o f. a r o f ∙ ap (answerOf mask c o) (same (failed m s) e r));
+            counted = λ r.
+                steps-trials mask c v r sets flips m least most (p r .steps-are ∙ ap stepsOf (sym (take-all m (os r) (omega (arith, p r .all)))));
+          }
 
 -- ---- single flips
 
@@ -109,38 +115,42 @@ answer restart d c channel limit output code w =
     ∙ well-formed-answer (planOf restart limit) (maskOf d) c channel output w
     ∙ ap (λ (os : List Out). answerOf (maskOf d) c output (run (trialPasses (maskOf d) c) 0 0 os)) (trials-are (maskOf d) c (channelValues channel) (planOf restart limit))
 
-module _ (a b : Restart) (d : List ℕ) (c : Code) (channel : List ℕ) (limit : ℕ) (output output′ : List ℕ)
-    (code : describe d ≡ Coding c) (w : WellFormed c channel limit output) (w′ : WellFormed c channel limit output′) where
+module _ (d : List ℕ) (c : Code) (channel : List ℕ) (limit : ℕ) (code : describe d ≡ Coding c) where
   abbrev mask : List ℕ
   mask = maskOf d
 
   abbrev v : List ℤ
   v = channelValues channel
 
-  -- the decoders of two restarts
-  pub two : TwoRestarts a b mask c (singles mask c v limit) output output′ (decodedWith (planOf a limit) d channel output) (decodedWith (planOf b limit) d channel output′)
-  two =
-      two-restarts a b mask c v (singles mask c v limit) (flips-singles mask c v limit) output output′
-      (answer a d c channel limit output code w) (answer b d c channel limit output′ code w′)
+  -- the decoders of every restart
+  pub every : EveryRestart mask c (singles mask c v limit) (WellFormed c channel limit) (λ r o. decodedWith (planOf r limit) d channel o)
+  every = every-restart mask c v (singles mask c v limit) (flips-singles mask c v limit) (λ r o w. answer r d c channel limit o code w)
 
-  -- a set for each trial after the first, up to the limit
-  many : length (singles mask c v limit) + 1 ≡ limit
-  many = length-singles mask c v (described d c code .coded) limit (w .limit-least) (w .limit-most)
+  -- where the limit is allowed
+  module _ (least : 1 ≤ limit) (allowed : limit ≤ informationCount c + 1) where
+    -- a set for each trial after the first, up to the limit
+    many : length (singles mask c v limit) + 1 ≡ limit
+    many = length-singles mask c v (described d c code .coded) limit least allowed
 
-  -- no more trials are made than the limit allows
-  pub most : two .made ≤ limit
-  most = omega (arith, two .most, many)
+    -- no more trials are made than the limit allows
+    pub most : every .made ≤ limit
+    most = omega (arith, every .most, many)
 
-  -- the flipped indices are those of the sets
-  pub compare : Compare a b d c channel limit output output′
-  compare =
-      let is : map lowest (take (two .made - 1) (singles mask c v limit)) ≡ flippedIn mask c v (two .made) = lowest-singles mask c v (two .made) limit most in
+    -- the flipped indices are those of the sets
+    pub flipped-are : map lowest (take (every .made - 1) (singles mask c v limit)) ≡ flippedIn mask c v (every .made)
+    flipped-are = lowest-singles mask c v (every .made) limit most
+
+  pub compare : (a b : Restart) (output output′ : List ℕ) → WellFormed c channel limit output → WellFormed c channel limit output′ → Compare a b d c channel limit output output′
+  compare a b output output′ w w′ =
+      let is = flipped-are (w .limit-least) (w .limit-most) in
       record {
-        made = two .made;
-        steps = two .steps;
-        steps′ = two .steps′;
-        most = most;
-        answers = ⊎-elim inl (λ x. inr (x .0 ∙ many, x .1, x .2)) (two .answers);
-        counted = omega (arith, two .counted, ap (skippedBy a mask c) is);
-        counted′ = omega (arith, two .counted′, ap (skippedBy b mask c) is);
+        made = every .made;
+        steps = every .steps a;
+        steps′ = every .steps b;
+        most = most (w .limit-least) (w .limit-most);
+        answers =
+            ⊎-elim (λ x. inl (x .0, x .1 a output w, x .1 b output′ w′))
+            (λ x. inr (x .0 ∙ many (w .limit-least) (w .limit-most), x .1 a output w, x .1 b output′ w′)) (every .answers);
+        counted = omega (arith, every .counted a, ap (skippedBy a mask c) is);
+        counted′ = omega (arith, every .counted b, ap (skippedBy b mask c) is);
       }

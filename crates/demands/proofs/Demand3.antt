@@ -46,7 +46,7 @@ pub demand-3 : Demand3
 demand-3 d c channel limit output output′ code w w′ =
     let mask : List ℕ = maskOf d in
     let v : List ℤ = channelValues channel in
-    let e = compare Root After d c channel limit output output′ code w w′ in
+    let e = compare d c channel limit code Root After output output′ w w′ in
     let is : List ℕ = flippedIn mask c v (e .made) in
     record {
       made = e .made;

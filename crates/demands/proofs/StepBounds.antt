@@ -17,7 +17,7 @@ use Rattle.run.specs.declared.Decoded.the-variants.{Accepted, Failed, Refused}
 use Rattle.flip.specs.Claims.{ofRun}
 use Rattle.flip.specs.Decode.{planOf, decodedWith}
 use Rattle.flip.proofs.WellFormed.{well-formed-exactly}
-use Rattle.demands.proofs.Compare.{TwoRestarts, two, most}
+use Rattle.demands.proofs.Compare.{EveryRestart, every, most}
 
 -- the trials and steps of an answer
 abbrev pub Bounded : Decoded × List ℕ → Type 0
@@ -32,16 +32,18 @@ run-bounded (Failed made steps, bytes) p = p refl
 run-bounded (Refused x, bytes) p = tt
 
 -- the answer to the trials of any sets, where few enough are made
-pub few-bounded : {a b : Restart} {mask : List ℕ} {c : Code} {sets : List (List ℕ)} {output output′ : List ℕ} {z z′ : Decoded × List ℕ} → Coded mask c → (r : TwoRestarts a b mask c sets output output′ z z′) → r .made ≤ mostTrials → Bounded z
-few-bounded coded r few =
-    let steps : r .steps ≤ mostTrials * mostSteps = omega (arith, r .counted, mul-le-mul (mul-le-mul few (coded .n-most)) (fits (coded .n-most))) in
-    ⊎-elim (λ x. subst Bounded (sym (x .1)) (few, steps)) (λ x. subst Bounded (sym (x .1)) (few, steps)) (r .answers)
+pub few-bounded : {mask : List ℕ} {c : Code} {sets : List (List ℕ)} {Fitting : List ℕ → Type 0} {answer : Restart → List ℕ → Decoded × List ℕ} → Coded mask c
+    → (x : EveryRestart mask c sets Fitting answer) → x .made ≤ mostTrials → (r : Restart) (o : List ℕ) → Fitting o → Bounded (answer r o)
+few-bounded coded x few r o f =
+    let steps : x .steps r ≤ mostTrials * mostSteps = omega (arith, x .counted r, mul-le-mul (mul-le-mul few (coded .n-most)) (fits (coded .n-most))) in
+    ⊎-elim (λ y. subst Bounded (sym (y .1 r o f)) (few, steps)) (λ y. subst Bounded (sym (y .1 r o f)) (few, steps)) (x .answers)
 
 -- single flips: K + 1 trials are few enough
 pub decoded-bounded : (restart : Restart) (d channel : List ℕ) (limit : ℕ) (output : List ℕ) → Bounded (decodedWith (planOf restart limit) d channel output)
 decoded-bounded restart d channel limit output =
     run-bounded (decodedWith (planOf restart limit) d channel output) (λ e.
     let u = well-formed-exactly (planOf restart limit) d channel output .1 e in
+    let w = u .rest in
     let coded = described d (u .code) (u .describes) .coded in
-    few-bounded coded (two restart restart d (u .code) channel limit output output (u .describes) (u .rest) (u .rest))
-    (omega (arith, most restart restart d (u .code) channel limit output output (u .describes) (u .rest) (u .rest), u .rest .limit-most, coded .K-most, fits (coded .n-most))))
+    few-bounded coded (every d (u .code) channel limit (u .describes))
+    (omega (arith, most d (u .code) channel limit (u .describes) (w .limit-least) (w .limit-most), w .limit-most, coded .K-most, fits (coded .n-most))) restart output w)

@@ -25,7 +25,7 @@ use Rattle.flip.specs.Decode.{planOf}
 use Rattle.demands.specs.Claims.{bitsOfEach, stepsOf, flippedIn, skippedBy}
 
 -- the images of the first m
-take-map : {A B : Type 0} (f : A → B) (m : ℕ) (xs : List A) → take m (map f xs) ≡ map f (take m xs)
+pub take-map : {A B : Type 0} (f : A → B) (m : ℕ) (xs : List A) → take m (map f xs) ≡ map f (take m xs)
 take-map f zero xs = refl
 take-map f (suc m) [] = refl
 take-map {A} {B} f (suc m) (x ∷ xs) = ap (λ (ys : List B). f x ∷ ys) (take-map f m xs)

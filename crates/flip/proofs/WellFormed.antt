@@ -95,7 +95,7 @@ module _ (plan : Plan) (d channel output : List ℕ) where
   unfolding decodedWith
   decoded-by c e = ap by e
 
-  -- the input is well-formed exactly where nothing before 16 is the answer; `decodedFull` and `decodedRestarted` have a plan each
+  -- the input is well-formed exactly where nothing before 16 is the answer; every decoder has a plan
   pub well-formed-exactly : WellFormedUnder d (λ c. WellFormed c channel (plan .limit) output) ↔ (ofRun (decodedWith plan d channel output .0) ≡ true)
   unfolding decodedWith decodedBy
   well-formed-exactly =

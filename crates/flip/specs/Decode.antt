@@ -1,4 +1,5 @@
--- Document 01, "Flip decoding, full and restarted": both decoders, with the refusals of a description, 12, 13, 14, 15 and 16 in order.
+-- Document 01, "Flip decoding, full and restarted", and document 02, request 2.4: the decoders, with the refusals of a description, 12, 13,
+-- 14, 15 and 16 in order.
 use mathlib.Core.Bool.{Bool}
 use mathlib.Core.List.{List, [], _∷_, _++_}
 use Prim.Native.Nat.{ℕ, _+_}
@@ -13,7 +14,7 @@ use Rattle.code.specs.Code.{informationCount}
 use Rattle.code.specs.Description.{maskOf, describeUpTo, onDescription}
 use Rattle.channel.specs.Channel.{channelValues, channelRefusals}
 use Rattle.trial.specs.declared.Restart.{Restart}
-use Rattle.trial.specs.declared.Restart.the-variants.{Root, After}
+use Rattle.trial.specs.declared.Restart.the-variants.{Root, Half, After}
 use Rattle.trial.specs.Trial.{trialPasses}
 use Rattle.run.specs.declared.Plan.{Plan}
 use Rattle.run.specs.declared.Decoded.{Decoded}
@@ -50,9 +51,13 @@ decodedWith plan d channel output = decodedUpTo deepest plan d channel output
 abbrev pub planOf : Restart → ℕ → Plan
 planOf restart limit = record { restart = restart; limit = limit }
 
--- full decoding repeats each trial from the root; restarted decoding resumes past the flipped index
+-- full decoding repeats each trial from the root; half restart resumes at N/2 where the flipped index is N/2 or above, otherwise at 0;
+-- restarted decoding resumes past the flipped index
 abbrev pub decodedFull : List ℕ → List ℕ → ℕ → List ℕ → Decoded × List ℕ
 decodedFull d channel limit output = decodedWith (planOf Root limit) d channel output
+
+abbrev pub decodedHalf : List ℕ → List ℕ → ℕ → List ℕ → Decoded × List ℕ
+decodedHalf d channel limit output = decodedWith (planOf Half limit) d channel output
 
 abbrev pub decodedRestarted : List ℕ → List ℕ → ℕ → List ℕ → Decoded × List ℕ
 decodedRestarted d channel limit output = decodedWith (planOf After limit) d channel output

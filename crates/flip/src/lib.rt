@@ -1,4 +1,4 @@
-// Flip decoding, full and restarted.
+// Flip decoding: full, by half restart, and restarted.
 use code::Code;
 use code::Description;
 use refusal::Judgement;
@@ -13,7 +13,7 @@ ghost use Rattle.arrays.specs.Sizes.{deepest};
 ghost use Rattle.arrays.specs.Claims.{longest};
 ghost use Rattle.code.specs.Code.{informationCount};
 ghost use Rattle.code.specs.Claims.{Coded};
-ghost use Rattle.flip.specs.Decode.{runRefusals, decodingRefusals, decodedBy, decodedWith, decodedFull, decodedRestarted};
+ghost use Rattle.flip.specs.Decode.{runRefusals, decodingRefusals, decodedBy, decodedWith, decodedFull, decodedHalf, decodedRestarted};
 
 // Whether the trial limit is outside 1..K + 1.
 fn is_bad_limit(limit: u32, code: Code) -> bool
@@ -80,6 +80,17 @@ pub fn decode_full(description: &[u8], channel: &[u8], limit: u32, output: &mut 
         limit,
     };
     decode(full, description, channel, output)
+}
+
+// Decodes with each later trial resumed at N/2 where its flipped index is N/2 or above, otherwise at 0.
+pub fn decode_half(description: &[u8], channel: &[u8], limit: u32, output: &mut [u8]) -> Decoded
+    ensures { λ a. ⌜ (a, now (output .exit)) ≡ decodedHalf (now (description .entry)) (now (channel .entry)) limit (now (output .entry)) ⌝ }
+{
+    let half = Plan {
+        restart: Restart::Half,
+        limit,
+    };
+    decode(half, description, channel, output)
 }
 
 // Decodes with each later trial resumed past its flipped index.

@@ -24,7 +24,7 @@ use Rattle.encoder.specs.declared.Encoded.the-variants.{Refused as NotEncoded}
 use Rattle.encoder.specs.Encode.{encodedBy, encoded}
 use Rattle.resume.specs.declared.Resumed.the-variants.{Refused as NotResumed}
 use Rattle.resume.specs.Resume.{resumedBy, resumed}
-use Rattle.trial.specs.declared.Restart.the-variants.{Root, After}
+use Rattle.trial.specs.declared.Restart.the-variants.{Root, Half, After}
 use Rattle.run.specs.declared.Decoded.the-variants.{Refused as NotDecoded}
 use Rattle.flip.specs.Decode.{decodedBy, decodedWith, planOf}
 use Rattle.sets.specs.DecodeSets.{setsBy, setsWith, searchOf}
@@ -145,8 +145,10 @@ as-accepted largest d c more e =
       encode = λ payload output. sym (same .encoding payload output);
       resume = λ channel prefix output. sym (same .resuming channel prefix output);
       full = λ channel limit output. sym (same .decoding (planOf Root limit) channel output);
+      half = λ channel limit output. sym (same .decoding (planOf Half limit) channel output);
       restarted = λ channel limit output. sym (same .decoding (planOf After limit) channel output);
       sets-full = λ channel w limit output. sym (same .decoding-sets (searchOf Root w limit) channel output);
+      sets-half = λ channel w limit output. sym (same .decoding-sets (searchOf Half w limit) channel output);
       sets-restarted = λ channel w limit output. sym (same .decoding-sets (searchOf After w limit) channel output);
     }
 

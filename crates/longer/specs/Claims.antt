@@ -16,9 +16,9 @@ use Rattle.encoder.specs.Encode.{encodedUpTo, encoded}
 use Rattle.tree.specs.Node.{node}
 use Rattle.tree.specs.Claims.{most, worked}
 use Rattle.resume.specs.Resume.{resumedUpTo, resumed}
-use Rattle.trial.specs.declared.Restart.the-variants.{Root, After}
-use Rattle.flip.specs.Decode.{decodedUpTo, planOf, decodedFull, decodedRestarted}
-use Rattle.sets.specs.DecodeSets.{setsUpTo, searchOf, setsFull, setsRestarted}
+use Rattle.trial.specs.declared.Restart.the-variants.{Root, Half, After}
+use Rattle.flip.specs.Decode.{decodedUpTo, planOf, decodedFull, decodedHalf, decodedRestarted}
+use Rattle.sets.specs.DecodeSets.{setsUpTo, searchOf, setsFull, setsHalf, setsRestarted}
 
 -- Bytes whose answer a larger n changes: they are refused as 4 with n up to `small`, and not with n up to `large`, and their n lies between.
 -- `answers` of proofs/Longer.antt: all bytes have the same answers, or are these.
@@ -35,8 +35,10 @@ pub record AnswersAs (largest : ℕ) (d : List ℕ) : Type 0 where
   pub encode : (payload output : List ℕ) → encoded d payload output ≡ encodedUpTo largest d payload output
   pub resume : (channel prefix output : List ℕ) → resumed d channel prefix output ≡ resumedUpTo largest d channel prefix output
   pub full : (channel : List ℕ) (limit : ℕ) (output : List ℕ) → decodedFull d channel limit output ≡ decodedUpTo largest (planOf Root limit) d channel output
+  pub half : (channel : List ℕ) (limit : ℕ) (output : List ℕ) → decodedHalf d channel limit output ≡ decodedUpTo largest (planOf Half limit) d channel output
   pub restarted : (channel : List ℕ) (limit : ℕ) (output : List ℕ) → decodedRestarted d channel limit output ≡ decodedUpTo largest (planOf After limit) d channel output
   pub sets-full : (channel : List ℕ) (w limit : ℕ) (output : List ℕ) → setsFull d channel w limit output ≡ setsUpTo largest (searchOf Root w limit) d channel output
+  pub sets-half : (channel : List ℕ) (w limit : ℕ) (output : List ℕ) → setsHalf d channel w limit output ≡ setsUpTo largest (searchOf Half w limit) d channel output
   pub sets-restarted : (channel : List ℕ) (w limit : ℕ) (output : List ℕ) → setsRestarted d channel w limit output ≡ setsUpTo largest (searchOf After w limit) d channel output
 
 -- "The inner bound is 31 · 2^n at a leaf, up to 126,976": no magnitude at a leaf exceeds that, nor one at layer s what `most` allows there at the

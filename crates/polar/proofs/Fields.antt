@@ -1,5 +1,5 @@
 -- Every answer of every export is read back from its number.
-use Rattle.trial.specs.declared.Restart.the-variants.{Root, After}
+use Rattle.trial.specs.declared.Restart.the-variants.{Root, Half, After}
 use Rattle.number.proofs.Fields.{number-fields}
 use Rattle.polar.specs.Claims.{ReadBack}
 use Rattle.polar.proofs.Fitting.{encoded-fits, resumed-fits, decoded-fits, sets-fits}
@@ -9,7 +9,9 @@ read-back = (
   λ d payload output. number-fields _ (encoded-fits d payload output),
   λ d channel prefix output. number-fields _ (resumed-fits d channel prefix output),
   λ d channel limit output. number-fields _ (decoded-fits Root d channel limit output),
+  λ d channel limit output. number-fields _ (decoded-fits Half d channel limit output),
   λ d channel limit output. number-fields _ (decoded-fits After d channel limit output),
   λ d channel w limit output. number-fields _ (sets-fits Root d channel w limit output),
+  λ d channel w limit output. number-fields _ (sets-fits Half d channel w limit output),
   λ d channel w limit output. number-fields _ (sets-fits After d channel w limit output),
 )

@@ -3,8 +3,8 @@ use Prim.Native.Nat.{ℕ}
 use mathlib.Core.List.{List}
 use Rattle.encoder.specs.Encode.{encoded}
 use Rattle.resume.specs.Resume.{resumed}
-use Rattle.flip.specs.Decode.{decodedFull, decodedRestarted}
-use Rattle.sets.specs.DecodeSets.{setsFull, setsRestarted}
+use Rattle.flip.specs.Decode.{decodedFull, decodedHalf, decodedRestarted}
+use Rattle.sets.specs.DecodeSets.{setsFull, setsHalf, setsRestarted}
 use Rattle.number.specs.Number.{encodedParts, resumedParts, decodedParts}
 use Rattle.number.specs.Claims.{Read}
 
@@ -14,6 +14,8 @@ ReadBack =
     ((d payload output : List ℕ) → Read (encodedParts (encoded d payload output .0)))
     × ((d channel prefix output : List ℕ) → Read (resumedParts (resumed d channel prefix output .0)))
     × ((d channel : List ℕ) (limit : ℕ) (output : List ℕ) → Read (decodedParts (decodedFull d channel limit output .0)))
+    × ((d channel : List ℕ) (limit : ℕ) (output : List ℕ) → Read (decodedParts (decodedHalf d channel limit output .0)))
     × ((d channel : List ℕ) (limit : ℕ) (output : List ℕ) → Read (decodedParts (decodedRestarted d channel limit output .0)))
     × ((d channel : List ℕ) (w limit : ℕ) (output : List ℕ) → Read (decodedParts (setsFull d channel w limit output .0)))
+    × ((d channel : List ℕ) (w limit : ℕ) (output : List ℕ) → Read (decodedParts (setsHalf d channel w limit output .0)))
     × ((d channel : List ℕ) (w limit : ℕ) (output : List ℕ) → Read (decodedParts (setsRestarted d channel w limit output .0)))

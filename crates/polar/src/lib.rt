@@ -5,8 +5,8 @@ use number::resumed_answer;
 ghost use mathlib.Core.Path.{_≡_};
 ghost use Rattle.encoder.specs.Encode.{encoded};
 ghost use Rattle.resume.specs.Resume.{resumed};
-ghost use Rattle.flip.specs.Decode.{decodedFull, decodedRestarted};
-ghost use Rattle.sets.specs.DecodeSets.{setsFull, setsRestarted};
+ghost use Rattle.flip.specs.Decode.{decodedFull, decodedHalf, decodedRestarted};
+ghost use Rattle.sets.specs.DecodeSets.{setsFull, setsHalf, setsRestarted};
 ghost use Rattle.number.specs.Number.{numbered, encodedParts, resumedParts, decodedParts};
 
 #[no_mangle]
@@ -41,6 +41,18 @@ pub extern "C" fn polar_decode_full(
 }
 
 #[no_mangle]
+pub extern "C" fn polar_decode_half(
+    description: &[u8],
+    channel: &[u8],
+    limit: u32,
+    payload: &mut [u8],
+) -> u64
+    ensures { λ x. ⌜ (x, now (payload .exit)) ≡ numbered decodedParts (decodedHalf (now (description .entry)) (now (channel .entry)) limit (now (payload .entry))) ⌝ }
+{
+    decoded_answer(flip::decode_half(description, channel, limit, payload))
+}
+
+#[no_mangle]
 pub extern "C" fn polar_decode_restarted(
     description: &[u8],
     channel: &[u8],
@@ -63,6 +75,19 @@ pub extern "C" fn polar_decode_sets_full(
     ensures { λ x. ⌜ (x, now (payload .exit)) ≡ numbered decodedParts (setsFull (now (description .entry)) (now (channel .entry)) w limit (now (payload .entry))) ⌝ }
 {
     decoded_answer(setflip::decode_sets_full(description, channel, w, limit, payload))
+}
+
+#[no_mangle]
+pub extern "C" fn polar_decode_sets_half(
+    description: &[u8],
+    channel: &[u8],
+    w: u32,
+    limit: u32,
+    payload: &mut [u8],
+) -> u64
+    ensures { λ x. ⌜ (x, now (payload .exit)) ≡ numbered decodedParts (setsHalf (now (description .entry)) (now (channel .entry)) w limit (now (payload .entry))) ⌝ }
+{
+    decoded_answer(setflip::decode_sets_half(description, channel, w, limit, payload))
 }
 
 #[no_mangle]

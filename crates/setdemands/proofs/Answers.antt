@@ -28,7 +28,7 @@ use Rattle.tried.proofs.Kept.{length-sets}
 use Rattle.tried.proofs.All.{all-tried}
 use Rattle.setdemands.specs.Claims.{AllTried}
 
--- A decoder by sets under an accepted description, by any restart: `setsFull` and `setsRestarted` are two such.
+-- A decoder by sets under an accepted description, by any restart: `setsFull`, `setsHalf` and `setsRestarted` are such.
 module _ (restart : Restart) (w limit : ℕ) (d : List ℕ) (c : Code) (channel output : List ℕ) (code : describe d ≡ Coding c) where
   abbrev search : Search
   search = searchOf restart w limit

@@ -1,4 +1,4 @@
--- The decoders by sets of any two restarts give the same answer, and each skips exactly the steps that its restarts save.
+-- The decoders by sets of every restart give the same answer, and each skips exactly the steps that its restarts save.
 use mathlib.Core.Path.{_≡_, ap, _∙_}
 use mathlib.Core.List.{List}
 use Prim.Native.Nat.{ℕ, _≤_}
@@ -13,7 +13,7 @@ use Rattle.trial.specs.declared.Restart.the-variants.{Root}
 use Rattle.trial.specs.Trial.{trialPasses}
 use Rattle.run.specs.Trials.{run, answerOf}
 use Rattle.demands.proofs.Trials.{FlipsEach, trialsOf}
-use Rattle.demands.proofs.Compare.{TwoRestarts, two-restarts}
+use Rattle.demands.proofs.Compare.{EveryRestart, every-restart}
 use Rattle.sets.specs.Tried.{flipSets}
 use Rattle.sets.specs.DecodeSets.{searchOf, setsWith}
 use Rattle.sets.specs.WellFormed.{WellFormed}
@@ -41,17 +41,14 @@ answer restart d c channel w limit output code on =
     ∙ well-formed-answer (searchOf restart w limit) mask c channel output on
     ∙ ap (λ (sets : List (List ℕ)). answerOf mask c output (run (trialPasses mask c) 0 0 (trialsOf restart mask c v sets))) (same-sets restart Root w limit mask c v)
 
-module _ (a b : Restart) (d : List ℕ) (c : Code) (channel : List ℕ) (w limit : ℕ) (output output′ : List ℕ)
-    (code : describe d ≡ Coding c) (on : WellFormed c channel w limit output) (on′ : WellFormed c channel w limit output′) where
+module _ (d : List ℕ) (c : Code) (channel : List ℕ) (w limit : ℕ) (code : describe d ≡ Coding c) where
   abbrev sets : List (List ℕ)
   sets = setsUpTo w limit (maskOf d) c (channelValues channel)
 
-  -- the decoders of two restarts
-  pub compare : TwoRestarts a b (maskOf d) c sets output output′ (setsWith (searchOf a w limit) d channel output) (setsWith (searchOf b w limit) d channel output′)
-  compare =
-      two-restarts a b (maskOf d) c (channelValues channel) sets (flips-each w limit (maskOf d) c (channelValues channel)) output output′
-      (answer a d c channel w limit output code on) (answer b d c channel w limit output′ code on′)
+  -- the decoders of every restart
+  pub every : EveryRestart (maskOf d) c sets (WellFormed c channel w limit) (λ r o. setsWith (searchOf r w limit) d channel o)
+  every = every-restart (maskOf d) c (channelValues channel) sets (flips-each w limit (maskOf d) c (channelValues channel)) (λ r o on. answer r d c channel w limit o code on)
 
   -- no more trials are made than the limit allows
-  pub most : compare .made ≤ limit
-  most = omega (arith, compare .most, length-sets (searchOf Root w limit) (maskOf d) c (channelValues channel), on .limit-least)
+  pub most : 1 ≤ limit → every .made ≤ limit
+  most least = omega (arith, every .most, length-sets (searchOf Root w limit) (maskOf d) c (channelValues channel), least)

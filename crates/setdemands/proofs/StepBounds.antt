@@ -11,7 +11,7 @@ use Rattle.demands.proofs.StepBounds.{Bounded, run-bounded, few-bounded}
 use Rattle.sets.specs.DecodeSets.{searchOf, setsWith}
 use Rattle.sets.proofs.WellFormed.{well-formed-exactly}
 use Rattle.sets.proofs.Limit.{limit-fits}
-use Rattle.setdemands.proofs.Compare.{compare, most}
+use Rattle.setdemands.proofs.Compare.{every, most}
 
 -- sets of up to w indices
 pub sets-bounded : (restart : Restart) (w limit : ℕ) (d channel output : List ℕ) → Bounded (setsWith (searchOf restart w limit) d channel output)
@@ -20,5 +20,5 @@ sets-bounded restart w limit d channel output =
     let u = well-formed-exactly (searchOf restart w limit) d channel output .1 e in
     let coded = described d (u .code) (u .describes) .coded in
     let fit : informationCount (u .code) ≤ longest = omega (arith, coded .K-most, fits (coded .n-most)) in
-    few-bounded coded (compare restart restart d (u .code) channel w limit output output (u .describes) (u .rest) (u .rest))
-    (omega (arith, most restart restart d (u .code) channel w limit output output (u .describes) (u .rest) (u .rest), u .rest .limit-most, limit-fits w (u .code) fit)))
+    few-bounded coded (every d (u .code) channel w limit (u .describes))
+    (omega (arith, most d (u .code) channel w limit (u .describes) (u .rest .limit-least), u .rest .limit-most, limit-fits w (u .code) fit)) restart output (u .rest))

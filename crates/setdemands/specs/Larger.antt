@@ -11,7 +11,7 @@ use Rattle.run.specs.declared.Decoded.the-variants.{Accepted}
 use Rattle.sets.specs.DecodeSets.{searchOf, setsWith}
 use Rattle.sets.specs.WellFormed.{WellFormed}
 
--- full and restarted decoding are a restart each; each call has its own output
+-- full, half and restarted decoding are a restart each; each call has its own output
 abbrev pub StaysAccepted : Type 0
 StaysAccepted =
     (restart : Restart) (d : List ℕ) (c : Code) (channel : List ℕ) (w limit limit′ : ℕ) (output output′ : List ℕ) (trial steps : ℕ) (payload : List ℕ)

@@ -1,4 +1,4 @@
-// Decoding by sets of flipped indices, full and restarted.
+// Decoding by sets of flipped indices: full, by half restart, and restarted.
 use code::Code;
 use code::Description;
 use refusal::Judgement;
@@ -13,7 +13,7 @@ ghost use Rattle.arrays.specs.Sizes.{deepest};
 ghost use Rattle.arrays.specs.Claims.{longest};
 ghost use Rattle.code.specs.Code.{informationCount};
 ghost use Rattle.code.specs.Claims.{Coded};
-ghost use Rattle.sets.specs.DecodeSets.{mostLimit, searchRefusals, setRefusals, setsBy, setsWith, setsFull, setsRestarted};
+ghost use Rattle.sets.specs.DecodeSets.{mostLimit, searchRefusals, setRefusals, setsBy, setsWith, setsFull, setsHalf, setsRestarted};
 
 // The largest trial limit where a set may have more than one index.
 const MOST_TRIALS: usize = 512;
@@ -112,6 +112,24 @@ pub fn decode_sets_full(
         limit,
     };
     decode(full, description, channel, output)
+}
+
+// Decodes with each later trial resumed at N/2 where the lowest index of its set is N/2 or above, otherwise at 0.
+pub fn decode_sets_half(
+    description: &[u8],
+    channel: &[u8],
+    w: u32,
+    limit: u32,
+    output: &mut [u8],
+) -> Decoded
+    ensures { λ a. ⌜ (a, now (output .exit)) ≡ setsHalf (now (description .entry)) (now (channel .entry)) w limit (now (output .entry)) ⌝ }
+{
+    let half = Search {
+        restart: Restart::Half,
+        w,
+        limit,
+    };
+    decode(half, description, channel, output)
 }
 
 // Decodes with each later trial resumed past the lowest index of its set.

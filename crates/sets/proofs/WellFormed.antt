@@ -96,7 +96,7 @@ module _ (s : Search) (d channel output : List ℕ) where
   unfolding setsWith
   decoded-by c e = ap by e
 
-  -- the input is well-formed exactly where nothing before 16 is the answer; `setsFull` and `setsRestarted` have a search each
+  -- the input is well-formed exactly where nothing before 16 is the answer; every decoder has a search
   pub well-formed-exactly : WellFormedUnder d (λ c. WellFormed c channel (s .w) (s .limit) output) ↔ (ofRun (setsWith s d channel output .0) ≡ true)
   unfolding setsWith setsBy
   well-formed-exactly =

@@ -1,4 +1,4 @@
--- Document 02, request 2.2: both decoders by sets, with the refusals of a description, 12, 13, 26, 14, 15 and 16 in order.
+-- Document 02, requests 2.2 and 2.4: the decoders by sets, with the refusals of a description, 12, 13, 26, 14, 15 and 16 in order.
 use mathlib.Core.Bool.{Bool, cond}
 use mathlib.Core.List.{List, [], _∷_, _++_}
 use Prim.Native.Nat.{ℕ, _+_}
@@ -14,7 +14,7 @@ use Rattle.code.specs.Code.{informationCount}
 use Rattle.code.specs.Description.{maskOf, describeUpTo, onDescription}
 use Rattle.channel.specs.Channel.{channelValues, channelRefusals}
 use Rattle.trial.specs.declared.Restart.{Restart}
-use Rattle.trial.specs.declared.Restart.the-variants.{Root, After}
+use Rattle.trial.specs.declared.Restart.the-variants.{Root, Half, After}
 use Rattle.trial.specs.Trial.{trialPasses}
 use Rattle.run.specs.declared.Decoded.{Decoded}
 use Rattle.run.specs.declared.Decoded.the-variants.{Refused}
@@ -56,9 +56,13 @@ setsWith s d channel output = setsUpTo deepest s d channel output
 abbrev pub searchOf : Restart → ℕ → ℕ → Search
 searchOf restart w limit = record { restart = restart; w = w; limit = limit }
 
--- full decoding repeats each trial from the root; restarted decoding resumes past the lowest index of its set
+-- full decoding repeats each trial from the root; half restart resumes at N/2 where the lowest index of its set is N/2 or above, otherwise at
+-- 0; restarted decoding resumes past the lowest index of its set
 abbrev pub setsFull : List ℕ → List ℕ → ℕ → ℕ → List ℕ → Decoded × List ℕ
 setsFull d channel w limit output = setsWith (searchOf Root w limit) d channel output
+
+abbrev pub setsHalf : List ℕ → List ℕ → ℕ → ℕ → List ℕ → Decoded × List ℕ
+setsHalf d channel w limit output = setsWith (searchOf Half w limit) d channel output
 
 abbrev pub setsRestarted : List ℕ → List ℕ → ℕ → ℕ → List ℕ → Decoded × List ℕ
 setsRestarted d channel w limit output = setsWith (searchOf After w limit) d channel output

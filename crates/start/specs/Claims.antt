@@ -33,7 +33,7 @@ use Rattle.run.specs.WellFormed.{WellFormed}
 use Rattle.flip.specs.Decode.{decodingRefusals, decodedFull, decodedRestarted}
 use Rattle.start.specs.Silence.{silence}
 
--- Why a start is wanted: with start 0 silence is accepted on trial 1 as a payload of zeros, by both decoders and with any T that 14 allows.
+-- Why a start is wanted: with start 0 silence is accepted on trial 1 as a payload of zeros, by full and restarted decoding and with any T that 14 allows.
 -- `silence-accepted` of proofs/Silence.antt
 abbrev pub SilenceAccepted : Type 0
 SilenceAccepted =

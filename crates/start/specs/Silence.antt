@@ -26,7 +26,7 @@ Trial1Fails =
     (d : List ℕ) (c : Code) → describe d ≡ Coding c → 0 < c .start
     → trialPasses (maskOf d) c (firstTrial (maskOf d) c (channelValues (silence c)) .bits) ≡ false
 
--- so with T = 1 both decoders give refusal 16, with T = 1 and n · N steps, and any output of the right size stays as it was
+-- so with T = 1 full and restarted decoding give refusal 16, with T = 1 and n · N steps, and any output of the right size stays as it was
 abbrev pub SilenceFails : Type 0
 SilenceFails =
     (d : List ℕ) (c : Code) (output : List ℕ) → describe d ≡ Coding c → 0 < c .start → length output ≡ bytesFor (c .k)

@@ -4,7 +4,7 @@ use mathlib.Core.Path.{_≡_, refl, sym, ap, _∙_}
 use mathlib.Core.Bool.{Bool, true, false, cond}
 use mathlib.Core.List.{List, [], _∷_}
 use Prim.Native.Nat.{ℕ, zero, suc, _+_, _-_, _*_, _/_, _%_, _^_, _<_, _≤_, min}
-use native.Mathlib.Nat.{two-pow-succ, suc-mul, one-mul, mod-le, mod-eq-of-lt, mod-eq-sub-mod, mul-add-mod-self-right, mul-le-mul-right, le-div-iff-mul-le, div-mul-le-self, div-add-mod'}
+use native.Mathlib.Nat.{two-pow-succ, suc-mul, one-mul, mod-le, mod-self, mod-one, mod-eq-of-lt, mod-eq-sub-mod, mul-add-mod-self-right, mul-le-mul-right, le-div-iff-mul-le, div-mul-le-self, div-add-mod'}
 use native.Mathlib.Omega.{arith}
 use borrow.Author.Tests.{leb-true, leb-false}
 use lib.Dec.{leb}
@@ -34,20 +34,38 @@ unfolding skipped
 skipped-none zero = refl
 skipped-none (suc s) = omega (arith, skipped-none s)
 
--- a longer prefix saves as much or more
+-- a longer prefix has as many whole blocks or more
+blocks-mono : (s : ℕ) {q q′ : ℕ} → q ≤ q′ → q - q % 2 ^ s ≤ q′ - q′ % 2 ^ s
+blocks-mono s {q} {q′} l =
+    let h : ℕ = 2 ^ s in
+    let fewer : q / h ≤ q′ / h = le-div-iff-mul-le (pow-pos s) .1 (omega (arith, div-mul-le-self q h)) in
+    omega (arith, div-add-mod' q h, div-add-mod' q′ h, mul-le-mul-right h fewer)
+
+-- so it saves as much or more
 pub skipped-mono : (s : ℕ) {q q′ : ℕ} → q ≤ q′ → skipped s q ≤ skipped s q′
 unfolding skipped
 skipped-mono zero l = omega arith
-skipped-mono (suc s) {q} {q′} l =
-    let h : ℕ = 2 ^ s in
-    let fewer : q / h ≤ q′ / h = le-div-iff-mul-le (pow-pos s) .1 (omega (arith, div-mul-le-self q h)) in
-    omega (arith, skipped-mono s l, div-add-mod' q h, div-add-mod' q′ h, mul-le-mul-right h fewer)
+skipped-mono (suc s) l = omega (arith, skipped-mono s l, blocks-mono s l)
+
+-- and above a leaf at least one step more for each index more
+pub skipped-grows : (s : ℕ) {q q′ : ℕ} → q ≤ q′ → skipped (suc s) q + (q′ - q) ≤ skipped (suc s) q′
+unfolding skipped
+skipped-grows zero {q} {q′} l = omega (arith, mod-one q, mod-one q′)
+skipped-grows (suc s) l = omega (arith, skipped-grows s l, blocks-mono (suc s) l)
 
 -- at the end of the node all is saved
 pub skipped-whole : (s : ℕ) → skipped s (2 ^ s) ≡ s * 2 ^ s
 skipped-whole s =
     let e : 2 ^ s ≡ 1 * 2 ^ s + 0 = omega arith in
     ap (skipped s) e ∙ skipped-add s 1 0 ∙ omega (arith, skipped-none s, ap (λ (k : ℕ). s * k) (one-mul (2 ^ s)))
+
+-- at its half, half of that
+pub skipped-half : (s : ℕ) → skipped s (2 ^ s / 2) ≡ s * (2 ^ s / 2)
+unfolding skipped
+skipped-half zero = refl
+skipped-half (suc s) =
+    let e : 2 ^ suc s / 2 ≡ 2 ^ s = omega (arith, two-pow-succ s) in
+    ap (skipped (suc s)) e ∙ omega (arith, skipped-whole s, mod-self (2 ^ s)) ∙ ap (λ (k : ℕ). suc s * k) (sym e)
 
 -- what a prefix of two halves saves: what it saves in either half, and the left values where it covers the left half
 skipped-suc : (s q : ℕ) → q < 2 ^ suc s → skipped (suc s) q + cond (leb (2 ^ s) q) 0 (2 ^ s) ≡ skipped s (min (2 ^ s) q) + skipped s (q - 2 ^ s) + 2 ^ s

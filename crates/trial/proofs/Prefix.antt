@@ -1,4 +1,4 @@
--- How a later trial begins: its length, its bits, and its two forms.
+-- How a later trial begins: its two forms, its length, and its bits.
 use mathlib.Core.Path.{_≡_, ap₂, _∙_}
 use mathlib.Core.List.{List, _∷_, _++_}
 use Prim.Native.Nat.{ℕ, zero, suc, _+_, _-_, _<_, _≤_}
@@ -11,11 +11,6 @@ use Rattle.tree.proofs.RestartFlip.{flipped, length-flipped}
 use Rattle.trial.specs.Trial.{forcedPrefix}
 
 module _ (b : List ℕ) (i q : ℕ) where
-  pub length-forced : q ≤ length b → length (forcedPrefix b i q) ≡ q
-  length-forced m =
-      let zs : List ℕ = replicate (q - (i + 1)) 0 in
-      omega (arith, length-take q (flipped b i q), length-append (take i b) ((1 - getD b i 0) ∷ zs), length-take i b, length-replicate {A = ℕ} (q - (i + 1)) 0)
-
   -- up to the flipped index, with the bits themselves
   pub forced-before : q ≤ i → q ≤ length b → forcedPrefix b i q ≡ take q b
   forced-before l m =
@@ -24,6 +19,12 @@ module _ (b : List ℕ) (i q : ℕ) where
   -- past it, with the opposite there and zeros
   pub forced-past : i < q → q ≤ length b → forcedPrefix b i q ≡ flipped b i q
   forced-past l m = take-all q (flipped b i q) (omega (arith, length-flipped b i q l m))
+
+  -- as long as it says
+  pub length-forced : q ≤ length b → length (forcedPrefix b i q) ≡ q
+  length-forced m =
+      let zs : List ℕ = replicate (q - (i + 1)) 0 in
+      omega (arith, length-take q (flipped b i q), length-append (take i b) ((1 - getD b i 0) ∷ zs), length-take i b, length-replicate {A = ℕ} (q - (i + 1)) 0)
 
   -- with bits where those are bits
   pub bits-forced : Bits b → Bits (forcedPrefix b i q)

@@ -1,20 +1,21 @@
--- Where later trials may resume: at the root; and past the lowest flipped index, at the first information index above it, or at N.
-use mathlib.Core.Path.{_≡_, sym, ap, _∙_}
-use mathlib.Core.Bool.{Bool, true≢false}
+-- Where later trials may resume: at the root; at N/2 where the lowest flipped index is N/2 or above; and past the lowest flipped index, at
+-- the first information index above it, or at N.
+use mathlib.Core.Path.{_≡_, refl, sym, ap, _∙_}
+use mathlib.Core.Bool.{Bool, true, false, cond, true≢false}
 use mathlib.Core.Logic.{inl, inr, ⊎-elim}
-use mathlib.Core.List.{List}
-use Prim.Native.Nat.{ℕ, _+_, _-_, _<_}
+use mathlib.Core.List.{List, [], _∷_}
+use Prim.Native.Nat.{ℕ, _+_, _-_, _/_, _<_, _≤_}
 use native.Mathlib.Omega.{arith}
-use borrow.Author.Tests.{eqb-true, eq-eqb}
-use lib.Dec.{eqb}
+use borrow.Author.Tests.{leb-true, leb-false, eqb-true, eq-eqb}
+use lib.Dec.{leb, eqb}
 use Rattle.laws.specs.First.{firstWhere}
 use Rattle.laws.proofs.First.{first-le, first-before, first-holds}
 use Rattle.laws.proofs.Indices.{lt-cases}
 use Rattle.bits.specs.Mask.{maskBit}
 use Rattle.bits.proofs.Mask.{mask-cases}
 use Rattle.trial.specs.declared.Restart.{Restart}
-use Rattle.trial.specs.declared.Restart.the-variants.{Root, After}
-use Rattle.trial.specs.Trial.{lowest, resumeAt, restartAt}
+use Rattle.trial.specs.declared.Restart.the-variants.{Root, Half, After}
+use Rattle.trial.specs.Trial.{lowest, resumeAt, halfAt, restartAt}
 use Rattle.trial.specs.FirstAfter.{FirstAfter}
 use Rattle.trial.specs.Claims.{Flips, Restartable}
 use Rattle.trial.proofs.Flips.{lowest-below}
@@ -45,9 +46,30 @@ module _ (mask : List ℕ) (size i : ℕ) (below : i < size) where
     ends = lt-cases (firstWhere test room) room (λ l. inr (eqb-true _ 1 (first-holds test room l))) (λ l. inl (omega (arith, most)));
   }
 
+-- half restart resumes at N/2 or at 0, and not above the lowest flipped index
+pub half-cases : (P : ℕ → Type 0) (N i : ℕ) → (N / 2 ≤ i → P (N / 2)) → (i < N / 2 → P 0) → P (halfAt N i)
+half-cases P N i at below = go (leb (N / 2) i) refl
+  where
+    go : (t : Bool) → leb (N / 2) i ≡ t → P (cond t (N / 2) 0)
+    go true e = at (leb-true (N / 2) i e)
+    go false e = below (leb-false (N / 2) i e)
+
+pub half-at-most : (N i : ℕ) → halfAt N i ≤ i
+half-at-most N i = half-cases (λ q. q ≤ i) N i (λ l. l) (λ l. omega arith)
+
+-- of eight indices 3 is below N/2, 4 is N/2 and 5 is above
+pub half-of-8 : halfAt 8 3 ∷ halfAt 8 4 ∷ halfAt 8 5 ∷ halfAt 8 7 ∷ [] ≡ 0 ∷ 4 ∷ 4 ∷ 4 ∷ []
+half-of-8 = refl
+
 module _ {mask : List ℕ} {size : ℕ} {is : List ℕ} (p : Flips mask size is) where
   pub restartable-root : Restartable mask size is 0
   restartable-root = record { most = omega arith; between = λ j l m. absurd (omega arith) }
+
+  -- half restart resumes at the lowest flipped index or below
+  pub restartable-half : Restartable mask size is (halfAt size (lowest is))
+  restartable-half =
+      let l = half-at-most size (lowest is) in
+      record { most = omega (arith, lowest-below p); between = λ j above below. absurd (omega arith) }
 
   pub restartable-after : Restartable mask size is (resumeAt mask size (lowest is))
   restartable-after =
@@ -56,4 +78,5 @@ module _ {mask : List ℕ} {size : ℕ} {is : List ℕ} (p : Flips mask size is)
 
   pub restartable : (restart : Restart) → Restartable mask size is (restartAt restart mask size (lowest is))
   restartable Root = restartable-root
+  restartable Half = restartable-half
   restartable After = restartable-after

@@ -18,7 +18,7 @@ pub record Flips (mask : List ℕ) (size : ℕ) (is : List ℕ) : Type 0 where
   pub ascending : (a b : ℕ) → a < b → b < length is → getD is a 0 < getD is b 0
 
 -- where a trial with these flips may resume: at its lowest flipped index or below, or past it while only frozen indices lie between.
--- `restartable` of proofs/Restartable.antt says that both restarts do.
+-- `restartable` of proofs/Restartable.antt says that every restart does.
 pub record Restartable (mask : List ℕ) (size : ℕ) (is : List ℕ) (q : ℕ) : Type 0 where
   pub most : q ≤ size
   pub between : (j : ℕ) → lowest is < j → j < q → maskBit mask j ≡ 0

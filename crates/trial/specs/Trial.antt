@@ -1,8 +1,8 @@
--- Document 01, "Flip decoding, full and restarted", and document 02, request 2.1: one trial, and when it passes.
+-- Document 01, "Flip decoding, full and restarted", and document 02, requests 2.1 and 2.4: one trial, and when it passes.
 use mathlib.Core.Bool.{Bool, false, _||_, cond}
 use mathlib.Core.List.{List, [], _∷_, _++_}
-use Prim.Native.Nat.{ℕ, _+_, _-_}
-use lib.Dec.{eqb}
+use Prim.Native.Nat.{ℕ, _+_, _-_, _/_}
+use lib.Dec.{leb, eqb}
 use lib.IntN.{ℤ}
 use lib.ListN.{getD, take, replicate}
 use Rattle.laws.specs.First.{firstWhere}
@@ -14,7 +14,7 @@ use Rattle.placing.specs.Place.{taken}
 use Rattle.values.specs.Values.{Rule, opposite, maskRule}
 use Rattle.tree.specs.Node.{Out, node}
 use Rattle.trial.specs.declared.Restart.{Restart}
-use Rattle.trial.specs.declared.Restart.the-variants.{Root, After}
+use Rattle.trial.specs.declared.Restart.the-variants.{Root, Half, After}
 
 -- trial 1: a plain pass
 abbrev pub firstTrial : List ℕ → Code → List ℤ → Out
@@ -46,9 +46,15 @@ trialFrom q mask c v is = node (c .n) (forcedPrefix (firstTrial mask c v .bits) 
 abbrev pub resumeAt : List ℕ → ℕ → ℕ → ℕ
 resumeAt mask N i = i + 1 + firstWhere (λ k. eqb (maskBit mask (i + 1 + k)) 1) (N - (i + 1))
 
--- where later trials resume: full decoding repeats each from the root, restarted decoding resumes past the lowest flipped index
+-- half restart, i being the lowest flipped index: N/2 where i is N/2 or above, otherwise 0
+abbrev pub halfAt : ℕ → ℕ → ℕ
+halfAt N i = cond (leb (N / 2) i) (N / 2) 0
+
+-- where later trials resume: full decoding repeats each from the root, half restart as above, restarted decoding resumes past the lowest
+-- flipped index
 abbrev pub restartAt : Restart → List ℕ → ℕ → ℕ → ℕ
 restartAt Root mask N i = 0
+restartAt Half mask N i = halfAt N i
 restartAt After mask N i = resumeAt mask N i
 
 abbrev pub laterTrial : Restart → List ℕ → Code → List ℤ → List ℕ → Out

@@ -14,7 +14,7 @@ ghost use Rattle.code.specs.Claims.{Coded};
 ghost use Rattle.channel.specs.Channel.{channelValues};
 ghost use Rattle.node.specs.Contracts.{arrays};
 ghost use Rattle.sc.specs.Contracts.{PassPre};
-ghost use Rattle.trial.specs.Trial.{lowest, restartAt, forcedPrefix, laterTrial, messageIn, trialPasses};
+ghost use Rattle.trial.specs.Trial.{lowest, halfAt, restartAt, forcedPrefix, laterTrial, messageIn, trialPasses};
 ghost use Rattle.trial.specs.Contracts.{firstFrom, Below, setAll, trialBy, PlainRules, TrialPre, LaterTrialPre, FirstBits, TrialPost, FirstTrialPost};
 ghost use Rattle.trial.specs.Claims.{Flips};
 
@@ -24,9 +24,11 @@ const OPPOSITE: u8 = 3;
 // The rule of any other information index.
 const USUAL: u8 = 1;
 
-// Where later trials resume: at the root, or past their lowest flipped index.
+// Where later trials resume: at the root; at N/2 where their lowest flipped index is N/2 or above, otherwise at the root; or past that
+// flipped index.
 pub enum Restart {
     Root,
+    Half,
     After,
 }
 
@@ -45,6 +47,14 @@ fn first_from(mask: &[u8], from: usize) -> usize
     j
 }
 
+// Where half restart resumes, of N indices.
+fn half_index(size: usize, lowest: usize) -> usize
+    ensures { λ q. ⌜ q ≡ halfAt size lowest ⌝ }
+{
+    let middle = size / 2;
+    if middle <= lowest { middle } else { 0 }
+}
+
 // Where a trial with this lowest flipped index resumes.
 pub fn restart_index(restart: Restart, mask: &[u8], lowest: usize) -> usize
     requires { do ⌜ (8 * length (now mask) ≤ (← ⟦SIZE⟧)) × (lowest < 8 * length (now mask)) ⌝ }
@@ -52,6 +62,7 @@ pub fn restart_index(restart: Restart, mask: &[u8], lowest: usize) -> usize
 {
     match restart {
         Restart::Root => 0,
+        Restart::Half => half_index(8 * mask.len(), lowest),
         Restart::After => first_from(mask, lowest + 1),
     }
 }

@@ -39,11 +39,11 @@ vector = starredV 2
 abbrev c : Code
 c = starredCode 3
 
-describes : describe D ≡ Coding c
+pub describes : describe D ≡ Coding c
 describes = starred-descriptions .0
 
 -- eight values in range, T from 1 to K + 1, and an output of one byte
-well-formed : (channel : List ℕ) → length channel ≡ 8 → firstOutside channel ≡ 8 → (T byte : ℕ) → 1 ≤ T → T ≤ 5 → WellFormed c channel T (byte ∷ [])
+pub well-formed : (channel : List ℕ) → length channel ≡ 8 → firstOutside channel ≡ 8 → (T byte : ℕ) → 1 ≤ T → T ≤ 5 → WellFormed c channel T (byte ∷ [])
 well-formed channel size inside T byte least most = record {
   channel-size = size;
   in-range = inside ∙ sym size;
@@ -121,11 +121,11 @@ module _ (byte byte′ : ℕ) where
 
 -- ---- the noiseless clause, on the codeword `5A` of payload `A0`
 
-small : (m : ℕ) → getD (0xA0 ∷ []) m 0 < 256
+pub small : (m : ℕ) → getD (0xA0 ∷ []) m 0 < 256
 small zero = omega arith
 small (suc m) = omega arith
 
-A0-inside : firstOutside noiselessA0 ≡ 8
+pub A0-inside : firstOutside noiselessA0 ≡ 8
 unfolding firstWhere channelValue
 A0-inside = refl
 
@@ -137,7 +137,7 @@ strengths : map (λ b. natAbs (channelValue b)) noiselessA0 ≡ table (λ j. 4) 
 unfolding channelValue table
 strengths = refl
 
-received : Received 8 (0x5A ∷ []) noiselessA0
+pub received : Received 8 (0x5A ∷ []) noiselessA0
 unfolding channelValue
 received = record {
   sign = λ j l. sym (List·getD-map (λ b. hard (channelValue b)) noiselessA0 j 0) ∙ ap (λ (x : List ℕ). getD x j 0) signs;

@@ -9,3 +9,4 @@ pub mod Instances
 pub mod Starred
 pub mod Sets
 pub mod Longer
+pub mod Half

@@ -54,11 +54,11 @@ use Rattle.setdemands.proofs.SetsNoiseless.{sets-noiseless}
 use Rattle.setdemands.proofs.Larger.{stays-accepted}
 use Rattle.setdemands.proofs.Metrics.{metrics-fit}
 
-describes : describe wideD ≡ Coding wideCode
+pub describes : describe wideD ≡ Coding wideCode
 describes = set-examples 0 .described
 
 -- eight values in range, any w, any T that 14 allows, and an output of one byte
-well-formed : (channel : List ℕ) → length channel ≡ 8 → firstOutside channel ≡ 8 → (w T byte : ℕ) → 1 ≤ w → w ≤ 3 → 1 ≤ T → T ≤ mostLimit w wideCode → WellFormed wideCode channel w T (byte ∷ [])
+pub well-formed : (channel : List ℕ) → length channel ≡ 8 → firstOutside channel ≡ 8 → (w T byte : ℕ) → 1 ≤ w → w ≤ 3 → 1 ≤ T → T ≤ mostLimit w wideCode → WellFormed wideCode channel w T (byte ∷ [])
 well-formed channel size inside w T byte w-least w-most least most = record {
   channel-size = size;
   in-range = inside ∙ sym size;
@@ -215,18 +215,18 @@ stays-for-larger T byte least most =
 -- ---- the noiseless clause, on the codeword `A5` of payload `80`
 
 -- −4, 4, −4, 4, 4, −4, 4, −4
-abbrev noiseless80 : List ℕ
+abbrev pub noiseless80 : List ℕ
 noiseless80 = 0xFC ∷ 0x04 ∷ 0xFC ∷ 0x04 ∷ 0x04 ∷ 0xFC ∷ 0x04 ∷ 0xFC ∷ []
 
-encodes : encoded wideD (0x80 ∷ []) (0 ∷ []) ≡ (Done, 0xA5 ∷ [])
+pub encodes : encoded wideD (0x80 ∷ []) (0 ∷ []) ≡ (Done, 0xA5 ∷ [])
 unfolding judge refusedOr table number onesBelow packed unpacked describeUpTo checkOf covers parity transformed placed codeword encodedBy encoded
 encodes = refl
 
-small : (m : ℕ) → getD (0x80 ∷ []) m 0 < 256
+pub small : (m : ℕ) → getD (0x80 ∷ []) m 0 < 256
 small zero = omega arith
 small (suc m) = omega arith
 
-noiseless-inside : firstOutside noiseless80 ≡ 8
+pub noiseless-inside : firstOutside noiseless80 ≡ 8
 unfolding firstWhere channelValue
 noiseless-inside = refl
 
@@ -238,7 +238,7 @@ strengths : map (λ b. natAbs (channelValue b)) noiseless80 ≡ table (λ j. 4) 
 unfolding channelValue table
 strengths = refl
 
-received : Received 8 (0xA5 ∷ []) noiseless80
+pub received : Received 8 (0xA5 ∷ []) noiseless80
 unfolding channelValue
 received = record {
   sign = λ j l. sym (List·getD-map (λ b. hard (channelValue b)) noiseless80 j 0) ∙ ap (λ (x : List ℕ). getD x j 0) signs;

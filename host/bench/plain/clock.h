@@ -30,7 +30,7 @@ static uint64_t decode_sets_by_clock(const uint8_t *description, size_t descript
 {
     choosing = 0;
     uint64_t before = nanoseconds();
-    uint64_t number = decode_sets(description, description_len, channel, channel_len, most_flips, limit, payload, payload_len, 1,
+    uint64_t number = decode_sets(description, description_len, channel, channel_len, most_flips, limit, payload, payload_len, RESTARTED,
                                   choose_by_clock);
     numbers[0] = nanoseconds() - before;
     numbers[1] = choosing;

@@ -1,4 +1,4 @@
-/* Flip decoding, full and restarted. */
+/* Flip decoding, full, with half restart and restarted. */
 #ifndef PLAIN_DECODE_H
 #define PLAIN_DECODE_H
 
@@ -22,8 +22,11 @@ static int32_t next_key(const int32_t *keys, size_t size, int32_t last)
     return least;
 }
 
+/* Where a later trial resumes: at the root; at the middle, if its lowest flipped index is there or above; after that index. */
+enum restart { FULL, HALF, RESTARTED };
+
 /* The first information index above i, or the size. */
-static size_t restart_index(const struct code *code, size_t i)
+static size_t next_information(const struct code *code, size_t i)
 {
     do
         i++;
@@ -31,31 +34,42 @@ static size_t restart_index(const struct code *code, size_t i)
     return i;
 }
 
-static void full_trial(struct pass *p, const struct code *code, const int8_t *channel, size_t flipped)
+/* The index at which a trial resumes whose lowest flipped index is given. */
+static size_t restart_index(const struct code *code, size_t flipped, enum restart restart)
 {
-    p->rules[flipped] = 3;
-    run(p, channel, code->size, 0);
-    p->rules[flipped] = 1;
+    size_t half = code->size / 2;
+    if (restart == RESTARTED)
+        return next_information(code, flipped);
+    return restart == HALF && flipped >= half ? half : 0;
 }
 
-/* Forces the bits of a restarted trial: trial 1's before the lowest flipped index, the opposite there, then zeros. Gives how many. */
-static size_t force(struct pass *p, const struct code *code, const uint8_t *first, size_t flipped)
+/* Forces the bits before the index at which a trial resumes: trial 1's, but at the lowest flipped index the opposite, and zeros after it.
+ * Gives how many. */
+static size_t force(struct pass *p, const struct code *code, const uint8_t *first, size_t flipped, enum restart restart)
 {
-    size_t q = restart_index(code, flipped);
+    size_t q = restart_index(code, flipped, restart);
+    if (q <= flipped) {
+        memcpy(p->bits, first, q);
+        return q;
+    }
     memcpy(p->bits, first, flipped);
     p->bits[flipped] = !first[flipped];
     memset(p->bits + flipped + 1, 0, q - flipped - 1);
     return q;
 }
 
-static void restarted_trial(struct pass *p, const struct code *code, const int8_t *channel, const uint8_t *first, size_t flipped)
+static void later_trial(struct pass *p, const struct code *code, const int8_t *channel, const uint8_t *first, size_t flipped,
+                        enum restart restart)
 {
-    size_t q = force(p, code, first, flipped);
+    size_t q = force(p, code, first, flipped, restart);
+    p->rules[flipped] = 3;
     run(p, channel, code->size, q);
+    p->rules[flipped] = 1;
 }
 
 /* Makes trials until one passes; gives its number, or 0. The message of the last trial is left in `message`. */
-static size_t make_trials(struct pass *p, const struct code *code, const int8_t *channel, size_t limit, int restarted, uint8_t *message)
+static size_t make_trials(struct pass *p, const struct code *code, const int8_t *channel, size_t limit, enum restart restart,
+                          uint8_t *message)
 {
     run(p, channel, code->size, 0);
     take(code, p->bits, message);
@@ -69,10 +83,7 @@ static size_t make_trials(struct pass *p, const struct code *code, const int8_t 
     make_keys(code, p->leaves, keys);
     for (size_t trial = 2; trial <= limit; trial++) {
         key = next_key(keys, code->size, key);
-        if (restarted)
-            restarted_trial(p, code, channel, first, (size_t)key % SIZE);
-        else
-            full_trial(p, code, channel, (size_t)key % SIZE);
+        later_trial(p, code, channel, first, (size_t)key % SIZE, restart);
         take(code, p->bits, message);
         if (passes(code, message))
             return trial;
@@ -81,7 +92,7 @@ static size_t make_trials(struct pass *p, const struct code *code, const int8_t 
 }
 
 static uint64_t decode(const uint8_t *description, size_t description_len, const uint8_t *channel, size_t channel_len, uint32_t limit,
-                       uint8_t *payload, size_t payload_len, int restarted)
+                       uint8_t *payload, size_t payload_len, enum restart restart)
 {
     struct code code;
     const int8_t *values = (const int8_t *)channel;
@@ -95,7 +106,7 @@ static uint64_t decode(const uint8_t *description, size_t description_len, const
     struct pass pass;
     uint8_t message[SIZE];
     start(&pass, &code);
-    size_t trial = make_trials(&pass, &code, values, limit, restarted, message);
+    size_t trial = make_trials(&pass, &code, values, limit, restart, message);
     if (trial == 0)
         return answer(16, limit, pass.steps);
     pack(message, code.k, payload);
@@ -105,13 +116,19 @@ static uint64_t decode(const uint8_t *description, size_t description_len, const
 static uint64_t decode_full(const uint8_t *description, size_t description_len, const uint8_t *channel, size_t channel_len, uint32_t limit,
                             uint8_t *payload, size_t payload_len)
 {
-    return decode(description, description_len, channel, channel_len, limit, payload, payload_len, 0);
+    return decode(description, description_len, channel, channel_len, limit, payload, payload_len, FULL);
+}
+
+static uint64_t decode_half(const uint8_t *description, size_t description_len, const uint8_t *channel, size_t channel_len, uint32_t limit,
+                            uint8_t *payload, size_t payload_len)
+{
+    return decode(description, description_len, channel, channel_len, limit, payload, payload_len, HALF);
 }
 
 static uint64_t decode_restarted(const uint8_t *description, size_t description_len, const uint8_t *channel, size_t channel_len,
                                  uint32_t limit, uint8_t *payload, size_t payload_len)
 {
-    return decode(description, description_len, channel, channel_len, limit, payload, payload_len, 1);
+    return decode(description, description_len, channel, channel_len, limit, payload, payload_len, RESTARTED);
 }
 
 #endif

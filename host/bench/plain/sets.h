@@ -1,4 +1,4 @@
-/* Flip decoding with sets of up to three indices, full and restarted. */
+/* Flip decoding with sets of up to three indices, full, with half restart and restarted. */
 #ifndef PLAIN_SETS_H
 #define PLAIN_SETS_H
 
@@ -72,9 +72,9 @@ static int choose(struct queue *queue, const struct pass *p, size_t size, size_t
 typedef int chooser(struct queue *, const struct pass *, size_t, size_t, struct set *);
 
 static void set_trial(struct pass *p, const struct code *code, const int8_t *channel, const uint8_t *first, const struct set *set,
-                      int restarted)
+                      enum restart restart)
 {
-    size_t q = restarted ? force(p, code, first, set->indices[0]) : 0;
+    size_t q = force(p, code, first, set->indices[0], restart);
     for (size_t i = 0; i < set->count; i++)
         p->rules[set->indices[i]] = 3;
     run(p, channel, code->size, q);
@@ -87,7 +87,7 @@ struct search {
     struct code code;
     const int8_t *channel;
     size_t most_flips, limit;
-    int restarted;
+    enum restart restart;
 };
 
 /* Makes trials until one passes; gives whether one does. The message of the last trial is left in `message`, its number in `trial`. */
@@ -108,7 +108,7 @@ static int make_set_trials(struct pass *p, const struct search *s, chooser *next
     queue.room = s->limit - 1;
     while (*trial < s->limit && next(&queue, p, s->code.size, s->most_flips, &set)) {
         ++*trial;
-        set_trial(p, &s->code, s->channel, first, &set, s->restarted);
+        set_trial(p, &s->code, s->channel, first, &set, s->restart);
         take(&s->code, p->bits, message);
         if (passes(&s->code, message))
             return 1;
@@ -139,9 +139,9 @@ static uint64_t search(const struct search *s, chooser *next, uint8_t *payload)
 }
 
 static uint64_t decode_sets(const uint8_t *description, size_t description_len, const uint8_t *channel, size_t channel_len,
-                            uint32_t most_flips, uint32_t limit, uint8_t *payload, size_t payload_len, int restarted, chooser *next)
+                            uint32_t most_flips, uint32_t limit, uint8_t *payload, size_t payload_len, enum restart restart, chooser *next)
 {
-    struct search s = {.channel = (const int8_t *)channel, .most_flips = most_flips, .limit = limit, .restarted = restarted};
+    struct search s = {.channel = (const int8_t *)channel, .most_flips = most_flips, .limit = limit, .restart = restart};
     uint64_t refusal = read_call(description, description_len, s.channel, channel_len, &s.code);
     if (!refusal)
         refusal = judge_search(&s, payload_len);
@@ -151,13 +151,19 @@ static uint64_t decode_sets(const uint8_t *description, size_t description_len, 
 static uint64_t decode_sets_full(const uint8_t *description, size_t description_len, const uint8_t *channel, size_t channel_len,
                                  uint32_t most_flips, uint32_t limit, uint8_t *payload, size_t payload_len)
 {
-    return decode_sets(description, description_len, channel, channel_len, most_flips, limit, payload, payload_len, 0, choose);
+    return decode_sets(description, description_len, channel, channel_len, most_flips, limit, payload, payload_len, FULL, choose);
+}
+
+static uint64_t decode_sets_half(const uint8_t *description, size_t description_len, const uint8_t *channel, size_t channel_len,
+                                 uint32_t most_flips, uint32_t limit, uint8_t *payload, size_t payload_len)
+{
+    return decode_sets(description, description_len, channel, channel_len, most_flips, limit, payload, payload_len, HALF, choose);
 }
 
 static uint64_t decode_sets_restarted(const uint8_t *description, size_t description_len, const uint8_t *channel, size_t channel_len,
                                       uint32_t most_flips, uint32_t limit, uint8_t *payload, size_t payload_len)
 {
-    return decode_sets(description, description_len, channel, channel_len, most_flips, limit, payload, payload_len, 1, choose);
+    return decode_sets(description, description_len, channel, channel_len, most_flips, limit, payload, payload_len, RESTARTED, choose);
 }
 
 #endif

@@ -66,7 +66,7 @@ impl<'a> Code<'a> {
     }
 
     /// The first information index above i, or N.
-    pub fn restart_index(&self, i: usize) -> usize {
+    pub fn next_information(&self, i: usize) -> usize {
         (i + 1..self.size)
             .find(|&index| mask_bit(self.mask, index) == 1)
             .unwrap_or(self.size)

@@ -1,4 +1,4 @@
-//! Flip decoding, full and restarted.
+//! Flip decoding, full, with half restart and restarted.
 
 use crate::answer::{number, refuse_if, Answer};
 use crate::code::{check_channel, Code};
@@ -6,50 +6,68 @@ use crate::message::{pack, passes, take};
 use crate::pass::Pass;
 use crate::SIZE;
 
-/// Writes the packed payload; each trial starts at the root.
-pub fn decode_full(description: &[u8], channel: &[u8], limit: u32, payload: &mut [u8]) -> u64 {
-    number(try_decode(description, channel, limit, payload, full_trial))
+/// Declares a decoder, which writes the packed payload.
+macro_rules! decoder {
+    ($name:ident, $restart:ident) => {
+        pub fn $name(description: &[u8], channel: &[u8], limit: u32, payload: &mut [u8]) -> u64 {
+            let restart = Restart::$restart;
+            number(try_decode(description, channel, limit, payload, restart))
+        }
+    };
 }
 
-/// Writes the packed payload; a later trial starts after its flipped index.
-pub fn decode_restarted(description: &[u8], channel: &[u8], limit: u32, payload: &mut [u8]) -> u64 {
-    number(try_decode(
-        description,
-        channel,
-        limit,
-        payload,
-        restarted_trial,
-    ))
+decoder!(decode_full, Full);
+decoder!(decode_half, Half);
+decoder!(decode_restarted, Restarted);
+
+/// Where a later trial resumes: at the root; at the middle, if its lowest flipped index is there or
+/// above; after that index.
+#[derive(Clone, Copy)]
+pub enum Restart {
+    Full,
+    Half,
+    Restarted,
+}
+
+impl Restart {
+    /// The index at which a trial resumes whose lowest flipped index is given.
+    fn index(self, code: &Code, flipped: usize) -> usize {
+        let half = code.size / 2;
+        match self {
+            Restart::Restarted => code.next_information(flipped),
+            Restart::Half if flipped >= half => half,
+            Restart::Full | Restart::Half => 0,
+        }
+    }
+
+    /// Forces the bits before the index at which a trial resumes: trial 1's, but at the lowest flipped
+    /// index the opposite, and zeros after it. Gives how many.
+    pub fn force(self, pass: &mut Pass, code: &Code, first: &[u8; SIZE], flipped: usize) -> usize {
+        let q = self.index(code, flipped);
+        if q <= flipped {
+            pass.bits[..q].copy_from_slice(&first[..q]);
+            return q;
+        }
+        pass.bits[..flipped].copy_from_slice(&first[..flipped]);
+        pass.bits[flipped] = 1 - first[flipped];
+        pass.bits[flipped + 1..q].fill(0);
+        q
+    }
 }
 
 /// A trial after the first, from trial 1's bits and the flipped index.
-type LaterTrial = fn(&mut Pass, &Code, &[u8], &[u8; SIZE], usize);
-
-fn full_trial(pass: &mut Pass, _: &Code, channel: &[u8], _: &[u8; SIZE], flipped: usize) {
-    pass.rules[flipped] = 3;
-    pass.run(channel, 0);
-    pass.rules[flipped] = 1;
-}
-
-fn restarted_trial(
+fn later_trial(
     pass: &mut Pass,
     code: &Code,
     channel: &[u8],
     first: &[u8; SIZE],
     flipped: usize,
+    restart: Restart,
 ) {
-    let q = force(pass, code, first, flipped);
+    let q = restart.force(pass, code, first, flipped);
+    pass.rules[flipped] = 3;
     pass.run(channel, q);
-}
-
-/// Forces the bits of a restarted trial: trial 1's before the lowest flipped index, the opposite
-/// there, then zeros. Gives how many.
-pub fn force(pass: &mut Pass, code: &Code, first: &[u8; SIZE], flipped: usize) -> usize {
-    let q = code.restart_index(flipped);
-    pass.bits[..flipped].copy_from_slice(&first[..flipped]);
-    pass.bits[flipped] = 1 - first[flipped];
-    pass.bits[flipped + 1..q].fill(0);
-    q
+    pass.rules[flipped] = 1;
 }
 
 fn try_decode(
@@ -57,7 +75,7 @@ fn try_decode(
     channel: &[u8],
     limit: u32,
     payload: &mut [u8],
-    later_trial: LaterTrial,
+    restart: Restart,
 ) -> Answer {
     let code = Code::read(description)?;
     check_channel(&code, channel)?;
@@ -66,7 +84,7 @@ fn try_decode(
     refuse_if(payload.len() != code.k.div_ceil(8), 15)?;
     let mut pass = Pass::new(&code);
     let mut message = [0; SIZE];
-    let trial = make_trials(&mut pass, &code, channel, limit, later_trial, &mut message);
+    let trial = make_trials(&mut pass, &code, channel, limit, restart, &mut message);
     let steps = (pass.steps as u64) << 32;
     let Some(trial) = trial else {
         return Err(16 + ((limit as u64) << 8) + steps);
@@ -81,7 +99,7 @@ fn make_trials(
     code: &Code,
     channel: &[u8],
     limit: usize,
-    later_trial: LaterTrial,
+    restart: Restart,
     message: &mut [u8; SIZE],
 ) -> Option<usize> {
     pass.run(channel, 0);
@@ -97,7 +115,7 @@ fn make_trials(
     let mut key = -1;
     for trial in 2..=limit {
         key = next_key(keys, key);
-        later_trial(pass, code, channel, &first, key as usize % SIZE);
+        later_trial(pass, code, channel, &first, key as usize % SIZE, restart);
         if accepts(code, pass, message) {
             return Some(trial);
         }

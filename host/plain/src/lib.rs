@@ -12,11 +12,11 @@ mod quantise;
 mod resume;
 mod sets;
 
-pub use decode::{decode_full, decode_restarted};
+pub use decode::{decode_full, decode_half, decode_restarted};
 pub use encode::encode;
 pub use quantise::quantise;
 pub use resume::resume;
-pub use sets::{decode_sets_full, decode_sets_restarted};
+pub use sets::{decode_sets_full, decode_sets_half, decode_sets_restarted};
 
 /// The largest n and N.
 const DEEPEST: u8 = 12;

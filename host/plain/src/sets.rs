@@ -1,8 +1,8 @@
-//! Flip decoding with sets of up to three indices, full and restarted.
+//! Flip decoding with sets of up to three indices, full, with half restart and restarted.
 
 use crate::answer::{number, refuse_if, Answer};
 use crate::code::{check_channel, Code};
-use crate::decode::{accepts, force};
+use crate::decode::{accepts, Restart};
 use crate::message::pack;
 use crate::pass::Pass;
 use crate::{DEEPEST, SIZE};
@@ -12,43 +12,39 @@ const MOST_LIMIT: usize = 512;
 const DOUBTFUL: u64 = 20;
 const PENALTY: u64 = 6;
 
-/// Writes the packed payload; each trial starts at the root.
-pub fn decode_sets_full(
-    description: &[u8],
-    channel: &[u8],
-    most_flips: u32,
-    limit: u32,
-    payload: &mut [u8],
-) -> u64 {
-    let plan = Plan::new(most_flips, limit, false);
-    number(try_decode(description, channel, plan, payload))
+/// Declares a decoder, which writes the packed payload.
+macro_rules! decoder {
+    ($name:ident, $restart:ident) => {
+        pub fn $name(
+            description: &[u8],
+            channel: &[u8],
+            most_flips: u32,
+            limit: u32,
+            payload: &mut [u8],
+        ) -> u64 {
+            let plan = Plan::new(most_flips, limit, Restart::$restart);
+            number(try_decode(description, channel, plan, payload))
+        }
+    };
 }
 
-/// Writes the packed payload; a later trial starts after the lowest index of its set.
-pub fn decode_sets_restarted(
-    description: &[u8],
-    channel: &[u8],
-    most_flips: u32,
-    limit: u32,
-    payload: &mut [u8],
-) -> u64 {
-    let plan = Plan::new(most_flips, limit, true);
-    number(try_decode(description, channel, plan, payload))
-}
+decoder!(decode_sets_full, Full);
+decoder!(decode_sets_half, Half);
+decoder!(decode_sets_restarted, Restarted);
 
 /// How a frame is decoded.
 struct Plan {
     most_flips: usize,
     limit: usize,
-    restarted: bool,
+    restart: Restart,
 }
 
 impl Plan {
-    fn new(most_flips: u32, limit: u32, restarted: bool) -> Self {
+    fn new(most_flips: u32, limit: u32, restart: Restart) -> Self {
         Plan {
             most_flips: most_flips as usize,
             limit: limit as usize,
-            restarted,
+            restart,
         }
     }
 
@@ -221,10 +217,7 @@ fn later_trial(
     first: &[u8; SIZE],
     set: &Set,
 ) {
-    let q = match plan.restarted {
-        true => force(pass, code, first, set.indices[0]),
-        false => 0,
-    };
+    let q = plan.restart.force(pass, code, first, set.indices[0]);
     for &index in set.indices() {
         pass.rules[index] = 3;
     }

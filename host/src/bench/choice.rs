@@ -4,16 +4,17 @@ use crate::bench::codec::Way;
 use crate::bench::frames::Frames;
 use crate::bench::process::TIMES_ONLY;
 use crate::bench::search::Search;
-use crate::bench::task::{Limit, Task, LIMITS};
+use crate::bench::task::{limits, Limit, Task};
 use crate::bench::DEPTHS;
 use crate::reference::sizes::{DEEPEST, MOST_TRIALS};
 
 pub const USAGE: &str = "\
 bench [OPERATION ..] [--n N ..] [--t T ..] [--w W ..] [--k K ..] [--rounds R]
-  OPERATION   encode, pass, full, restarted, quantise, sets-full or sets-restarted; all where none is
-              named
+  OPERATION   encode, pass, full, half, restarted, quantise, sets-full, sets-half or sets-restarted;
+              all where none is named
   --n N       the code lengths, as n from 5 on; 5, 7, 10 and the largest where none is named
-  --t T       the trial limits, from 1 on, or all for K + 1; 1, 13 and all where none is named
+  --t T       the trial limits, from 1 on, or all for K + 1; 1, 13 and all where none is named, and
+              13 alone of half restart
   --w W       the most flips of a set, 2 or 3; both where none is named
   --k K       the payload sizes of flip sets, those of document 000; all where none is named
   --rounds R  how many rounds each row takes, instead of 10 to 205, the fewer the longer a round takes";
@@ -52,10 +53,9 @@ impl Choice {
             named.operations,
             &OPERATIONS.map(|(_, operation)| operation),
         );
-        let limits = or_all(named.limits, &LIMITS);
         let tasks: Vec<Task> = operations
             .iter()
-            .flat_map(|operation| operation.tasks(&limits))
+            .flat_map(|operation| operation.tasks(&named.limits))
             .collect();
         let ways: Vec<Way> = operations.iter().filter_map(Operation::way).collect();
         let is_named = |search: &Search| {
@@ -120,13 +120,15 @@ enum Operation {
     Sets(Way),
 }
 
-const OPERATIONS: [(&str, Operation); 7] = [
+const OPERATIONS: [(&str, Operation); 9] = [
     ("encode", Operation::One(Task::Encode)),
     ("pass", Operation::One(Task::Pass)),
     ("full", Operation::Each(Way::Full)),
+    ("half", Operation::Each(Way::Half)),
     ("restarted", Operation::Each(Way::Restarted)),
     ("quantise", Operation::One(Task::Quantise)),
     ("sets-full", Operation::Sets(Way::Full)),
+    ("sets-half", Operation::Sets(Way::Half)),
     ("sets-restarted", Operation::Sets(Way::Restarted)),
 ];
 
@@ -136,13 +138,13 @@ impl Operation {
         found.map(|(_, operation)| operation)
     }
 
-    /// What it does with frames of a length.
-    fn tasks(&self, limits: &[Limit]) -> Vec<Task> {
+    /// What it does with frames of a length, under the limits named or those of its way.
+    fn tasks(&self, named: &[Limit]) -> Vec<Task> {
         match *self {
             Operation::One(task) => vec![task],
-            Operation::Each(way) => limits
-                .iter()
-                .map(|&limit| Task::Decode(way, limit))
+            Operation::Each(way) => or_all(named.to_vec(), limits(way))
+                .into_iter()
+                .map(|limit| Task::Decode(way, limit))
                 .collect(),
             Operation::Sets(_) => vec![],
         }
@@ -202,9 +204,10 @@ mod tests {
     fn all_where_nothing_is_named() {
         let choice = read("").expect("a choice");
         assert_eq!(choice.layers, DEPTHS);
-        assert_eq!(choice.tasks.len(), 3 + 2 * LIMITS.len());
+        let rows = Way::ALL.map(|way| limits(way).len());
+        assert_eq!(choice.tasks.len(), 3 + rows.iter().sum::<usize>());
         assert_eq!(choice.searches, Search::all());
-        assert_eq!(choice.ways, [Way::Full, Way::Restarted]);
+        assert_eq!(choice.ways, Way::ALL);
         assert_eq!(choice.rounds, None);
     }
 

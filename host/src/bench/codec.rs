@@ -14,8 +14,10 @@ pub struct Codec {
     pub encode: Encode,
     pub resume: Resume,
     pub decode_full: Decoder,
+    pub decode_half: Decoder,
     pub decode_restarted: Decoder,
     pub decode_sets_full: SetDecoder,
+    pub decode_sets_half: SetDecoder,
     pub decode_sets_restarted: SetDecoder,
     pub quantise: Quantise,
 }
@@ -24,13 +26,19 @@ pub struct Codec {
 #[derive(Clone, Copy, Debug, PartialEq, Eq)]
 pub enum Way {
     Full,
+    Half,
     Restarted,
+}
+
+impl Way {
+    pub const ALL: [Way; 3] = [Way::Full, Way::Half, Way::Restarted];
 }
 
 impl Display for Way {
     fn fmt(&self, to: &mut Formatter) -> fmt::Result {
         to.write_str(match self {
             Way::Full => "full",
+            Way::Half => "half",
             Way::Restarted => "restarted",
         })
     }
@@ -40,6 +48,7 @@ impl Codec {
     pub fn decoder(&self, way: Way) -> Decoder {
         match way {
             Way::Full => self.decode_full,
+            Way::Half => self.decode_half,
             Way::Restarted => self.decode_restarted,
         }
     }
@@ -47,6 +56,7 @@ impl Codec {
     pub fn set_decoder(&self, way: Way) -> SetDecoder {
         match way {
             Way::Full => self.decode_sets_full,
+            Way::Half => self.decode_sets_half,
             Way::Restarted => self.decode_sets_restarted,
         }
     }
@@ -58,8 +68,10 @@ pub const LIBRARY: Codec = Codec {
     encode: library::encode,
     resume: library::resume,
     decode_full: library::decode_full,
+    decode_half: library::decode_half,
     decode_restarted: library::decode_restarted,
     decode_sets_full: library::decode_sets_full,
+    decode_sets_half: library::decode_sets_half,
     decode_sets_restarted: library::decode_sets_restarted,
     quantise: library::quantise,
 };
@@ -70,8 +82,10 @@ const PLAIN_RUST: Codec = Codec {
     encode: plain::encode,
     resume: plain::resume,
     decode_full: plain::decode_full,
+    decode_half: plain::decode_half,
     decode_restarted: plain::decode_restarted,
     decode_sets_full: plain::decode_sets_full,
+    decode_sets_half: plain::decode_sets_half,
     decode_sets_restarted: plain::decode_sets_restarted,
     quantise: plain::quantise,
 };
@@ -95,11 +109,18 @@ macro_rules! plain_c {
             decode_full: |d, channel, limit, payload| unsafe {
                 call::decode($table.decode_full, d, channel, limit, payload)
             },
+            decode_half: |d, channel, limit, payload| unsafe {
+                call::decode($table.decode_half, d, channel, limit, payload)
+            },
             decode_restarted: |d, channel, limit, payload| unsafe {
                 call::decode($table.decode_restarted, d, channel, limit, payload)
             },
             decode_sets_full: |d, channel, most_flips, limit, payload| unsafe {
                 let by = $table.decode_sets_full;
+                call::decode_sets(by, d, channel, most_flips, limit, payload)
+            },
+            decode_sets_half: |d, channel, most_flips, limit, payload| unsafe {
+                let by = $table.decode_sets_half;
                 call::decode_sets(by, d, channel, most_flips, limit, payload)
             },
             decode_sets_restarted: |d, channel, most_flips, limit, payload| unsafe {
@@ -186,8 +207,10 @@ struct Table {
     encode: call::Encode,
     resume: call::Resume,
     decode_full: call::Decode,
+    decode_half: call::Decode,
     decode_restarted: call::Decode,
     decode_sets_full: call::DecodeSets,
+    decode_sets_half: call::DecodeSets,
     decode_sets_restarted: call::DecodeSets,
     decode_sets_by_clock: DecodeByClock,
     quantise: call::Quantise,

@@ -15,7 +15,10 @@ pub fn print(choice: &Choice, all: &[Frames], rows: &[Row]) {
     let lengths: Vec<&Frames> = all.iter().filter(|of| of.search.is_none()).collect();
     print_with_length(choice, &lengths, rows);
     let of = |way| decoded(rows, *largest, way);
-    print_with_limit(1 << largest, &of(Way::Full), &of(Way::Restarted));
+    print_with_limit(
+        1 << largest,
+        &[Way::Full, Way::Half, Way::Restarted].map(of),
+    );
 }
 
 fn print_with_length(choice: &Choice, lengths: &[&Frames], rows: &[Row]) {
@@ -51,41 +54,53 @@ pub fn print_noise(all: &[&Frames]) {
     );
 }
 
-fn print_with_limit(size: usize, full: &[&Row], restarted: &[&Row]) {
-    let any = if full.is_empty() { restarted } else { full };
+fn print_with_limit(size: usize, ways: &[Vec<&Row>; 3]) {
+    let any = longest(ways);
     if any.is_empty() {
         return;
     }
     let name = format!("Growth with T, N = {size}");
     print_line(&name, any.iter().map(|row| row.limit()));
-    print_decoding(full, restarted);
+    print_decoding(ways);
 }
 
-/// Prints what decoders made of the same frames in both ways, or in one of them.
-pub fn print_decoding(full: &[&Row], restarted: &[&Row]) {
-    let any = if full.is_empty() { restarted } else { full };
+/// The rows of the way that has most.
+fn longest<'a, 'b>(ways: &'b [Vec<&'a Row>; 3]) -> &'b [&'a Row] {
+    let most = ways.iter().max_by_key(|rows| rows.len());
+    most.map_or(&[], Vec::as_slice)
+}
+
+/// Prints what decoders made of the same frames in each way that has as many rows as any.
+pub fn print_decoding(ways: &[Vec<&Row>; 3]) {
+    let any = longest(ways);
     let name = format!("  frames refused, of {COUNT}");
     print_line(&name, any.iter().map(|row| row.refused().to_string()));
     print_line(
         "  trials for a frame",
         any.iter().map(|row| hundredths(row.trials())),
     );
-    print_speed("full", full);
-    print_speed("restarted", restarted);
-    if full.len() == restarted.len() {
-        print_line(
-            "  steps that restarting saves",
-            full.iter()
-                .zip(restarted)
-                .map(|(full, restarted)| percent(1.0 - restarted.steps() / full.steps())),
-        );
+    let whole = |way: usize| Some(&ways[way]).filter(|rows| rows.len() == any.len());
+    for (way, name) in Way::ALL.iter().enumerate() {
+        if let Some(rows) = whole(way) {
+            print_speed(&name.to_string(), rows);
+        }
+    }
+    for (way, name) in [(1, "half restart"), (2, "restarting")] {
+        if let (Some(full), Some(rows)) = (whole(0), whole(way)) {
+            print_saved(name, full, rows);
+        }
     }
 }
 
+fn print_saved(name: &str, full: &[&Row], fewer: &[&Row]) {
+    let share = |(full, fewer): (&&Row, &&Row)| percent(1.0 - fewer.steps() / full.steps());
+    print_line(
+        &format!("  steps that {name} saves"),
+        full.iter().zip(fewer).map(share),
+    );
+}
+
 fn print_speed(way: &str, rows: &[&Row]) {
-    if rows.is_empty() {
-        return;
-    }
     print_line(
         &format!("  {way}, frames a second"),
         rows.iter().map(|row| format!("{:.0}", row.rate(1.0))),

@@ -31,10 +31,7 @@ fn print_searches(searches: &[Search], all: &[Frames], rows: &[Row]) {
         searches.iter().map(|search| search.k.to_string()),
     );
     print_noise(&frames);
-    print_decoding(
-        &decoded(searches, rows, Way::Full),
-        &decoded(searches, rows, Way::Restarted),
-    );
+    print_decoding(&Way::ALL.map(|way| decoded(searches, rows, way)));
     for plain in clocked() {
         print_line(
             &format!("  choosing sets, {} restarted", plain.name),

@@ -27,8 +27,13 @@ pub enum Limit {
     All,
 }
 
-/// The trial limits that are timed.
-pub const LIMITS: [Limit; 3] = [Limit::Trials(1), Limit::Trials(13), Limit::All];
+/// The trial limits that are timed: of half restart, which lies between the other ways, one alone.
+pub fn limits(way: Way) -> &'static [Limit] {
+    match way {
+        Way::Half => &[Limit::Trials(13)],
+        Way::Full | Way::Restarted => &[Limit::Trials(1), Limit::Trials(13), Limit::All],
+    }
+}
 
 impl Task {
     /// Calls a codec; gives its answer as one number. The output goes to the start of `room`.

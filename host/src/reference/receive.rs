@@ -1,8 +1,9 @@
 //! The program `receive`: document 01, "Program `receive`", and document 02, request 2.1.
 
 use crate::reference::description::{describe, word, Code};
-use crate::reference::flip::decode_restarted;
+use crate::reference::flip::decode;
 use crate::reference::packing::packed_length;
+use crate::reference::restart::Restart;
 
 /// All that the program prints for an input.
 pub fn receive(input: &[u8]) -> String {
@@ -70,7 +71,8 @@ impl<'a> Receiver<'a> {
             return "no 24".to_string();
         };
         let mut payload = vec![0; packed_length(code.k)];
-        match decode_restarted(description, &record[6..], limit.into(), &mut payload) {
+        let (restart, limit) = (Restart::AfterFlip, limit.into());
+        match decode(restart, description, &record[6..], limit, &mut payload) {
             Ok(accepted) => {
                 let payload = hexadecimal(&payload);
                 format!("ok {} {} {payload}", accepted.trial, accepted.steps)

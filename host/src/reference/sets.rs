@@ -1,5 +1,5 @@
-//! Flip sets, full and restarted: document 02, request 2.2; document 000, section II-D, with the
-//! metric of (6) and (8) in quarter units.
+//! Flip sets, full, with half restart and restarted: document 02, requests 2.2 and 2.4; document 000,
+//! section II-D, with the metric of (6) and (8) in quarter units.
 
 use std::collections::BTreeSet;
 use std::ops::RangeInclusive;
@@ -8,8 +8,8 @@ use crate::reference::description::{information_indices, is_information, Code};
 use crate::reference::flip::Accepted;
 use crate::reference::frame::Frame;
 use crate::reference::packing::{pack, packed_length};
-use crate::reference::pass::{pass, plain_rules, Pass, Rule};
 use crate::reference::refusal::Refusal;
+use crate::reference::restart::Restart;
 
 /// How many indices a set may have at most, w.
 pub const MOST_FLIPS: RangeInclusive<u32> = 1..=3;
@@ -22,38 +22,9 @@ pub const LIMITS_OF_SETS: RangeInclusive<u32> = 1..=512;
 const DOUBTFUL: i64 = 20;
 const PENALTY: i64 = 6;
 
-/// Full decoding: each trial from the root. Writes the packed payload; a refusal writes nothing.
-pub fn decode_sets_full(
-    description: &[u8],
-    channel: &[u8],
-    most_flips: u32,
-    limit: u32,
-    output: &mut [u8],
-) -> Result<Accepted, Refusal> {
-    decode(description, channel, most_flips, limit, output, full_trial)
-}
-
-/// Restarted decoding: each later trial resumes after the lowest index of its set.
-pub fn decode_sets_restarted(
-    description: &[u8],
-    channel: &[u8],
-    most_flips: u32,
-    limit: u32,
-    output: &mut [u8],
-) -> Result<Accepted, Refusal> {
-    decode(
-        description,
-        channel,
-        most_flips,
-        limit,
-        output,
-        restarted_trial,
-    )
-}
-
 /// The sets of the trials made for a frame, in their order; that of trial 1 is empty.
 pub fn sets_tried(frame: &Frame, most_flips: u32, limit: u32) -> Vec<Vec<usize>> {
-    run(frame, most_flips, limit, restarted_trial).sets
+    run(frame, most_flips, limit, Restart::AfterFlip).sets
 }
 
 /// The trial limits that 14 allows under w.
@@ -99,16 +70,15 @@ fn candidates(mask: &[u8], leaves: &[i64], set: &[usize]) -> Vec<Candidate> {
         .collect()
 }
 
-/// A trial after the first, from trial 1 and the set of flipped indices; its leaf values are all N.
-type LaterTrial = fn(&Frame, &Pass, &[usize]) -> Pass;
-
-fn decode(
+/// Decodes with later trials that resume as `restart` says. Writes the packed payload; a refusal writes
+/// nothing.
+pub fn decode_sets(
+    restart: Restart,
     description: &[u8],
     channel: &[u8],
     most_flips: u32,
     limit: u32,
     output: &mut [u8],
-    later_trial: LaterTrial,
 ) -> Result<Accepted, Refusal> {
     let frame = Frame::read(description, channel)?;
     if !MOST_FLIPS.contains(&most_flips) {
@@ -120,7 +90,7 @@ fn decode(
     if output.len() != packed_length(frame.code.k) {
         return Err(Refusal::Number(15));
     }
-    let run = run(&frame, most_flips, limit, later_trial);
+    let run = run(&frame, most_flips, limit, restart);
     let (trials, steps) = (run.sets.len(), run.steps);
     let Some(payload) = run.payload else {
         return Err(Refusal::AllFailed { trials, steps });
@@ -141,7 +111,7 @@ struct Run {
 
 /// Makes trials until one passes, or T are made, or no untried set is left. No untried set is ever
 /// dropped.
-fn run(frame: &Frame, most_flips: u32, limit: u32, later_trial: LaterTrial) -> Run {
+fn run(frame: &Frame, most_flips: u32, limit: u32, restart: Restart) -> Run {
     let first = frame.first_trial();
     let mut tried = first.clone();
     let mut untried = BTreeSet::new();
@@ -158,36 +128,12 @@ fn run(frame: &Frame, most_flips: u32, limit: u32, later_trial: LaterTrial) -> R
         let Some((_, set)) = untried.pop_first() else {
             break;
         };
-        tried = later_trial(frame, &first, &set);
+        tried = restart.trial(frame, &first, &set);
         run.sets.push(set);
         run.steps += tried.steps;
         run.payload = frame.passing_payload(&tried.bits);
     }
     run
-}
-
-/// The opposite decision at each index of the set, the usual decision elsewhere.
-fn rules(mask: &[u8], set: &[usize]) -> Vec<Rule> {
-    let mut rules = plain_rules(mask);
-    for &index in set {
-        rules[index] = Rule::Opposite;
-    }
-    rules
-}
-
-fn full_trial(frame: &Frame, _first: &Pass, set: &[usize]) -> Pass {
-    pass(&frame.values, &[], &rules(frame.mask, set))
-}
-
-/// A pass resumed after the lowest index of the set. The leaf values before are trial 1's.
-fn restarted_trial(frame: &Frame, first: &Pass, set: &[usize]) -> Pass {
-    let prefix = frame.restart_prefix(first, set[0]);
-    let resumed = pass(&frame.values, &prefix, &rules(frame.mask, set));
-    let before = &first.leaves[..prefix.len()];
-    Pass {
-        leaves: [before, &resumed.leaves].concat(),
-        ..resumed
-    }
 }
 
 #[cfg(test)]
@@ -196,15 +142,11 @@ mod tests {
     use crate::reference::description::{describe, mask_of, record};
     use crate::reference::encode::codeword;
     use crate::reference::flip::trials_made;
-    use crate::reference::frame::restart_index;
     use crate::reference::pass::skipped_steps;
     use crate::reference::sizes::LAYERS;
     use crate::testing::examples::EXAMPLES;
     use crate::testing::paper::{D, MASK_OF_D, V};
     use crate::testing::samples;
-
-    type Decoder = fn(&[u8], &[u8], u32, u32, &mut [u8]) -> Result<Accepted, Refusal>;
-    const BOTH: [Decoder; 2] = [decode_sets_full, decode_sets_restarted];
 
     /// The largest trial limit where w is above 1.
     const MOST: u32 = *LIMITS_OF_SETS.end();
@@ -255,10 +197,10 @@ mod tests {
             let frame = Frame::read(d, &channel).expect("a frame");
             let tried = sets_tried(&frame, most_flips, limit);
             assert_eq!(tried[1..], *example.sets, "{example:?}");
-            let steps = [24 * trials, example.restarted_steps];
-            for (decoder, steps) in BOTH.into_iter().zip(steps) {
+            let steps = [24 * trials, example.half_steps(), example.restarted_steps];
+            for (restart, steps) in Restart::ALL.into_iter().zip(steps) {
                 let mut output = [0xEE];
-                let answer = decoder(d, &channel, most_flips, limit, &mut output);
+                let answer = decode_sets(restart, d, &channel, most_flips, limit, &mut output);
                 assert_eq!(trials_made(&answer), Some((trials, steps)), "{example:?}");
                 assert_eq!(answer.is_ok(), example.payload.is_some());
                 assert_eq!(output, [example.payload.unwrap_or(0xEE)]);
@@ -273,10 +215,9 @@ mod tests {
     }
 
     /// Every vector of small values, w and some T: sets are ascending, of information indices, at
-    /// most w, and none is tried twice; full and restarted decoding agree, with the steps that each
-    /// set saves.
+    /// most w, and none is tried twice; the decoders agree, with the steps that each set saves.
     #[test]
-    fn full_and_restarted_agree() {
+    fn the_decoders_agree() {
         let d = with_a_check_of_three_bits();
         let mut sizes = [0; 4];
         for channel in samples::small_vectors() {
@@ -284,15 +225,17 @@ mod tests {
                 let frame = Frame::read(&d, &channel).expect("a frame");
                 let sets = sets_tried(&frame, most_flips, limit);
                 check_sets(&sets, most_flips);
-                let [full, restarted] = BOTH.map(|decoder| {
+                let [full, half, restarted] = Restart::ALL.map(|restart| {
                     let mut output = [0xEE];
-                    let answer = decoder(&d, &channel, most_flips, limit, &mut output);
+                    let answer = decode_sets(restart, &d, &channel, most_flips, limit, &mut output);
                     (trials_made(&answer), answer.is_ok(), output)
                 });
-                assert_eq!((full.1, full.2), (restarted.1, restarted.2));
                 let steps = 24 * sets.len();
                 assert_eq!(full.0, Some((sets.len(), steps)));
-                assert_eq!(restarted.0, Some((sets.len(), steps - saved(&sets))));
+                for (other, saved) in [half, restarted].into_iter().zip(saved(&sets)) {
+                    assert_eq!((other.1, other.2), (full.1, full.2));
+                    assert_eq!(other.0, Some((sets.len(), steps - saved)));
+                }
                 sizes[sets.last().expect("trial 1").len()] += usize::from(full.1);
             }
         }
@@ -307,9 +250,12 @@ mod tests {
         }
     }
 
-    fn saved(sets: &[Vec<usize>]) -> usize {
-        let q = |set: &Vec<usize>| restart_index(&MASK_OF_D, set[0]);
-        sets[1..].iter().map(|set| skipped_steps(3, q(set))).sum()
+    /// What half restart and restarting save: 12 steps for each set from 4 on, and the closed sum.
+    fn saved(sets: &[Vec<usize>]) -> [usize; 2] {
+        let right = sets[1..].iter().filter(|set| set[0] >= 4);
+        let q = |set: &Vec<usize>| Restart::AfterFlip.index(&MASK_OF_D, set[0]);
+        let skipped = sets[1..].iter().map(|set| skipped_steps(3, q(set)));
+        [12 * right.count(), skipped.sum()]
     }
 
     /// With w = 1 the trials are the information indices by metric, then by index.
@@ -344,9 +290,9 @@ mod tests {
 
     fn refused(d: &[u8], call: (&[u8], u32, u32), before: &[u8], refusal: Refusal) {
         let (channel, most_flips, limit) = call;
-        for decoder in BOTH {
+        for restart in Restart::ALL {
             let mut output = before.to_vec();
-            let answer = decoder(d, channel, most_flips, limit, &mut output);
+            let answer = decode_sets(restart, d, channel, most_flips, limit, &mut output);
             assert_eq!((answer, &output[..]), (Err(refusal), before));
         }
     }
@@ -390,11 +336,11 @@ mod tests {
             let payload = random.bits(code.k);
             let x = codeword(&code, mask_of(d), &payload);
             let channel = samples::noiseless(random, &x);
-            for decoder in BOTH {
+            for restart in Restart::ALL {
                 let most_flips = random.between(1, 3) as u32;
                 let limit = random.between(1, code.information().min(MOST as usize)) as u32;
                 let mut output = random.bytes(packed_length(code.k));
-                let answer = decoder(d, &channel, most_flips, limit, &mut output);
+                let answer = decode_sets(restart, d, &channel, most_flips, limit, &mut output);
                 let steps = code.n << code.n;
                 assert_eq!(answer, Ok(Accepted { trial: 1, steps }));
                 assert_eq!(output, pack(&payload));

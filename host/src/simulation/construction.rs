@@ -12,10 +12,14 @@ use crate::testing::samples::mask_with;
 /// A mask of 2^n indices whose `ones` most reliable are information indices. `mean` is that of the
 /// channel's log-likelihood ratios where zeros were sent.
 pub fn information_set(n: usize, ones: usize, mean: f64) -> Vec<bool> {
-    let means = leaf_means(n, mean);
-    let mut indices: Vec<usize> = (0..means.len()).rev().collect();
-    indices.sort_by(|&a, &b| means[b].total_cmp(&means[a]));
-    mask_with(means.len(), &indices[..ones])
+    most_reliable(ones, &leaf_means(n, mean))
+}
+
+/// A mask of the indices with the `ones` largest numbers; of equal ones the higher indices.
+pub fn most_reliable(ones: usize, numbers: &[f64]) -> Vec<bool> {
+    let mut indices: Vec<usize> = (0..numbers.len()).rev().collect();
+    indices.sort_by(|&a, &b| numbers[b].total_cmp(&numbers[a]));
+    mask_with(numbers.len(), &indices[..ones])
 }
 
 /// The mean at each leaf.

@@ -1,46 +1,20 @@
-//! One code at one Eb/N0: a frame's way from a random payload to the answers of the decoders.
+//! One code at one Eb/N0: a frame's way from a random payload to the answer of a decoder.
 
-use crate::reference::description::record;
 use crate::reference::packing::packed_length;
-use crate::simulation::construction::information_set;
+use crate::simulation::decoder::decode;
 use crate::simulation::noise::fill_normal;
-use crate::simulation::{Decoder, Setting, CHECK, DECODERS, DEPTH, LIMIT};
+use crate::simulation::tally::Outcome;
+use crate::simulation::{Codes, Flips, Restart, Setting, DEPTH};
 use crate::testing::library;
 use crate::testing::random::Random;
 
 /// Refusal 16: all trials fail.
 const ALL_FAILED: u64 = 16;
 
-/// The sums over frames of one decoder. An error is a frame that is refused, or accepted with
-/// another payload than was sent; the latter are the undetected ones.
-#[derive(Clone, Copy, Debug, Default, PartialEq, Eq)]
-pub struct Tally {
-    pub frames: u64,
-    pub errors: u64,
-    pub undetected: u64,
-    pub trials: u64,
-    pub steps: u64,
-}
-
-impl Tally {
-    fn plus(self, other: Tally) -> Tally {
-        Tally {
-            frames: self.frames + other.frames,
-            errors: self.errors + other.errors,
-            undetected: self.undetected + other.undetected,
-            trials: self.trials + other.trials,
-            steps: self.steps + other.steps,
-        }
-    }
-
-    /// A sum's part for one frame.
-    pub fn mean(&self, sum: u64) -> f64 {
-        sum as f64 / self.frames as f64
-    }
-}
-
-pub fn sum(a: [Tally; 3], b: [Tally; 3]) -> [Tally; 3] {
-    [0, 1, 2].map(|decoder| a[decoder].plus(b[decoder]))
+/// A payload that was sent, and the channel values of its codeword after the noise.
+pub struct Frame {
+    pub payload: Vec<u8>,
+    pub channel: Vec<u8>,
 }
 
 pub struct Link {
@@ -53,10 +27,10 @@ pub struct Link {
 }
 
 impl Link {
-    pub fn new(setting: &Setting, decibels: f64) -> Self {
+    pub fn new(codes: Codes, setting: &Setting, decibels: f64) -> Self {
         let ratio = ratio(setting.k, decibels);
         Link {
-            description: setting.description(),
+            description: codes.description(setting),
             k: setting.k,
             deviation: (2.0 / ratio).sqrt(),
             scale: ratio as f32,
@@ -64,13 +38,13 @@ impl Link {
         }
     }
 
-    /// Sends a frame, whose number alone decides payload and noise, and decodes it in each way.
-    pub fn frame(&self, number: u64) -> [Tally; 3] {
+    /// Sends a frame; its number alone decides payload and noise.
+    pub fn frame(&self, number: u64) -> Frame {
         let seed = Random::new(self.seed.wrapping_add(number)).number();
         let mut random = Random::new(seed);
         let payload = random.bytes(self.k / 8);
         let channel = self.received(&payload, &mut random);
-        DECODERS.map(|decoder| self.decoded(decoder, &channel, &payload))
+        Frame { payload, channel }
     }
 
     /// The channel values of a payload's codeword after the noise.
@@ -92,34 +66,33 @@ impl Link {
         channel
     }
 
-    fn decoded(&self, decoder: Decoder, channel: &[u8], sent: &[u8]) -> Tally {
+    /// Decodes a frame with the trial limit of document 000.
+    pub fn decoded(&self, flips: Flips, restart: Restart, frame: &Frame) -> Outcome {
+        self.decoded_within(flips.limit(), flips, restart, frame)
+    }
+
+    pub fn decoded_within(
+        &self,
+        limit: u32,
+        flips: Flips,
+        restart: Restart,
+        frame: &Frame,
+    ) -> Outcome {
         let mut payload = vec![0; packed_length(self.k)];
-        let answer = match decoder {
-            Decoder::OnePass => library::decode_full(&self.description, channel, 1, &mut payload),
-            Decoder::Full => library::decode_full(&self.description, channel, LIMIT, &mut payload),
-            Decoder::Restarted => {
-                library::decode_restarted(&self.description, channel, LIMIT, &mut payload)
-            }
-        };
+        let answer = decode(
+            (flips, restart),
+            limit,
+            &self.description,
+            &frame.channel,
+            &mut payload,
+        );
         let refusal = answer & 0xFF;
         assert!(refusal == 0 || refusal == ALL_FAILED, "refusal {refusal}");
-        let undetected = refusal == 0 && payload != sent;
-        Tally {
-            frames: 1,
-            errors: u64::from(refusal == ALL_FAILED || undetected),
-            undetected: u64::from(undetected),
+        Outcome {
+            payload: (refusal == 0).then_some(payload),
             trials: answer >> 8 & 0xFF_FFFF,
             steps: answer >> 32,
         }
-    }
-}
-
-impl Setting {
-    /// The code, of kind 1.
-    pub fn description(&self) -> Vec<u8> {
-        let (r, polynomial) = CHECK;
-        let mask = information_set(DEPTH, self.k + r, ratio(self.k, self.design));
-        record(DEPTH, r, polynomial, &mask)
     }
 }
 

@@ -2,36 +2,47 @@
 
 use crate::reference::description::{describe, mask_of};
 use crate::reference::flip::{self, order, trials_made, Accepted};
-use crate::reference::frame::{restart_index, Frame};
+use crate::reference::frame::Frame;
 use crate::reference::number::decode_number;
 use crate::reference::pass::skipped_steps;
 use crate::reference::refusal::{refusal_number, Refusal};
+use crate::reference::restart::Restart;
 use crate::testing::guard::lend_reference;
 use crate::testing::{lent, library};
 
 /// An answer, and the output after it.
 pub type Decoded = (Result<Accepted, Refusal>, Vec<u8>);
 
-/// A decoder of the reference, and that of the library.
+/// How the reference decodes, and the library's decoder.
 #[derive(Clone, Copy)]
 pub struct Pair {
-    reference: fn(&[u8], &[u8], u32, &mut [u8]) -> Result<Accepted, Refusal>,
+    restart: Restart,
     library: library::Decoder,
 }
 
 pub const FULL: Pair = Pair {
-    reference: flip::decode_full,
+    restart: Restart::Full,
     library: library::decode_full,
 };
 
+pub const HALF: Pair = Pair {
+    restart: Restart::Half,
+    library: library::decode_half,
+};
+
 pub const RESTARTED: Pair = Pair {
-    reference: flip::decode_restarted,
+    restart: Restart::AfterFlip,
     library: library::decode_restarted,
 };
 
+/// The decoders, those with more steps first.
+pub const ALL: [Pair; 3] = [FULL, HALF, RESTARTED];
+
 /// The reference's restarted decoder, called as the library's.
-pub const REFERENCE: library::Decoder =
-    |d, channel, limit, payload| decode_number(&flip::decode_restarted(d, channel, limit, payload));
+pub const REFERENCE: library::Decoder = |d, channel, limit, payload| {
+    let answer = flip::decode(Restart::AfterFlip, d, channel, limit, payload);
+    decode_number(&answer)
+};
 
 impl Pair {
     /// The library's answer, and its output after it.
@@ -41,21 +52,20 @@ impl Pair {
 
     fn check(self, d: &[u8], channel: &[u8], limit: u32, before: &[u8]) -> Decoded {
         let answer = self.run(d, channel, limit, before);
-        let reference = |output: &mut [u8]| (self.reference)(d, channel, limit, output);
+        let reference = |output: &mut [u8]| flip::decode(self.restart, d, channel, limit, output);
         compare(answer, before, reference).unwrap_or_else(|difference| {
             panic!("{difference}: {d:02x?} {channel:02x?} {limit}");
         })
     }
 }
 
-/// Compares a call of both decoders, also with each other; gives full decoding's answer.
+/// Compares a call of all decoders, also with each other; gives full decoding's answer.
 pub fn check(d: &[u8], channel: &[u8], limit: u32, before: &[u8]) -> Result<Accepted, Refusal> {
-    let full = FULL.check(d, channel, limit, before);
-    let restarted = RESTARTED.check(d, channel, limit, before);
-    if let Some((trials, steps)) = agree(&full, &restarted) {
+    let decoded = ALL.map(|decoder| decoder.check(d, channel, limit, before));
+    if let Some((trials, steps)) = agree(&decoded) {
         check_steps(d, &flipped(d, channel, trials), steps);
     }
-    full.0
+    decoded[0].0
 }
 
 /// The flipped index of each of so many trials, after the first.
@@ -84,31 +94,50 @@ pub fn compare(
     }
 }
 
-/// That full and restarted decoding give the same but for steps. Gives the trials made, and the steps
-/// of both; nothing where the first trial was not made.
-pub fn agree(full: &Decoded, restarted: &Decoded) -> Option<(usize, [usize; 2])> {
-    assert_eq!(full.1, restarted.1);
-    assert_eq!(refusal_number(&full.0), refusal_number(&restarted.0));
-    match (trials_made(&full.0), trials_made(&restarted.0)) {
-        (Some((trials, steps)), Some((same, fewer))) => {
-            assert_eq!(trials, same);
-            Some((trials, [steps, fewer]))
-        }
-        _ => {
-            assert_eq!(full.0, restarted.0);
-            None
-        }
+/// That the decoders give the same but for steps. Gives the trials made, and the steps of each;
+/// nothing where the first trial was not made.
+pub fn agree(decoded: &[Decoded; 3]) -> Option<(usize, [usize; 3])> {
+    let [full, others @ ..] = decoded;
+    for other in others {
+        assert_eq!(full.1, other.1);
+        assert_eq!(refusal_number(&full.0), refusal_number(&other.0));
     }
+    let made = [0, 1, 2].map(|place| trials_made(&decoded[place].0));
+    let [Some(full), Some(half), Some(restarted)] = made else {
+        assert!(others.iter().all(|other| other.0 == full.0));
+        return None;
+    };
+    assert_eq!([half.0, restarted.0], [full.0; 2]);
+    Some((full.0, [full.1, half.1, restarted.1]))
 }
 
-/// Full decoding makes n × N steps a trial; restarting saves, in each trial after the first, the
-/// closed sum at the first information index after the lowest flipped one.
-pub fn check_steps(d: &[u8], lowest_flipped: &[usize], [full, restarted]: [usize; 2]) {
+/// Full decoding makes n × N steps a trial. In each trial after the first, half restart saves half of
+/// them where the lowest flipped index is N/2 or above, and restarting the closed sum at the first
+/// information index after it.
+pub fn check_steps(d: &[u8], lowest_flipped: &[usize], [full, half, restarted]: [usize; 3]) {
     let n = describe(d).expect("a code").n;
     assert_eq!(full, (1 + lowest_flipped.len()) * (n << n));
-    let saved: usize = lowest_flipped
+    let right = lowest_flipped
         .iter()
-        .map(|&flipped| skipped_steps(n, restart_index(mask_of(d), flipped)))
-        .sum();
-    assert_eq!(full - restarted, saved);
+        .filter(|&&lowest| lowest >> (n - 1) == 1);
+    assert_eq!(full - half, right.count() * (n << n) / 2);
+    let q = |&lowest: &usize| Restart::AfterFlip.index(mask_of(d), lowest);
+    let skipped = lowest_flipped
+        .iter()
+        .map(|lowest| skipped_steps(n, q(lowest)));
+    assert_eq!(full - restarted, skipped.sum());
+    assert!(restarted <= half && half <= full);
+}
+
+/// That an acceptance stays under a larger limit, output and steps included, and that without one at
+/// least as many trials and steps are made. Gives whether it was accepted.
+pub fn stays(answer: (u64, Vec<u8>), later: (u64, Vec<u8>)) -> bool {
+    let is_accepted = answer.0 & 0xFF == 0;
+    if is_accepted {
+        assert_eq!(later, answer);
+    } else {
+        let trials = |answer: u64| answer >> 8 & 0xFF_FFFF;
+        assert!(trials(later.0) >= trials(answer.0) && later.0 >> 32 >= answer.0 >> 32);
+    }
+    is_accepted
 }

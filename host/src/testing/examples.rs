@@ -1,5 +1,6 @@
 //! Small examples of flip sets, calculated by hand. Their codes have N = 8 and the information
 //! indices 3, 5, 6 and 7; a later trial resumes at 5, 6, 7 or 8 and then makes 11, 8, 7 or 0 steps.
+//! With half restart it makes 24 steps where its lowest index is 3, and otherwise 12.
 
 use crate::reference::sets::LIMITS_OF_SETS;
 use crate::testing::samples::value_byte;
@@ -26,6 +27,14 @@ impl Example {
     /// The trials made.
     pub fn trials(&self) -> usize {
         1 + self.sets.len()
+    }
+
+    pub fn half_steps(&self) -> usize {
+        let later = self
+            .sets
+            .iter()
+            .map(|set| if set[0] == 3 { 24 } else { 12 });
+        24 + later.sum::<usize>()
     }
 }
 

@@ -51,9 +51,9 @@ pub fn decode_sets(
     decode(by, d, channel, limit, before)
 }
 
-/// Encode, resume, the decoders and those with flip sets, each full and restarted, on the inputs of a
-/// call and a description.
-pub fn answers(call: &Call, d: &[u8]) -> [(u64, Vec<u8>); 6] {
+/// Encode, resume, the decoders and those with flip sets, each full and restarted, then both with half
+/// restart, on the inputs of a call and a description.
+pub fn answers(call: &Call, d: &[u8]) -> [(u64, Vec<u8>); 8] {
     let [codeword, bits, payload] = call.room.map(|length| vec![0xEE; length]);
     let (channel, most_flips, limit) = (&call.channel, call.most_flips, call.limit);
     let decode = |by: Decoder| self::decode(by, d, channel, limit, &payload);
@@ -65,5 +65,7 @@ pub fn answers(call: &Call, d: &[u8]) -> [(u64, Vec<u8>); 6] {
         decode(library::decode_restarted),
         decode_sets(library::decode_sets_full),
         decode_sets(library::decode_sets_restarted),
+        decode(library::decode_half),
+        decode_sets(library::decode_sets_half),
     ]
 }

@@ -1,4 +1,5 @@
-//! Frames that a chosen trial accepts: under one start of the check its bits pass, whatever they are.
+//! Frames that a chosen trial accepts, or no trial of some: under one start of the check its bits pass,
+//! whatever they are, and under each other start they fail.
 
 use crate::reference::check::check;
 use crate::reference::description::{with_start, Code};
@@ -9,12 +10,26 @@ use crate::reference::placing::take;
 /// The description of kind 4 under which the trial that flips a set passes.
 pub fn passing_description(d: &[u8], channel: &[u8], set: &[usize]) -> Vec<u8> {
     let frame = Frame::read(d, channel).expect("a frame");
+    with_start(d, start_of(&frame, set))
+}
+
+/// A description of kind 4 under which the trials that flip these sets fail, where there is one.
+pub fn failing_description(d: &[u8], channel: &[u8], sets: &[Vec<usize>]) -> Option<Vec<u8>> {
+    let frame = Frame::read(d, channel).expect("a frame");
+    let passing: Vec<u16> = sets.iter().map(|set| start_of(&frame, set)).collect();
+    let mut starts = 0..1u32 << frame.code.r;
+    let start = starts.find(|&start| !passing.contains(&(start as u16)))?;
+    Some(with_start(d, start as u16))
+}
+
+/// The start under which the trial that flips a set passes.
+fn start_of(frame: &Frame, set: &[usize]) -> u16 {
     let mut rules = plain_rules(frame.mask);
     for &index in set {
         rules[index] = Rule::Opposite;
     }
     let bits = pass(&frame.values, &[], &rules).bits;
-    with_start(d, passing_start(&frame.code, &take(frame.mask, &bits)))
+    passing_start(&frame.code, &take(frame.mask, &bits))
 }
 
 /// The start with which a message's check is right: what lacks under start 0 is start · z^k, which is

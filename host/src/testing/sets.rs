@@ -3,26 +3,35 @@
 use crate::reference::flip::Accepted;
 use crate::reference::frame::Frame;
 use crate::reference::refusal::Refusal;
-use crate::reference::sets::{self, sets_tried};
+use crate::reference::restart::Restart;
+use crate::reference::sets::{decode_sets, sets_tried};
 use crate::testing::decoders::{agree, check_steps, compare, Decoded};
 use crate::testing::{lent, library};
 
-/// A decoder of the reference, and that of the library.
+/// How the reference decodes, and the library's decoder.
 #[derive(Clone, Copy)]
 pub struct Pair {
-    reference: fn(&[u8], &[u8], u32, u32, &mut [u8]) -> Result<Accepted, Refusal>,
+    restart: Restart,
     library: library::SetDecoder,
 }
 
 pub const FULL: Pair = Pair {
-    reference: sets::decode_sets_full,
+    restart: Restart::Full,
     library: library::decode_sets_full,
 };
 
+pub const HALF: Pair = Pair {
+    restart: Restart::Half,
+    library: library::decode_sets_half,
+};
+
 pub const RESTARTED: Pair = Pair {
-    reference: sets::decode_sets_restarted,
+    restart: Restart::AfterFlip,
     library: library::decode_sets_restarted,
 };
+
+/// The decoders, those with more steps first.
+pub const ALL: [Pair; 3] = [FULL, HALF, RESTARTED];
 
 /// What the decoders are lent beside the output buffer.
 #[derive(Clone, Copy, Debug)]
@@ -42,26 +51,26 @@ impl Pair {
 
     fn check(self, of: Lent, before: &[u8]) -> Decoded {
         let (d, channel) = (of.description, of.channel);
+        let (most_flips, limit) = (of.most_flips, of.limit);
         let reference =
-            |output: &mut [u8]| (self.reference)(d, channel, of.most_flips, of.limit, output);
+            |output: &mut [u8]| decode_sets(self.restart, d, channel, most_flips, limit, output);
         compare(self.run(of, before), before, reference)
             .unwrap_or_else(|difference| panic!("{difference}: {of:02x?}"))
     }
 }
 
-/// Compares a call of both decoders, also with each other; gives full decoding's answer, and how many
-/// indices the last trial flipped.
-pub fn check(of: Lent, before: &[u8]) -> (Result<Accepted, Refusal>, usize) {
-    let full = FULL.check(of, before);
-    let restarted = RESTARTED.check(of, before);
-    let Some((trials, steps)) = agree(&full, &restarted) else {
-        return (full.0, 0);
+/// Compares a call of all decoders, also with each other; gives full decoding's answer, and the set
+/// of each trial made.
+pub fn check(of: Lent, before: &[u8]) -> (Result<Accepted, Refusal>, Vec<Vec<usize>>) {
+    let decoded = ALL.map(|decoder| decoder.check(of, before));
+    let Some((trials, steps)) = agree(&decoded) else {
+        return (decoded[0].0, vec![]);
     };
     let sets = tried(of);
     assert_eq!(sets.len(), trials);
     let lowest: Vec<usize> = sets[1..].iter().map(|set| set[0]).collect();
     check_steps(of.description, &lowest, steps);
-    (full.0, sets.last().map_or(0, Vec::len))
+    (decoded[0].0, sets)
 }
 
 /// The set of each trial that the reference makes.

@@ -1,4 +1,4 @@
-/* Rows of document 01, and of requests 2.1 and 2.2, by each function of the header: each answer in its parts, then the output. */
+/* Rows of document 01, and of requests 2.1, 2.2 and 2.4, by each function of the header: each answer in its parts, then the output. */
 #include "polar.h"
 
 #include <inttypes.h>
@@ -13,9 +13,12 @@ static const uint8_t D_MASK_80[9] = {0x09, 0, 1, 0, 3, 1, 1, 0, 0x80};
 static const uint8_t D_START_1[11] = {0x0B, 0, 4, 0, 3, 1, 1, 0, 1, 0, 0xE8};
 static const uint8_t D_START_2[11] = {0x0B, 0, 4, 0, 3, 1, 1, 0, 2, 0, 0xE8};
 static const uint8_t CHECK_OF_3_BITS[9] = {0x09, 0, 1, 0, 3, 3, 3, 0, 0xE8};
+static const uint8_t FIVE_INDICES[9] = {0x09, 0, 1, 0, 3, 1, 1, 0, 0xF8};
 static const uint8_t V[8] = {0xFF, 3, 2, 2, 0xFE, 0xFE, 3, 2};
 static const uint8_t PAIR[8] = {0xFA, 0xFE, 0xFE, 4, 3, 0xFE, 5, 4};
 static const uint8_t LOST[8] = {4, 6, 0xFB, 0xFD, 0xFC, 3, 1, 0xFB};
+static const uint8_t WEAK[8] = {0xFD, 4, 3, 0xFB, 1, 0xFE, 0, 0xFC};
+static const uint8_t WEAK_PAIR[8] = {0xF8, 0xFC, 0xFF, 0xF7, 2, 5, 0xFC, 7};
 static const uint8_t RIGHT[8] = {4, 0xFC, 4, 0xFC, 0xFC, 4, 0xFC, 4};
 static const uint8_t ZEROS[8] = {0};
 static const uint8_t LAST_31[8] = {0, 0, 0, 0, 0, 0, 0, 31};
@@ -100,6 +103,7 @@ static void decode_rows(decoder *by)
     decode("32", by, LAST_32, 1);
     decode_under(D_START_1, sizeof D_START_1, "start 1, zeros, T = 1", by, ZEROS, 1);
     decode_under(D_START_1, sizeof D_START_1, "start 1, zeros, T = 2", by, ZEROS, 2);
+    decode_under(FIVE_INDICES, sizeof FIVE_INDICES, "flips 3, 4, 5", by, WEAK, 6);
 }
 
 static void set_rows(set_decoder *by)
@@ -109,6 +113,7 @@ static void set_rows(set_decoder *by)
     decode_sets("a pair, w = 1, T = 2", by, CHECK_OF_3_BITS, PAIR, 1, 2);
     decode_sets("a pair, w = 2, T = 3", by, CHECK_OF_3_BITS, PAIR, 2, 3);
     decode_sets("no set passes, w = 2, T = 512", by, CHECK_OF_3_BITS, LOST, 2, 512);
+    decode_sets("lowest indices 4, 3, 3, 4, 5, 4", by, FIVE_INDICES, WEAK_PAIR, 2, 7);
     decode_sets("w = 0, T = 0", by, D, V, 0, 0);
     decode_sets("w = 4, T = 1", by, D, V, 4, 1);
     decode_sets("w = 1, T = 6", by, D, V, 1, 6);
@@ -120,8 +125,10 @@ int main(void)
     encode_rows();
     resume_rows();
     decode_rows(polar_decode_full);
+    decode_rows(polar_decode_half);
     decode_rows(polar_decode_restarted);
     set_rows(polar_decode_sets_full);
+    set_rows(polar_decode_sets_half);
     set_rows(polar_decode_sets_restarted);
     return 0;
 }

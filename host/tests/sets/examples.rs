@@ -3,7 +3,7 @@
 use host::reference::description::{record, with_start};
 use host::testing::examples::{Example, EXAMPLES};
 use host::testing::samples;
-use host::testing::sets::{Lent, Pair, FULL, RESTARTED};
+use host::testing::sets::{Lent, Pair, FULL, HALF, RESTARTED};
 
 use crate::outcomes::Outcomes;
 
@@ -29,6 +29,8 @@ fn examples_by_hand() {
         };
         let full = expected(example, 24 * example.trials());
         assert_eq!(run(FULL), full, "{example:?}");
+        let half = expected(example, example.half_steps());
+        assert_eq!(run(HALF), half, "{example:?}");
         let restarted = expected(example, example.restarted_steps);
         assert_eq!(run(RESTARTED), restarted, "{example:?}");
     }

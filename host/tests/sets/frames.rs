@@ -13,7 +13,7 @@ use host::reference::transform::transform;
 use host::testing::passing::passing_description;
 use host::testing::random::Random;
 use host::testing::samples;
-use host::testing::sets::{Lent, FULL, RESTARTED};
+use host::testing::sets::{Lent, ALL};
 
 use crate::outcomes::Outcomes;
 
@@ -225,31 +225,35 @@ fn check_strong(random: &mut Random, n: usize, flips: usize, outcomes: &mut Outc
 }
 
 /// The longest runs: the longest code, every trial made.
-#[test]
-fn the_most_trials() {
+fn check_most_trials(ones: usize, most_flips: u32, limit: u32) {
     let mut random = Random::new(5);
     let mut outcomes = Outcomes::default();
-    let most = *LIMITS_OF_SETS.end();
-    for (ones, most_flips, limit) in [
-        (LONGEST, 1, MOST_TRIALS as u32),
-        (LONGEST, 2, most),
-        (LONGEST / 2, 3, most),
-    ] {
-        let d = record(DEEPEST, 16, 0x8005, &samples::useful_mask(LONGEST, ones));
-        let d = with_start(&d, 0xFFFF);
-        let channel = samples::channel(&mut random, LONGEST, 31);
-        let of = Lent {
-            description: &d,
-            channel: &channel,
-            most_flips,
-            limit,
-        };
-        outcomes.check(of, &room(&mut random, &d));
-    }
-    assert_eq!(outcomes.failed, 3);
+    let d = record(DEEPEST, 16, 0x8005, &samples::useful_mask(LONGEST, ones));
+    let d = with_start(&d, 0xFFFF);
+    let channel = samples::channel(&mut random, LONGEST, 31);
+    let of = Lent {
+        description: &d,
+        channel: &channel,
+        most_flips,
+        limit,
+    };
+    outcomes.check(of, &room(&mut random, &d));
+    assert_eq!(outcomes.failed, 1);
 }
 
-/// The payload on trial 1, by both decoders.
+#[test]
+fn the_most_trials_of_one_flip() {
+    check_most_trials(LONGEST, 1, MOST_TRIALS as u32);
+}
+
+#[test]
+fn the_most_trials_of_more_flips() {
+    let most = *LIMITS_OF_SETS.end();
+    check_most_trials(LONGEST, 2, most);
+    check_most_trials(LONGEST / 2, 3, most);
+}
+
+/// The payload on trial 1, by all decoders.
 #[test]
 fn right_signs() {
     let mut random = Random::new(6);
@@ -268,7 +272,7 @@ fn right_signs() {
                 limit: limit(&mut random, &d, most_flips, usize::MAX),
             };
             let accepted = (1 << 8) + ((n << n) << 32);
-            for decoder in [FULL, RESTARTED] {
+            for decoder in ALL {
                 let answer = decoder.run(of, &room(&mut random, &d));
                 assert_eq!(answer, (accepted as u64, pack(&payload)));
             }

@@ -5,9 +5,10 @@ use host::reference::packing::packed_length;
 use host::reference::refusal::refusal_number;
 use host::reference::sets::{limits, LIMITS_OF_SETS, MOST_FLIPS};
 use host::reference::sizes::{DEEPEST, LAYERS, MOST_TRIALS};
+use host::testing::decoders::stays;
 use host::testing::random::Random;
 use host::testing::samples::{self, for_descriptions};
-use host::testing::sets::{check, Lent, FULL, RESTARTED};
+use host::testing::sets::{check, Lent, ALL};
 
 use crate::outcomes::Outcomes;
 
@@ -80,7 +81,7 @@ fn sets_that_are_used_up() {
     assert!(outcomes.used_up >= 500, "{outcomes:?}");
 }
 
-/// What is accepted stays under a larger limit, by both decoders; where none accepts, more trials are
+/// What is accepted stays under a larger limit, by all decoders; where none accepts, more trials are
 /// made.
 #[test]
 fn a_larger_limit_changes_nothing_that_is_accepted() {
@@ -92,22 +93,15 @@ fn a_larger_limit_changes_nothing_that_is_accepted() {
         let limit = random.between(1, most.min(40));
         let larger = random.between(limit, most);
         let before = random.bytes(packed_length(code.k));
-        for decoder in [FULL, RESTARTED] {
+        for decoder in ALL {
             let of = |limit| Lent {
                 description: d,
                 channel: &channel,
                 most_flips,
                 limit: limit as u32,
             };
-            let (answer, output) = decoder.run(of(limit), &before);
-            let (later, changed) = decoder.run(of(larger), &before);
-            if answer & 0xFF == 0 {
-                accepted += 1;
-                assert_eq!((later, changed), (answer, output));
-            } else {
-                let trials = |answer: u64| answer >> 8 & 0xFF_FFFF;
-                assert!(trials(later) >= trials(answer) && later >> 32 >= answer >> 32);
-            }
+            let [answer, later] = [limit, larger].map(|limit| decoder.run(of(limit), &before));
+            accepted += usize::from(stays(answer, later));
         }
     });
     assert!(accepted >= 1_000, "{accepted}");

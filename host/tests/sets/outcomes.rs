@@ -15,9 +15,9 @@ pub struct Outcomes {
 impl Outcomes {
     /// Compares a call with the reference, and counts what came of it.
     pub fn check(&mut self, of: Lent, before: &[u8]) {
-        let (answer, flips) = check(of, before);
+        let (answer, sets) = check(of, before);
         match answer {
-            Ok(_) => self.accepted[flips] += 1,
+            Ok(_) => self.accepted[sets.last().map_or(0, Vec::len)] += 1,
             Err(Refusal::AllFailed { trials, .. }) if trials < of.limit as usize => {
                 self.used_up += 1
             }

@@ -1,11 +1,12 @@
 //! Refused calls: each fault, each pair of faults, several at once.
 
-use host::reference::description::{describe, with_start, REFUSALS};
+use host::reference::description::REFUSALS;
 use host::reference::packing::packed_length;
 use host::reference::refusal::{refusal_number, Refusal};
 use host::reference::sets::MOST_FLIPS;
-use host::reference::sizes::{LAYERS, MOST_TRIALS};
-use host::testing::call::Call as Inputs;
+use host::reference::sizes::LAYERS;
+use host::testing::call::Call;
+use host::testing::faulty::{self, Faulty};
 use host::testing::met::Met;
 use host::testing::random::Random;
 use host::testing::samples::{self, for_descriptions};
@@ -14,101 +15,25 @@ use host::testing::sets::{check, Lent};
 /// The refusals of a call beside those of its description and 16, in their order.
 const OWN: [usize; 5] = [12, 13, 26, 14, 15];
 
-/// A call.
-struct Call {
-    description: Vec<u8>,
-    channel: Vec<u8>,
-    most_flips: u32,
-    limit: u32,
-    before: Vec<u8>,
+/// Compares a call; gives its refusal.
+fn refusal(call: &Faulty) -> usize {
+    let of = Lent {
+        description: &call.description,
+        channel: &call.channel,
+        most_flips: call.most_flips,
+        limit: call.limit,
+    };
+    refusal_number(&check(of, &call.before).0)
 }
 
-impl Call {
-    /// Silence under a start other than 0, with T = 1: nothing is wrong, and 16 is the answer.
-    fn silent(random: &mut Random) -> Call {
-        let n = samples::layers(random);
-        let d = samples::description(random, n);
-        let start = samples::nonzero_start(random, d[5].into());
-        let k = describe(&d).expect("a code").k;
-        Call {
-            description: with_start(&d, start),
-            channel: vec![0; 1 << n],
-            most_flips: samples::most_flips(random),
-            limit: 1,
-            before: random.bytes(packed_length(k)),
-        }
-    }
-
-    /// Compares the call; gives its refusal.
-    fn check(&self) -> usize {
-        let of = Lent {
-            description: &self.description,
-            channel: &self.channel,
-            most_flips: self.most_flips,
-            limit: self.limit,
-        };
-        refusal_number(&check(of, &self.before).0)
-    }
-
-    /// Changes the call so that a refusal of its own applies.
-    fn put_fault(&mut self, random: &mut Random, refusal: usize) {
-        let size = self.channel.len();
-        match refusal {
-            12 => {
-                let length = [size / 2, size - 1, size + 1, 2 * size][random.below(4)];
-                self.channel.resize(length, 0);
-            }
-            13 => {
-                let place = random.below(size / 2);
-                self.channel[place] = [32, 224, 127, 128][random.below(4)];
-            }
-            26 => self.most_flips = samples::wrong_most_flips(random),
-            14 => self.limit = [0, MOST_TRIALS as u32 + 1, u32::MAX][random.below(3)],
-            15 => {
-                let length = self.before.len();
-                let other = [0, length - 1, length + 1, 2 * length][random.below(4)];
-                self.before.resize(other, 0xEE);
-            }
-            _ => panic!("a call has no refusal {refusal}"),
-        }
-    }
-
-    /// Puts in the faults of these refusals, which stand in their order; nothing where the
-    /// description cannot have one.
-    fn with_faults(random: &mut Random, refusals: &[usize]) -> Option<Call> {
-        let mut call = Call::silent(random);
-        let (own, others): (Vec<usize>, Vec<usize>) =
-            refusals.iter().partition(|refusal| OWN.contains(refusal));
-        for refusal in own {
-            call.put_fault(random, refusal);
-        }
-        let can_break = |&refusal: &usize| samples::can_break(&call.description, refusal);
-        others.iter().all(can_break).then(|| {
-            samples::put_faults(random, &mut call.description, &others);
-            call
-        })
-    }
-}
-
-/// Each refusal alone, and of two that apply the first; without any the answer is 16.
+/// Without a fault the answer is 16.
 #[test]
 fn each_pair_of_faults() {
     let order = [&REFUSALS[..], &OWN].concat();
+    let mut met = faulty::each_pair(&order, refusal);
     let mut random = Random::new(1);
-    let mut met = Met::default();
-    for (index, &first) in order.iter().enumerate() {
-        for &second in &order[index..] {
-            let mut faults = vec![first, second];
-            faults.dedup();
-            for call in (0..60).filter_map(|_| Call::with_faults(&mut random, &faults)) {
-                let refusal = call.check();
-                assert_eq!(refusal, first, "{faults:?}");
-                met.count(refusal);
-            }
-        }
-    }
     for _ in 0..500 {
-        met.count(Call::silent(&mut random).check());
+        met.count(refusal(&Faulty::silent(&mut random)));
     }
     met.are_all(&[&order, &[16]]);
 }
@@ -121,10 +46,10 @@ fn several_faults() {
     for _ in 0..10_000 {
         let n = random.between(3, 6);
         let d = samples::useful_description(&mut random, n);
-        let mut inputs = Inputs::new(&mut random, d, 12);
+        let mut inputs = Call::new(&mut random, d, 12);
         samples::spoil_description(&mut random, &mut inputs.description);
         samples::spoil_channel(&mut random, &mut inputs.channel);
-        let mut call = Call {
+        let mut call = Faulty {
             before: random.bytes(inputs.room[2]),
             description: inputs.description,
             channel: inputs.channel,
@@ -136,7 +61,7 @@ fn several_faults() {
                 call.put_fault(&mut random, refusal);
             }
         }
-        met.count(call.check());
+        met.count(refusal(&call));
     }
     met.are_all(&[&[0], &REFUSALS, &OWN, &[16]]);
 }
@@ -169,13 +94,13 @@ fn other_numbers_of_flips() {
     let powers = (0..32).map(|i| 1 << i);
     let near = powers.flat_map(|power| (0..=3).map(move |low| power | low));
     for most_flips in near.chain([0, u32::MAX]) {
-        let mut call = Call::silent(&mut Random::new(most_flips.into()));
+        let mut call = Faulty::silent(&mut Random::new(most_flips.into()));
         call.most_flips = most_flips;
         let expected = if MOST_FLIPS.contains(&most_flips) {
             16
         } else {
             26
         };
-        assert_eq!(call.check(), expected, "{most_flips}");
+        assert_eq!(refusal(&call), expected, "{most_flips}");
     }
 }

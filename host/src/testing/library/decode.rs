@@ -1,4 +1,4 @@
-//! The exports `polar_decode_full` and `polar_decode_restarted`.
+//! The exports `polar_decode_full`, `polar_decode_half` and `polar_decode_restarted`.
 
 use crate::testing::library::call;
 
@@ -25,4 +25,5 @@ macro_rules! decoder {
 }
 
 decoder!(polar_decode_full, decode_full);
+decoder!(polar_decode_half, decode_half);
 decoder!(polar_decode_restarted, decode_restarted);

@@ -1,4 +1,5 @@
-//! The exports `polar_decode_sets_full` and `polar_decode_sets_restarted`.
+//! The exports `polar_decode_sets_full`, `polar_decode_sets_half` and
+//! `polar_decode_sets_restarted`.
 
 use crate::testing::library::call;
 
@@ -32,4 +33,5 @@ macro_rules! decoder {
 }
 
 decoder!(polar_decode_sets_full, decode_sets_full);
+decoder!(polar_decode_sets_half, decode_sets_half);
 decoder!(polar_decode_sets_restarted, decode_sets_restarted);

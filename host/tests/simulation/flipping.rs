@@ -1,21 +1,14 @@
-//! The simulation of what flipping gains: that it counts rightly, and that the results in docs/
-//! agree with each other.
+//! What flipping gains.
 
-use host::simulation::{
-    at, csv, nearest, read_csv, summary, Decoder, Row, Setting, Tally, CHECK, DECODERS, DEPTH,
-    LIMIT, POINTS, SETTINGS,
-};
-use host::testing::files::text;
+pub use host::simulation::flipping::Decoder;
+use host::simulation::flipping::{at, nearest, summary, Row, DECODERS, POINTS};
+use host::simulation::{csv, read_csv, Flips, Setting, Tally, SETTINGS, STEPS_OF_A_PASS};
 
-const STEPS_OF_A_PASS: u64 = (DEPTH as u64) << DEPTH;
+use crate::{document, plot};
 
 /// The rows of docs/flipping.csv.
-fn shipped() -> Vec<Row> {
+pub fn shipped() -> Vec<Row> {
     read_csv(&document("flipping.csv")).expect("rows")
-}
-
-fn document(name: &str) -> String {
-    text(&format!("docs/{name}"))
 }
 
 fn rows(decibels: f64, frames: u64, threads: u64) -> Vec<Row> {
@@ -75,36 +68,24 @@ fn both_flip_decoders_agree() {
     shipped().chunks(3).for_each(check_point);
 }
 
-/// gnuplot is run by hand: what its script takes from the table must be there, and the plot must
-/// show it.
 #[test]
 fn the_plot_shows_the_table() {
-    let (script, plot, table) = ("flipping.gp", "flipping.svg", "flipping.csv");
-    let [script, plot, table] = [script, plot, table].map(document);
-    let heading: Vec<&str> = table
-        .lines()
-        .next()
-        .expect("a heading")
-        .split(',')
-        .collect();
-    for column in [
+    let columns = [
         "k",
         "ebn0_db",
         "decoder",
         "frame_error_rate",
         "undetected_error_rate",
         "average_steps",
-    ] {
-        assert!(heading.contains(&column), "{column}");
-        assert!(script.contains(&format!("\"{column}\"")), "{column}");
-    }
-    let setting = format!("N = {}, check of {} bits, T = {LIMIT}", 1 << DEPTH, CHECK.0);
-    assert!(script.contains(&setting) && plot.contains(&setting));
-    for k in SETTINGS.map(|setting| setting.k) {
-        for curve in ["one pass", "full and restarted", "full", "restarted"] {
-            assert!(plot.contains(&format!(">k = {k}, {curve}<")), "{k} {curve}");
-        }
-    }
+    ];
+    let curves = ["one pass", "full and restarted", "full", "restarted"];
+    let of = |setting: &Setting| {
+        let k = setting.k;
+        curves.map(|curve| format!("k = {k}, {curve}"))
+    };
+    let curves: Vec<String> = SETTINGS.iter().flat_map(of).collect();
+    let setting = format!("T = {}", Flips::Single.limit());
+    plot::check("flipping", &columns, &setting, &curves);
 }
 
 #[test]
@@ -126,7 +107,7 @@ fn flipping_recovers_half_of_the_frames() {
     let rows = shipped();
     let point = nearest(&rows, 128, Decoder::OnePass, 0.1).expect("a point");
     let [once, full] = [0, 1].map(|decoder| point[decoder].tally);
-    let rate = once.mean(once.errors);
+    let rate = once.error_rate();
     assert!((0.08..0.125).contains(&rate), "{rate}");
     assert!(2 * full.errors <= once.errors, "{point:?}");
 }

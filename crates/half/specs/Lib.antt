@@ -1,0 +1,3 @@
+pub mod Half
+pub mod Larger
+pub mod Claims
