@@ -1,13 +1,13 @@
 -- The coefficients of numbers, as the words of the register.
 use mathlib.Core.Path.{_≡_, refl, sym, ap, ap₂, _∙_}
 use Prim.Native.Nat.{ℕ, zero, suc, _+_, _-_, _*_, _/_, _%_, _^_, _≤_, _<_}
-use native.Mathlib.Nat.{add-zero, zero-mul, one-mul, div-add-mod', mod-lt, zero-lt-suc}
+use native.Mathlib.Nat.{add-zero, zero-mul, one-mul, div-add-mod', mod-lt, zero-lt-suc, mod-eq-of-lt, add-mod-mod, div-lt-iff-lt-mul, two-pow-succ}
 use native.Mathlib.Omega.{arith}
 use lib.Bits.{bitAnd, bitXor, and-mask, xor-lt}
 use lib.Pow.{shr-shr, pow-pos}
 use Rattle.laws.proofs.Powers.{one-shl}
 use Rattle.bits.specs.Bit.{bit, bitsOf}
-use Rattle.bits.proofs.Bitwise.{bit-low, bit-up, bit-zero, bit-xor}
+use Rattle.bits.proofs.Bitwise.{bit-low, bit-up, bit-zero, xor-bits, bit-xor}
 use Rattle.bits.proofs.BitsOf.{bitsOf-mod}
 use Rattle.crc.specs.Polynomial.{raised, addHighest, scale}
 use Rattle.crc.specs.Contracts.{step}
@@ -43,6 +43,18 @@ shr-more x i h =
 -- `x & ((1 << r) - 1)`
 masked : (r x : ℕ) → r ≤ 16 → bitAnd x (1 * 2 ^ r % 2 ^ 32 - 1) ≡ x % 2 ^ r
 masked r x h = ap (λ (m : ℕ). bitAnd x (m - 1)) (one-shl r 32 (omega arith)) ∙ and-mask x r
+
+-- the highest coefficient, which nothing stands above, with the next bit added
+pub leaving : (r register next : ℕ) → 1 ≤ r → register < 2 ^ r → bitXor (register / 2 ^ (r - 1)) (next % 2) ≡ (bit register (r - 1) + next) % 2
+leaving zero register next s h = absurd (omega arith)
+leaving (suc w) register next s h =
+    let e : suc w - 1 ≡ w = omega arith in
+    let top : register / 2 ^ w < 2 = div-lt-iff-lt-mul (pow-pos w) .1 (omega (arith, two-pow-succ w)) in
+    ap (λ (i : ℕ). bitXor (register / 2 ^ i) (next % 2)) e
+    ∙ xor-bits (register / 2 ^ w) (next % 2) top (mod-lt next (zero-lt-suc 1))
+    ∙ add-mod-mod (register / 2 ^ w) next 2
+    ∙ ap (λ (x : ℕ). (x + next) % 2) (sym (mod-eq-of-lt top))
+    ∙ ap (λ (i : ℕ). (bit register i + next) % 2) (sym e)
 
 -- a coefficient times a word is no longer than the word
 pub scaled-lt : (a x n : ℕ) → a < 2 → x < n → a * x < n

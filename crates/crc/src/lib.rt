@@ -38,12 +38,13 @@ fn word_if(out: u32, word: u32) -> u32
     (word << out) - word
 }
 
-// One bit goes in: the register moves up by one place, and the word is added where the coefficient that leaves is 1.
+// One bit goes in: the register moves up by one place, and the word is added where the coefficient that leaves is 1. Nothing stands above
+// the highest coefficient, so that a shift gives it alone.
 fn register_step(register: u32, next: u8, r: u32, word: u32) -> u32
-    requires { ⌜ (1 ≤ r) × (r ≤ 16) × (word < 2 ^ r) ⌝ }
+    requires { ⌜ (1 ≤ r) × (r ≤ 16) × (word < 2 ^ r) × (register < 2 ^ r) ⌝ }
     ensures { λ a. ⌜ (bitsOf r a ≡ step (bitsOf r word) (bitsOf r register) next) × (a < 2 ^ r) ⌝ }
 {
-    let out = (coefficient(register, r - 1) + next as u32) % 2;
+    let out = (register >> (r - 1)) ^ (next as u32 % 2);
     word_if(out, word) ^ ((register << 1) & ((1u32 << r) - 1))
 }
 

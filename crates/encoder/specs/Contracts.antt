@@ -4,6 +4,7 @@ use mathlib.Core.List.{List}
 use Prim.Native.Nat.{ℕ, _*_, _^_, _≤_, _<_}
 use lib.ListN.{length}
 use Rattle.arrays.specs.Sizes.{deepest}
+use Rattle.bits.specs.Claims.{Bits}
 use Rattle.bits.specs.Packing.{unpacked}
 use Rattle.code.specs.declared.Code.{Code}
 use Rattle.code.specs.Code.{codeLength, informationCount}
@@ -20,11 +21,12 @@ pub record MessagePre (c : Code) (payload message : List ℕ) : Type 0 where
   pub payload-size : c .k ≤ 8 * length payload
   pub message-size : length message ≡ informationCount c
 
--- a payload for a code, and room for its message and its codeword
+-- a payload for a code, and room for its message and its codeword: what follows the message there is bits too
 pub record PayloadPre (mask : List ℕ) (c : Code) (payload room output : List ℕ) : Type 0 where
   pub coded : Coded mask c
   pub well-formed : WellFormed c payload output
   pub room-size : codeLength c ≤ length room
+  pub room-bits : Bits room
 
 -- the message of a payload, placed by the mask
 abbrev pub placedMessage : List ℕ → Code → List ℕ → List ℕ

@@ -39,7 +39,7 @@ fn place_message(mask: &[u8], code: Code, payload: &[u8], room: &mut [u8], outpu
 {
     let size = code.k + code.r as usize;
     message_of(code, payload, &mut room[..size]);
-    placing::place(mask, &room[..size], output);
+    placing::place(mask, room, output);
 }
 
 // Transforms the 2^n packed bits of the output, in `room`, and puts them back.

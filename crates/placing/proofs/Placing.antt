@@ -5,33 +5,25 @@ use mathlib.Core.Logic.{⊎-elim}
 use mathlib.Core.List.{List, [], _∷_, _++_, append-nil}
 use Prim.Native.Nat.{ℕ, zero, suc, _+_, _*_, _≤_, _<_}
 use native.Mathlib.Nat.{zero-add}
-use native.Mathlib.Numerals.{add-one}
 use native.Mathlib.Omega.{arith}
 use lib.Dec.{eqb}
-use lib.ListN.{length, getD, take, set, length-append}
+use lib.ListN.{length, getD, take, set, length-append, List·getD-append}
 use lib.Seq.{take-suc, getD-take}
+use Rattle.laws.specs.Table.{table}
 use Rattle.laws.specs.Contracts.{splice}
 use Rattle.laws.proofs.Choice.{cond-ind}
-use Rattle.laws.proofs.Table.{length-table, getD-table}
+use Rattle.laws.proofs.Table.{length-table, getD-table, table-snoc}
 use Rattle.laws.proofs.Filling.{splice-snoc}
-use Rattle.bits.specs.Bit.{bit, number}
 use Rattle.bits.specs.Claims.{Bits}
 use Rattle.bits.specs.Mask.{maskBit, onesBelow}
-use Rattle.bits.specs.Packing.{packedByte}
-use Rattle.bits.proofs.Bitwise.{bit-zero}
-use Rattle.bits.proofs.Number.{number-ext}
 use Rattle.bits.proofs.Lists.{bits-nil, bits-cons, bits-append, bits-table}
-use Rattle.bits.proofs.Mask.{mask-bit, ones-le, mask-bit-lt, mask-cases}
+use Rattle.bits.proofs.Mask.{ones-le, mask-cases}
 use Rattle.placing.specs.Place.{taken, placed, placedBit}
 
--- a count c of the information indices below i, with the bit b of index i added
-module _ (mask : List ℕ) (i : ℕ) {c b : ℕ} (count : c ≡ onesBelow mask i) (here : b ≡ maskBit mask i) where
-  pub count-next : c + b ≡ onesBelow mask (i + 1)
-  unfolding onesBelow
-  count-next = rw add-one (ap₂ (λ (x y : ℕ). x + y) count here)
-
-  pub count-le : c + b ≤ i + 1
-  count-le = omega (arith, ones-le mask i, mask-bit-lt mask i)
+-- the counts of ones along the mask of document 01's D: before each index, and at the end
+pub counts-along-D : table (onesBelow (0xE8 ∷ [])) 9 ≡ 0 ∷ 0 ∷ 0 ∷ 0 ∷ 1 ∷ 1 ∷ 2 ∷ 3 ∷ 4 ∷ []
+unfolding table onesBelow
+counts-along-D = refl
 
 -- ---- placed bits
 
@@ -48,16 +40,25 @@ unfolding placed
 bits-placed mask message n p =
     bits-table _ n (λ i. cond-ind (λ (x : ℕ). x < 2) (eqb (maskBit mask i) 1) _ 0 (λ _. p .at _) (λ _. omega arith))
 
--- a byte of the mask without an information index
-pub frozen-byte : (mask message : List ℕ) (m : ℕ) → m < length mask → getD mask m 0 ≡ 0 → 0 ≡ packedByte (placed mask message (8 * length mask)) m
-unfolding number
-frozen-byte mask message m l e = sym (number-ext (λ b. getD (placed mask message (8 * length mask)) (8 * m + b) 0) (λ b. 0) 8 each)
+-- what follows the message is not placed: at one index
+placed-bit-append : (mask message rest : List ℕ) (n : ℕ) → onesBelow mask n + maskBit mask n ≤ length message → placedBit mask (message ++ rest) n ≡ placedBit mask message n
+placed-bit-append mask message rest n l =
+    ⊎-elim
+    (λ e. ap (by (message ++ rest)) e ∙ sym (ap (by message) e))
+    (λ e. ap (by (message ++ rest)) e ∙ List·getD-append message rest 0 (onesBelow mask n) (omega arith) ∙ sym (ap (by message) e))
+    (mask-cases mask n)
   where
-    each : (b : ℕ) → b < 8 → getD (placed mask message (8 * length mask)) (8 * m + b) 0 ≡ 0
-    each b h =
-        let none : maskBit mask (8 * m + b) ≡ 0 = mask-bit mask m b h ∙ ap (λ (x : ℕ). bit x b) e ∙ bit-zero b in
-        getD-placed mask message (8 * length mask) (8 * m + b) (omega arith)
-        ∙ ap (λ (x : ℕ). cond (eqb x 1) (getD message (onesBelow mask (8 * m + b)) 0) 0) none
+    by : List ℕ → ℕ → ℕ
+    by xs b = cond (eqb b 1) (getD xs (onesBelow mask n) 0) 0
+
+-- and at all
+pub placed-append : (mask message rest : List ℕ) (n : ℕ) → onesBelow mask n ≤ length message → placed mask (message ++ rest) n ≡ placed mask message n
+unfolding placed onesBelow table
+placed-append mask message rest zero l = refl
+placed-append mask message rest (suc n) l =
+    table-snoc (placedBit mask (message ++ rest)) n
+    ∙ ap₂ (λ (xs : List ℕ) (x : ℕ). xs ++ (x ∷ [])) (placed-append mask message rest n (omega arith)) (placed-bit-append mask message rest n l)
+    ∙ sym (table-snoc (placedBit mask message) n)
 
 -- ---- taken bits
 

@@ -10,6 +10,9 @@ use Rattle.refusal.specs.declared.Refusal.the-variants.{Alone, At}
 use Rattle.refusal.specs.Judge.{numberOf}
 use Rattle.bits.specs.Packing.{bytesFor, packed, unpacked}
 use Rattle.bits.specs.Mask.{maskBit, onesIn}
+use Rattle.laws.specs.Contracts.{splice}
+use Rattle.arrays.specs.Claims.{longestBytes}
+use Rattle.placing.specs.Place.{placed, taken}
 use Rattle.code.specs.declared.Description.{Description}
 use Rattle.code.specs.declared.Description.the-variants.{Accepted, Refused}
 use Rattle.quantiser.specs.declared.Quantised.{Quantised}
@@ -43,9 +46,29 @@ unpacking bytes bits = cond (ltb (8 * length bytes) (length bits)) (1, bits) (0,
 abbrev pub bitAt : List ℕ → ℕ → ℕ
 bitAt mask i = cond (ltb i (8 * length mask)) (maskBit mask i) 2
 
--- how many ones a mask has, or the largest number where it is longer than 65,536 bytes
+-- the largest number, where a call is not admitted
+abbrev pub none : ℕ
+none = 0xffff_ffff_ffff_ffff
+
+-- how many ones a mask has; none where it is longer than 65,536 bytes
 abbrev pub onesAnswer : List ℕ → ℕ
-onesAnswer mask = cond (ltb 65536 (length mask)) 0xffff_ffff_ffff_ffff (onesIn mask)
+onesAnswer mask = cond (ltb 65536 (length mask)) none (onesIn mask)
+
+-- N looks with the message placed; none with the output as it was for a mask longer than that of the longest code, too short an output or
+-- array of bits, or other numbers than bits
+abbrev pub placingAnswer : List ℕ → List ℕ → List ℕ → ℕ × List ℕ
+placingAnswer mask message u =
+    cond (ltb longestBytes (length mask)) (none, u)
+    (cond (ltb (length u) (length mask)) (none, u)
+    (cond (ltb (length message) (8 * length mask)) (none, u)
+    (cond (allBits message) (8 * length mask, splice u 0 (packed (placed mask message (8 * length mask)))) (none, u))))
+
+-- N looks with the message taken out; none with the output as it was where bits or output are shorter than N
+abbrev pub takingAnswer : List ℕ → List ℕ → List ℕ → ℕ × List ℕ
+takingAnswer mask u message =
+    cond (ltb (length u) (8 * length mask)) (none, message)
+    (cond (ltb (length message) (8 * length mask)) (none, message)
+    (8 * length mask, splice message 0 (taken mask u (8 * length mask))))
 
 -- the peak, or positive zero for a refusal; at 0 the refusal or 0, at 1 the clipped count, the index or 0
 abbrev pub probeAnswer : Quantised → List ℕ → Float × List ℕ

@@ -1,5 +1,6 @@
 // Exports for tests only: what document 01 does not export to C. None has a `requires`; a call that the tested function would
 // not admit gets a number of its own.
+use arrays::BYTES;
 use code::Description;
 use quantiser::Quantised;
 use refusal::Refusal;
@@ -7,7 +8,7 @@ ghost use mathlib.Core.Path.{_≡_};
 ghost use Rattle.refusal.specs.Judge.{numberOf};
 ghost use Rattle.code.specs.Description.{describe};
 ghost use Rattle.quantiser.specs.Quantise.{quantised};
-ghost use Rattle.probe.specs.Contracts.{indexOf, descriptionNumbers, allBits, packing, unpacking, bitAt, onesAnswer, probeAnswerBy};
+ghost use Rattle.probe.specs.Contracts.{indexOf, descriptionNumbers, allBits, packing, unpacking, bitAt, onesAnswer, placingAnswer, takingAnswer, probeAnswerBy};
 
 // A refusal's number.
 fn refusal_number(x: Refusal) -> u64
@@ -101,6 +102,40 @@ pub extern "C" fn probe_ones(mask: &[u8]) -> u64
         return 0xffff_ffff_ffff_ffff;
     }
     bits::ones(mask) as u64
+}
+
+// The looks come back.
+#[no_mangle]
+pub extern "C" fn probe_place(mask: &[u8], message: &[u8], u: &mut [u8]) -> u64
+    ensures { λ x. ⌜ (x, now (u .exit)) ≡ placingAnswer (now (mask .entry)) (now (message .entry)) (now (u .entry)) ⌝ }
+{
+    if BYTES < mask.len() {
+        return 0xffff_ffff_ffff_ffff;
+    }
+    if u.len() < mask.len() {
+        return 0xffff_ffff_ffff_ffff;
+    }
+    if message.len() / 8 < mask.len() {
+        return 0xffff_ffff_ffff_ffff;
+    }
+    if !are_bits(message) {
+        return 0xffff_ffff_ffff_ffff;
+    }
+    placing::place(mask, message, u) as u64
+}
+
+// The looks come back.
+#[no_mangle]
+pub extern "C" fn probe_take_out(mask: &[u8], u: &[u8], message: &mut [u8]) -> u64
+    ensures { λ x. ⌜ (x, now (message .exit)) ≡ takingAnswer (now (mask .entry)) (now (u .entry)) (now (message .entry)) ⌝ }
+{
+    if u.len() / 8 < mask.len() {
+        return 0xffff_ffff_ffff_ffff;
+    }
+    if message.len() / 8 < mask.len() {
+        return 0xffff_ffff_ffff_ffff;
+    }
+    placing::take_out(mask, u, message) as u64
 }
 
 // The peak comes back; numbers hold the refusal or 0, then the clipped count, the refusal's index or 0.

@@ -27,6 +27,22 @@ extern "C" {
     fn probe_unpack(bytes: *const u8, bytes_len: usize, bits: *mut u8, bits_len: usize) -> u64;
     fn probe_mask_bit(mask: *const u8, len: usize, index: usize) -> u64;
     fn probe_ones(mask: *const u8, len: usize) -> u64;
+    fn probe_place(
+        mask: *const u8,
+        mask_len: usize,
+        message: *const u8,
+        message_len: usize,
+        u: *mut u8,
+        u_len: usize,
+    ) -> u64;
+    fn probe_take_out(
+        mask: *const u8,
+        mask_len: usize,
+        u: *const u8,
+        u_len: usize,
+        message: *mut u8,
+        message_len: usize,
+    ) -> u64;
 }
 
 // SAFETY of every call here and in the modules above: as `call` asks. Each pointer goes with the
@@ -58,4 +74,35 @@ pub fn mask_bit(mask: &[u8], index: usize) -> u64 {
 /// The number of ones in a mask of at most 65,536 bytes; the largest number for a longer one.
 pub fn ones(mask: &[u8]) -> u64 {
     unsafe { probe_ones(mask.as_ptr(), mask.len()) }
+}
+
+/// Places the bits at the start of an array by a mask, packed. Answers the number of looks at a bit
+/// of the mask; the largest number where the mask is longer than that of the longest code, the array
+/// is shorter than the code or has other bytes than 0 and 1, or there is too little room.
+pub fn place(mask: &[u8], message: &[u8], u: &mut [u8]) -> u64 {
+    unsafe {
+        probe_place(
+            mask.as_ptr(),
+            mask.len(),
+            message.as_ptr(),
+            message.len(),
+            u.as_mut_ptr(),
+            u.len(),
+        )
+    }
+}
+
+/// Takes a message out of bits by a mask. Answers the number of looks at a bit of the mask; the
+/// largest number where there are too few bits or too little room.
+pub fn take_out(mask: &[u8], u: &[u8], message: &mut [u8]) -> u64 {
+    unsafe {
+        probe_take_out(
+            mask.as_ptr(),
+            mask.len(),
+            u.as_ptr(),
+            u.len(),
+            message.as_mut_ptr(),
+            message.len(),
+        )
+    }
 }

@@ -39,7 +39,7 @@ loop-holds c =
 register-step-requires : tie.Need-register-step-requires Inv-loop μ-loop
 register-step-requires c κs =
     let s = c .before .before .before .before .before in
-    (s .pre .some, s .pre .most, rw (c .before .before .before .feedback .ensures) (mod-lt (s .args .poly) (pow-pos (s .args .r))))
+    (s .pre .some, s .pre .most, rw (c .before .before .before .feedback .ensures) (mod-lt (s .args .poly) (pow-pos (s .args .r))), c .before .before .loop .inv .1)
 
 loop-again : tie.Need-loop-again Inv-loop μ-loop
 loop-again c =

@@ -5,18 +5,18 @@ use Prim.Native.Nat.{ℕ, _+_, _*_}
 use native.Mathlib.Omega.{arith}
 use borrow.Author.Needs.{needs}
 use denote.Ref.{now}
-use lib.ListN.{length, take, drop}
-use lib.Seq.{length-take-le, take-at}
+use lib.ListN.{length, take, drop, length-append, length-drop}
+use lib.Seq.{length-take-le}
 use Rattle.laws.specs.Contracts.{splice}
 use Rattle.laws.proofs.Segment.{splice-whole}
 use Rattle.arrays.proofs.Sizes.{mask-fits}
 use Rattle.bits.specs.Claims.{Bits}
 use Rattle.bits.specs.Packing.{packed, unpacked}
-use Rattle.bits.proofs.Lists.{bits-unpacked}
+use Rattle.bits.proofs.Lists.{bits-append, bits-drop, bits-unpacked}
 use Rattle.bits.proofs.Packing.{length-packed}
 use Rattle.code.specs.Code.{informationCount}
 use Rattle.placing.specs.Place.{placed}
-use Rattle.placing.proofs.Placing.{length-placed}
+use Rattle.placing.proofs.Placing.{length-placed, placed-append}
 use Rattle.encoder.specs.Encode.{messageOf}
 use Rattle.encoder.proofs.Message.{bits-message}
 use Rattle.encoder.proofs.place_message.Statement.{statement}
@@ -53,19 +53,27 @@ module _ (c : tie.After-message-of) where
   message-length : length message ≡ size
   message-length = c .message-of .kept .1 .1 .0 ∙ part-length (c .before)
 
-  part-is : take size (message ++ drop size (now (s .args .room))) ≡ message
-  part-is = take-at message (drop size (now (s .args .room))) size message-length
+  message-is : message ≡ messageOf (s .args .code) (unpacked (now (s .args .payload)) (s .args .code .k))
+  message-is = c .message-of .ensures
 
-  message-is : take size (message ++ drop size (now (s .args .room))) ≡ messageOf (s .args .code) (unpacked (now (s .args .payload)) (s .args .code .k))
-  message-is = part-is ∙ c .message-of .ensures
+  -- what follows it
+  abbrev rest : List ℕ
+  rest = drop size (now (s .args .room))
+
+  room-length : length (message ++ rest) ≡ length (now (s .args .room))
+  room-length =
+      length-append message rest
+      ∙ omega (arith, message-length, length-drop size (now (s .args .room)), s .pre .coded .K-most, s .pre .room-size)
 
 place-requires : tie.Need-place-requires
 place-requires c κs =
     let m = c .before .before .before .before in
-    let p = s m .pre in (
+    let p = s m .pre in
+    let bits : Bits (message m) = subst Bits (sym (message-is m)) (bits-message (s m .args .code) _ (bits-unpacked _ _)) in (
       record {
         short = mask-fits (p .coded .n-most) (p .coded .mask-size);
-        bits = subst Bits (sym (message-is m)) (bits-message (s m .args .code) _ (bits-unpacked _ _));
+        room = omega (arith, room-length m, p .room-size, p .coded .mask-size);
+        bits = bits-append (message m) (rest m) bits (bits-drop (size m) (now (s m .args .room)) (p .room-bits));
       },
       omega (arith, p .well-formed .output-size, p .coded .mask-size),
     )
@@ -77,8 +85,10 @@ returns c =
     let mask = now (s m .args .mask) in
     let u : List ℕ = placed mask (messageOf (s m .args .code) (unpacked (now (s m .args .payload)) (s m .args .code .k))) (8 * length mask) in
     let long : length (packed u) ≡ length (now (s m .args .output)) = length-packed u ∙ omega (arith, length-placed mask (messageOf (s m .args .code) (unpacked (now (s m .args .payload)) (s m .args .code .k))) (8 * length mask), p .well-formed .output-size, p .coded .mask-size) in
-    c .before .before .place .ensures
-    ∙ ap (λ (x : List ℕ). splice (now (s m .args .output)) 0 (packed (placed mask x (8 * length mask)))) (message-is m)
+    let bits : placed mask (message m ++ rest m) (8 * length mask) ≡ u =
+    placed-append mask (message m) (rest m) (8 * length mask) (omega (arith, message-length m, p .coded .K-is)) ∙ ap (λ (x : List ℕ). placed mask x (8 * length mask)) (message-is m) in
+    c .before .before .place .ensures .1
+    ∙ ap (λ (x : List ℕ). splice (now (s m .args .output)) 0 (packed x)) bits
     ∙ splice-whole (now (s m .args .output)) (packed u) long
     ∙ ap (λ (k : ℕ). packed (placed mask (messageOf (s m .args .code) (unpacked (now (s m .args .payload)) (s m .args .code .k))) k)) (p .coded .mask-size)
 
@@ -91,8 +101,6 @@ place-message-spec =
     (λ c. search needs)
     (λ c. sym (part-length c))
     message-of-requires
-    (λ c. search needs)
-    (λ c. let m = c .before .before .before in sym (ap length (part-is m) ∙ message-length m))
     place-requires
     (λ c. search needs)
     (λ c. search needs)

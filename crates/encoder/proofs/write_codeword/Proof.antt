@@ -6,11 +6,13 @@ use native.Mathlib.Omega.{arith}
 use borrow.Author.Needs.{needs}
 use denote.Ref.{now}
 use lib.ListN.{length}
+use Rattle.arrays.specs.Claims.{longest}
 use Rattle.arrays.proofs.Sizes.{fits}
 use Rattle.bits.specs.Packing.{packed, unpacked}
 use Rattle.bits.proofs.Lists.{bits-unpacked}
 use Rattle.bits.proofs.Packing.{unpacked-packed}
 use Rattle.code.specs.Code.{codeLength}
+use Rattle.crc.proofs.Polynomial.{bits-zeros}
 use Rattle.transform.specs.Transform.{transformed}
 use Rattle.placing.proofs.Placing.{length-placed, bits-placed}
 use Rattle.encoder.specs.Encode.{codeword}
@@ -22,7 +24,7 @@ use Rattle.encoder.proofs.write_codeword.Tie as tie
 place-message-requires : tie.Need-place-message-requires
 place-message-requires c κs =
     let p = c .before .before .before .before .before .pre in
-    record { coded = p .0; well-formed = p .1; room-size = fits (p .0 .n-most) }
+    record { coded = p .0; well-formed = p .1; room-size = fits (p .0 .n-most); room-bits = bits-zeros longest }
 
 -- after the message is placed
 module _ (c : tie.After-place-message) where

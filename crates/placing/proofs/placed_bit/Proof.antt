@@ -1,11 +1,10 @@
 -- `placing::placed_bit` meets its contract.
-use mathlib.Core.Path.{_≡_, ap, _∙_}
+use mathlib.Core.Path.{_≡_, _∙_}
 use mathlib.Core.Bool.{cond}
 use Prim.Native.Nat.{ℕ, zero, suc, _*_, _<_}
 use native.Mathlib.Omega.{arith}
 use borrow.Author.Needs.{needs}
 use denote.Ref.{now}
-use lib.Bits.{bitAnd}
 use lib.Dec.{eqb}
 use lib.ListN.{getD}
 use Rattle.bits.proofs.Bitwise.{and-bits}
@@ -20,10 +19,9 @@ chosen (suc (suc b)) x l = absurd (omega arith)
 
 returns : tie.Need-returns
 returns c =
-    let s = c .before .before in
+    let s = c .before in
     let x = getD (now (s .args .message)) (s .args .c) 0 in
-    ap (bitAnd (s .args .information)) (c .bit-or-zero .ensures)
-    ∙ and-bits (s .args .information) x (s .pre .0) (s .pre .1 .at (s .args .c)) ∙ chosen (s .args .information) x (s .pre .0)
+    and-bits (s .args .information) x (s .pre .0) (s .pre .2 .at (s .args .c)) ∙ chosen (s .args .information) x (s .pre .0)
 
 pub placed-bit-spec : {M : Type 1} → statement M
-placed-bit-spec = tie.close (tie.spec (λ c κs. search needs) returns)
+placed-bit-spec = tie.close (tie.spec (λ c. search needs) returns)

@@ -21,7 +21,7 @@ module _ (c : tie.After-take-out) where
   size = informationCount (s .args .code)
 
   taken-is : take size (c .take-out .last .1 .1 .0) ≡ messageIn (now (s .args .mask)) (s .args .code) (take (codeLength (s .args .code)) (now (s .args .bits)))
-  taken-is = message-at (s .pre .0) (now (s .args .bits)) (now (s .args .message)) _ (s .pre .2) (c .take-out .ensures)
+  taken-is = message-at (s .pre .0) (now (s .args .bits)) (now (s .args .message)) _ (s .pre .2) (c .take-out .ensures .1)
 
   taken-length : length (take size (c .take-out .last .1 .1 .0)) ≡ size
   taken-length = ap length taken-is ∙ length-message (s .pre .0) _
