@@ -38,7 +38,7 @@ pub fn ones(mask: &[u8]) -> usize
 }
 
 // Bit i of a list of bits, or 0 past its end.
-pub fn bit_or_zero(bits: &[u8], i: usize) -> u8
+fn bit_or_zero(bits: &[u8], i: usize) -> u8
     ensures { λ r. ⌜ r ≡ getD (now (bits .entry)) i 0 ⌝ }
 {
     if i < bits.len() { bits[i] } else { 0 }

@@ -44,17 +44,20 @@ shr-more x i h =
 masked : (r x : ℕ) → r ≤ 16 → bitAnd x (1 * 2 ^ r % 2 ^ 32 - 1) ≡ x % 2 ^ r
 masked r x h = ap (λ (m : ℕ). bitAnd x (m - 1)) (one-shl r 32 (omega arith)) ∙ and-mask x r
 
--- the highest coefficient, which nothing stands above, with the next bit added
-pub leaving : (r register next : ℕ) → 1 ≤ r → register < 2 ^ r → bitXor (register / 2 ^ (r - 1)) (next % 2) ≡ (bit register (r - 1) + next) % 2
-leaving zero register next s h = absurd (omega arith)
-leaving (suc w) register next s h =
+-- nothing stands above the highest coefficient
+pub highest-lt : (r register : ℕ) → 1 ≤ r → register < 2 ^ r → register / 2 ^ (r - 1) < 2
+highest-lt zero register s h = absurd (omega arith)
+highest-lt (suc w) register s h =
     let e : suc w - 1 ≡ w = omega arith in
-    let top : register / 2 ^ w < 2 = div-lt-iff-lt-mul (pow-pos w) .1 (omega (arith, two-pow-succ w)) in
-    ap (λ (i : ℕ). bitXor (register / 2 ^ i) (next % 2)) e
-    ∙ xor-bits (register / 2 ^ w) (next % 2) top (mod-lt next (zero-lt-suc 1))
-    ∙ add-mod-mod (register / 2 ^ w) next 2
+    rw e (div-lt-iff-lt-mul (pow-pos w) .1 (omega (arith, two-pow-succ w)))
+
+-- it, with the next bit added
+pub leaving : (r register next : ℕ) → 1 ≤ r → register < 2 ^ r → bitXor (register / 2 ^ (r - 1)) (next % 2) ≡ (bit register (r - 1) + next) % 2
+leaving r register next s h =
+    let top = highest-lt r register s h in
+    xor-bits (register / 2 ^ (r - 1)) (next % 2) top (mod-lt next (zero-lt-suc 1))
+    ∙ add-mod-mod (register / 2 ^ (r - 1)) next 2
     ∙ ap (λ (x : ℕ). (x + next) % 2) (sym (mod-eq-of-lt top))
-    ∙ ap (λ (i : ℕ). (bit register i + next) % 2) (sym e)
 
 -- a coefficient times a word is no longer than the word
 pub scaled-lt : (a x n : ℕ) → a < 2 → x < n → a * x < n

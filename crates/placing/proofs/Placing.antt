@@ -3,7 +3,7 @@ use mathlib.Core.Path.{_≡_, refl, sym, ap, ap₂, _∙_, subst}
 use mathlib.Core.Bool.{cond}
 use mathlib.Core.Logic.{⊎-elim}
 use mathlib.Core.List.{List, [], _∷_, _++_, append-nil}
-use Prim.Native.Nat.{ℕ, zero, suc, _+_, _*_, _≤_, _<_}
+use Prim.Native.Nat.{ℕ, zero, suc, _+_, _≤_, _<_}
 use native.Mathlib.Nat.{zero-add}
 use native.Mathlib.Omega.{arith}
 use lib.Dec.{eqb}
@@ -17,7 +17,7 @@ use Rattle.laws.proofs.Filling.{splice-snoc}
 use Rattle.bits.specs.Claims.{Bits}
 use Rattle.bits.specs.Mask.{maskBit, onesBelow}
 use Rattle.bits.proofs.Lists.{bits-nil, bits-cons, bits-append, bits-table}
-use Rattle.bits.proofs.Mask.{ones-le, mask-cases}
+use Rattle.bits.proofs.Mask.{mask-cases}
 use Rattle.placing.specs.Place.{taken, placed, placedBit}
 
 -- the counts of ones along the mask of document 01's D: before each index, and at the end
@@ -39,26 +39,6 @@ pub bits-placed : (mask message : List ℕ) (n : ℕ) → Bits message → Bits 
 unfolding placed
 bits-placed mask message n p =
     bits-table _ n (λ i. cond-ind (λ (x : ℕ). x < 2) (eqb (maskBit mask i) 1) _ 0 (λ _. p .at _) (λ _. omega arith))
-
--- what follows the message is not placed: at one index
-placed-bit-append : (mask message rest : List ℕ) (n : ℕ) → onesBelow mask n + maskBit mask n ≤ length message → placedBit mask (message ++ rest) n ≡ placedBit mask message n
-placed-bit-append mask message rest n l =
-    ⊎-elim
-    (λ e. ap (by (message ++ rest)) e ∙ sym (ap (by message) e))
-    (λ e. ap (by (message ++ rest)) e ∙ List·getD-append message rest 0 (onesBelow mask n) (omega arith) ∙ sym (ap (by message) e))
-    (mask-cases mask n)
-  where
-    by : List ℕ → ℕ → ℕ
-    by xs b = cond (eqb b 1) (getD xs (onesBelow mask n) 0) 0
-
--- and at all
-pub placed-append : (mask message rest : List ℕ) (n : ℕ) → onesBelow mask n ≤ length message → placed mask (message ++ rest) n ≡ placed mask message n
-unfolding placed onesBelow table
-placed-append mask message rest zero l = refl
-placed-append mask message rest (suc n) l =
-    table-snoc (placedBit mask (message ++ rest)) n
-    ∙ ap₂ (λ (xs : List ℕ) (x : ℕ). xs ++ (x ∷ [])) (placed-append mask message rest n (omega arith)) (placed-bit-append mask message rest n l)
-    ∙ sym (table-snoc (placedBit mask message) n)
 
 -- ---- taken bits
 
@@ -129,9 +109,31 @@ pub take-start : (mask u w : List ℕ) → w ≡ splice w 0 (taken mask u 0)
 unfolding taken splice
 take-start mask u w = refl
 
+-- ---- what is neither placed nor taken
+
 -- bits past the last index are not taken
 pub taken-take : (mask u : List ℕ) (m n : ℕ) → n ≤ m → taken mask (take m u) n ≡ taken mask u n
 unfolding taken
 taken-take mask u m zero l = refl
 taken-take mask u m (suc n) l =
     ap₂ (λ (xs : List ℕ) (x : ℕ). xs ++ cond (eqb (maskBit mask n) 1) (x ∷ []) []) (taken-take mask u m n (omega arith)) (getD-take m u n 0 (omega arith))
+
+-- what follows the message is not placed: at one index
+placed-bit-append : (mask message rest : List ℕ) (n : ℕ) → onesBelow mask n + maskBit mask n ≤ length message → placedBit mask (message ++ rest) n ≡ placedBit mask message n
+placed-bit-append mask message rest n l =
+    ⊎-elim
+    (λ e. ap (by (message ++ rest)) e ∙ sym (ap (by message) e))
+    (λ e. ap (by (message ++ rest)) e ∙ List·getD-append message rest 0 (onesBelow mask n) (omega arith) ∙ sym (ap (by message) e))
+    (mask-cases mask n)
+  where
+    by : List ℕ → ℕ → ℕ
+    by xs b = cond (eqb b 1) (getD xs (onesBelow mask n) 0) 0
+
+-- and at every index
+pub placed-append : (mask message rest : List ℕ) (n : ℕ) → onesBelow mask n ≤ length message → placed mask (message ++ rest) n ≡ placed mask message n
+unfolding placed onesBelow table
+placed-append mask message rest zero l = refl
+placed-append mask message rest (suc n) l =
+    table-snoc (placedBit mask (message ++ rest)) n
+    ∙ ap₂ (λ (xs : List ℕ) (x : ℕ). xs ++ (x ∷ [])) (placed-append mask message rest n (omega arith)) (placed-bit-append mask message rest n l)
+    ∙ sym (table-snoc (placedBit mask message) n)

@@ -104,7 +104,7 @@ pub extern "C" fn probe_ones(mask: &[u8]) -> u64
     bits::ones(mask) as u64
 }
 
-// The looks come back.
+// The number of looks comes back.
 #[no_mangle]
 pub extern "C" fn probe_place(mask: &[u8], message: &[u8], u: &mut [u8]) -> u64
     ensures { λ x. ⌜ (x, now (u .exit)) ≡ placingAnswer (now (mask .entry)) (now (message .entry)) (now (u .entry)) ⌝ }
@@ -124,7 +124,7 @@ pub extern "C" fn probe_place(mask: &[u8], message: &[u8], u: &mut [u8]) -> u64
     placing::place(mask, message, u) as u64
 }
 
-// The looks come back.
+// The number of looks comes back.
 #[no_mangle]
 pub extern "C" fn probe_take_out(mask: &[u8], u: &[u8], message: &mut [u8]) -> u64
     ensures { λ x. ⌜ (x, now (message .exit)) ≡ takingAnswer (now (mask .entry)) (now (u .entry)) (now (message .entry)) ⌝ }

@@ -1,5 +1,5 @@
 -- `encoder::place_message` meets its contract.
-use mathlib.Core.Path.{_≡_, sym, ap, _∙_, subst}
+use mathlib.Core.Path.{_≡_, sym, ap, ap₂, _∙_, subst}
 use mathlib.Core.List.{List, _++_}
 use Prim.Native.Nat.{ℕ, _+_, _*_}
 use native.Mathlib.Omega.{arith}
@@ -14,10 +14,11 @@ use Rattle.bits.specs.Claims.{Bits}
 use Rattle.bits.specs.Packing.{packed, unpacked}
 use Rattle.bits.proofs.Lists.{bits-append, bits-drop, bits-unpacked}
 use Rattle.bits.proofs.Packing.{length-packed}
-use Rattle.code.specs.Code.{informationCount}
+use Rattle.code.specs.Code.{codeLength, informationCount}
 use Rattle.placing.specs.Place.{placed}
 use Rattle.placing.proofs.Placing.{length-placed, placed-append}
 use Rattle.encoder.specs.Encode.{messageOf}
+use Rattle.encoder.specs.Contracts.{placedMessage}
 use Rattle.encoder.proofs.Message.{bits-message}
 use Rattle.encoder.proofs.place_message.Statement.{statement}
 use Rattle.encoder.proofs.place_message.Tie as tie
@@ -83,14 +84,14 @@ returns c =
     let m = c .before .before .before .before .before .before .before in
     let p = s m .pre in
     let mask = now (s m .args .mask) in
-    let u : List ℕ = placed mask (messageOf (s m .args .code) (unpacked (now (s m .args .payload)) (s m .args .code .k))) (8 * length mask) in
-    let long : length (packed u) ≡ length (now (s m .args .output)) = length-packed u ∙ omega (arith, length-placed mask (messageOf (s m .args .code) (unpacked (now (s m .args .payload)) (s m .args .code .k))) (8 * length mask), p .well-formed .output-size, p .coded .mask-size) in
-    let bits : placed mask (message m ++ rest m) (8 * length mask) ≡ u =
-    placed-append mask (message m) (rest m) (8 * length mask) (omega (arith, message-length m, p .coded .K-is)) ∙ ap (λ (x : List ℕ). placed mask x (8 * length mask)) (message-is m) in
+    let output = now (s m .args .output) in
+    let u : List ℕ = placedMessage mask (s m .args .code) (now (s m .args .payload)) in
+    let size : length u ≡ codeLength (s m .args .code) = length-placed mask _ _ in
+    let placed-is : placed mask (message m ++ rest m) (8 * length mask) ≡ u =
+    placed-append mask (message m) (rest m) (8 * length mask) (omega (arith, message-length m, p .coded .K-is)) ∙ ap₂ (placed mask) (message-is m) (p .coded .mask-size) in
     c .before .before .place .ensures .1
-    ∙ ap (λ (x : List ℕ). splice (now (s m .args .output)) 0 (packed x)) bits
-    ∙ splice-whole (now (s m .args .output)) (packed u) long
-    ∙ ap (λ (k : ℕ). packed (placed mask (messageOf (s m .args .code) (unpacked (now (s m .args .payload)) (s m .args .code .k))) k)) (p .coded .mask-size)
+    ∙ ap (λ (x : List ℕ). splice output 0 (packed x)) placed-is
+    ∙ splice-whole output (packed u) (length-packed u ∙ omega (arith, size, p .well-formed .output-size))
 
 pub place-message-spec : {M : Type 1} → statement M
 place-message-spec =

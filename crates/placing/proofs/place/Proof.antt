@@ -1,17 +1,17 @@
--- `placing::place` meets its contract. The invariant: the first m bytes are placed, and the walk has come to the next one.
-use mathlib.Core.Path.{_≡_, refl, sym, ap, _∙_, subst}
+-- `placing::place` meets its contract. The invariant: the first m bytes are placed, and their bits were looked at.
+use mathlib.Core.Path.{_≡_, refl, ap, _∙_}
 use mathlib.Core.List.{List}
-use Prim.Native.Nat.{ℕ, _+_, _-_, _*_, _<_}
+use Prim.Native.Nat.{ℕ, _-_, _*_}
 use native.Mathlib.Omega.{arith}
 use borrow.Author.Needs.{needs}
 use denote.Ref.{now}
-use lib.ListN.{length, set}
+use lib.ListN.{length}
 use Rattle.laws.specs.Table.{table}
 use Rattle.laws.specs.Contracts.{splice}
 use Rattle.laws.proofs.Filling.{Filling, filling-none, filling-more, filling-done}
+use Rattle.bits.specs.Mask.{onesBelow}
 use Rattle.bits.specs.Packing.{bytesFor, packedByte, packed}
 use Rattle.placing.specs.Place.{placed}
-use Rattle.placing.specs.Contracts.{Along}
 use Rattle.placing.proofs.Placing.{length-placed}
 use Rattle.placing.proofs.place.Statement.{statement}
 use Rattle.placing.proofs.place.Tie as tie
@@ -21,37 +21,31 @@ abbrev bits : List ℕ → List ℕ → List ℕ
 bits mask message = placed mask message (8 * length mask)
 
 abbrev Inv-loop : tie.InvT-loop
-Inv-loop mask message u₀ walk₀ m₀ u walk m =
-    Filling (packedByte (bits mask message)) 0 (length mask) u₀ u m × Along mask (8 * m) walk
+Inv-loop mask message u₀ looks₀ ones₀ m₀ u looks ones m =
+    Filling (packedByte (bits mask message)) 0 (length mask) u₀ u m × (looks ≡ 8 * m) × (ones ≡ onesBelow mask (8 * m))
 
 abbrev μ-loop : tie.MeasureT-loop
-μ-loop mask message u₀ walk₀ m₀ u walk m = length mask - m
+μ-loop mask message u₀ looks₀ ones₀ m₀ u looks ones m = length mask - m
 
-place-byte-requires : tie.Need-place-byte-requires Inv-loop μ-loop
-place-byte-requires c κs =
-    let l = c .before .before .loop in
-    let s = c .before .before .before .before .before .before .before in
-    (s .pre .0, omega arith, omega (arith, l .inv .0 .same, s .pre .1), l .inv .1)
-
--- one byte more
-next : (mask message u₀ : List ℕ) {u u′ : List ℕ} {m : ℕ} → Filling (packedByte (bits mask message)) 0 (length mask) u₀ u m → m < length mask → u′ ≡ set u m (packedByte (bits mask message) m) → Filling (packedByte (bits mask message)) 0 (length mask) u₀ u′ (m + 1)
-next mask message u₀ {m = m} inv l e =
-    subst (λ (x : List ℕ). Filling (packedByte (bits mask message)) 0 (length mask) u₀ x (m + 1)) (sym e) (filling-more inv m _ l (omega arith) refl)
+loop-holds : tie.Need-loop-holds Inv-loop μ-loop
+unfolding onesBelow
+loop-holds c = (filling-none, refl, refl)
 
 loop-again : tie.Need-loop-again Inv-loop μ-loop
 loop-again c =
-    let k = c .before .before in
-    (next _ _ _ (k .before .before .before .loop .inv .0) (omega arith) (k .place-byte .ensures .1), k .place-byte .ensures .0)
+    let l = c .before .before .before .before .loop in
+    let e = c .placed-byte .ensures in
+    (filling-more (l .inv .0) (l .m) _ (omega arith) (omega arith) (e .0), e .1, e .2)
 
 returns : tie.Need-returns Inv-loop μ-loop
 unfolding packed
 returns c =
-    let s = c .before .before .before .before .before .before in
+    let s = c .before .before .before .before .before in
     let l = c .before .loop in
     let mask = now (s .args .mask) in
     let message = now (s .args .message) in
     let size : length mask ≡ bytesFor (length (bits mask message)) = omega (arith, length-placed mask message (8 * length mask)) in (
-      omega (arith, l .inv .0 .reached, l .inv .1 .looks),
+      omega (arith, l .inv .0 .reached, l .inv .1),
       filling-done (l .inv .0) (omega arith) (omega (arith, s .pre .1))
           ∙ ap (λ (k : ℕ). splice (now (s .args .u)) 0 (table (packedByte (bits mask message)) k)) size,
     )
@@ -62,9 +56,9 @@ place-spec =
     (tie.spec
     Inv-loop
     μ-loop
-    (λ c κs. search needs)
-    (λ c. (filling-none, c .begin .ensures _))
-    place-byte-requires
+    loop-holds
+    (λ c κs. let l = c .before .before .before in (l .before .before .before .before .pre .0, omega arith, l .loop .inv .1, l .loop .inv .2))
+    (λ c. let l = c .before .before .before .before in omega (arith, l .loop .inv .0 .same, l .before .before .before .before .pre .1))
     (λ c. search needs)
     (λ c. search needs)
     loop-again
