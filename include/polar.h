@@ -2,13 +2,14 @@
  * memset and nothing else.
  *
  * Each function takes buffers as a pointer and a length in bytes, and keeps no pointer. It only reads its inputs, which may overlap each
- * other; input and output must not overlap, and nothing else may write any of them during the call. A pointer may be NULL where its length
- * is 0. There is no global state and no allocation: all functions are reentrant and may be called from several threads at once. A call
- * takes at most 8 KiB of stack for encode, 52 KiB for resume, 72 KiB for the decoders, and 92 KiB for those by sets, whatever the code.
+ * other; input and output must not overlap, and nothing else may write any of them during the call. The state of a hearing is an output
+ * where it is no const. A pointer may be NULL where its length is 0. There is no global state and no allocation: all functions are
+ * reentrant and may be called from several threads at once. A call takes at most 8 KiB of stack for encode, 52 KiB for resume, 72 KiB for
+ * the decoders, 92 KiB for those by sets, and 72 KiB for hearings, whatever the code.
  *
- * Each answer is one number: bits 0-7 hold the refusal, or 0 for acceptance; bits 8-31 the trial, refusal 16's number of trials, or a
- * refusal's first index; bits 32-63 the steps. What an answer lacks is 0. A refusal writes nothing. Where several refusals apply, the
- * answer is the first in the order in which they stand here.
+ * Each answer is one number: bits 0-7 hold the refusal, or 0 for acceptance; bits 8-31 the trial, refusal 16's number of trials, the count
+ * of a hearing, or a refusal's first index; bits 32-63 the steps. What an answer lacks is 0. A refusal writes nothing. Where several
+ * refusals apply, the answer is the first in the order in which they stand here.
  *
  * A description is a record of kind 1 or of kind 4. Kind 1: length (2 bytes), kind (2 bytes), n, r, polynomial (2 bytes), mask (N/8
  * bytes). Kind 4 has a start value of the check (2 bytes) between polynomial and mask; kind 1 means start 0. N = 2^n is at most 4,096;
@@ -44,7 +45,10 @@
 #define POLAR_LONGEST_CODEWORD 512    /* N/8 */
 #define POLAR_LONGEST_PAYLOAD 512     /* ceil(k/8), where k is at most N - 1 */
 
-/* The parts of an answer: the refusal, or 0; the trial, the number of trials or the index; the steps. */
+/* The bytes of a hearing's state, for every code. */
+#define POLAR_HEARING_SIZE 4619
+
+/* The parts of an answer: the refusal, or 0; the trial, the number of trials, the count or the index; the steps. */
 #define POLAR_REFUSAL(answer) ((unsigned)((answer) & 0xff))
 #define POLAR_VALUE(answer) ((uint32_t)((answer) >> 8 & 0xffffff))
 #define POLAR_STEPS(answer) ((uint32_t)((answer) >> 32))
@@ -115,6 +119,37 @@ uint64_t polar_decode_sets_restarted(const uint8_t *description, size_t descript
                                      const uint8_t *channel, size_t channel_len,
                                      uint32_t most_flips, uint32_t trial_limit,
                                      uint8_t *payload, size_t payload_len);
+
+/* A hearing adds up what was heard of a frame that is sent more than once, so that repeats which fail one by one may decode together. Its
+ * state is a buffer of exactly POLAR_HEARING_SIZE bytes that the caller lends to each call: the description of a code, N combined values
+ * and the count of vectors in them. Its bytes are this library's own; they may be moved and stored, and are good for this version of the
+ * library. While open, add or clear runs on a state, no other call may use it. Refusal 40 comes before all others:
+ *   40 state not POLAR_HEARING_SIZE bytes, or, but for open, one that no list of calls leaves.
+ * It is no checksum: a state with a changed value or count may be one that other calls leave.
+ *
+ * open makes a state for a code, whatever the buffer holds: zero values and count 0. Acceptance is the number 0. Refusals: 40, then those
+ * of the description.
+ *
+ * add adds a vector of N channel values as above, value by value, and clips each sum to -31..31, so that the order of adds matters.
+ * Acceptance carries the count of vectors added since open or the last clear, this one included. Refusals: 40, 12, 13, then
+ *   27 the count is 255.
+ *
+ * clear returns to zero values and count 0. Acceptance is the number 0. Refusal: 40.
+ *
+ * decode_full and decode_restarted decode the combined values as polar_decode_full and polar_decode_restarted do, and only read the state:
+ * further vectors may be added after them. With count 0 they decode N zero values, which are silence, as above. Refusals: 40, 14, 15, 16.
+ */
+uint64_t polar_hearing_open(const uint8_t *description, size_t description_len,
+                            uint8_t *state, size_t state_len);
+uint64_t polar_hearing_add(uint8_t *state, size_t state_len,
+                           const uint8_t *channel, size_t channel_len);
+uint64_t polar_hearing_clear(uint8_t *state, size_t state_len);
+uint64_t polar_hearing_decode_full(const uint8_t *state, size_t state_len,
+                                   uint32_t trial_limit,
+                                   uint8_t *payload, size_t payload_len);
+uint64_t polar_hearing_decode_restarted(const uint8_t *state, size_t state_len,
+                                        uint32_t trial_limit,
+                                        uint8_t *payload, size_t payload_len);
 
 #ifdef __cplusplus
 }

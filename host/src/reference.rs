@@ -7,6 +7,7 @@ pub mod description;
 pub mod encode;
 pub mod flip;
 pub mod frame;
+pub mod hearing;
 pub mod number;
 pub mod packing;
 pub mod pass;

@@ -2,13 +2,17 @@
 //!
 //! - `flipping`: what single flips gain
 //! - `papers`: what flip sets gain, and what restarting saves beside documents 000 and 001
+//! - `combining`: what adding up the hearings of a frame gains
 
 mod codes;
+pub mod combining;
 mod construction;
+mod curve;
 mod decoder;
 mod evolution;
 pub mod flipping;
 mod link;
+mod markdown;
 mod noise;
 mod output;
 pub mod papers;
@@ -16,9 +20,10 @@ mod table;
 mod tally;
 
 pub use codes::Codes;
+pub use curve::{BLOCK, ENOUGH_ERRORS, LEAST_RATE};
 pub use decoder::{Flips, Restart, RESTARTS};
-pub use link::ratio;
-pub use table::{csv, read_csv, Named, Row};
+pub use link::{ratio, USUAL};
+pub use table::{csv, read_csv, Columns, Named, Row};
 pub use tally::Tally;
 
 /// The n of document 000, and its check, z^16 + z^15 + z^2 + 1.

@@ -7,7 +7,7 @@ use host::testing::belief::{Cited, Crates};
 use host::testing::files::repository;
 
 /// The public operations, each with its crate.
-const OPERATIONS: [(&str, &str); 10] = [
+const OPERATIONS: [(&str, &str); 15] = [
     ("code", "read_description"),
     ("encoder", "encode"),
     ("resume", "resume"),
@@ -17,11 +17,16 @@ const OPERATIONS: [(&str, &str); 10] = [
     ("setflip", "decode_sets_full"),
     ("setflip", "decode_sets_half"),
     ("setflip", "decode_sets_restarted"),
+    ("state", "open"),
+    ("state", "add"),
+    ("state", "clear"),
+    ("state", "decode_full"),
+    ("state", "decode_restarted"),
     ("quantiser", "quantise"),
 ];
 
 /// What `receive` prints and how it runs, and the statements of the main theorems.
-const DEFINITIONS: [(&str, &str); 14] = [
+const DEFINITIONS: [(&str, &str); 16] = [
     ("records", "printed"),
     ("records", "Run"),
     ("demands", "Demand3"),
@@ -36,10 +41,12 @@ const DEFINITIONS: [(&str, &str); 14] = [
     ("half", "ThreeDecode"),
     ("half", "ThreeDecodeSets"),
     ("half", "StaysAccepted"),
+    ("repeats", "HeldAfter"),
+    ("repeats", "BufferAfter"),
 ];
 
 /// One sitting.
-const MOST_LINES: usize = 720;
+const MOST_LINES: usize = 850;
 
 fn crates() -> Crates {
     Crates::read(&repository().join("crates")).expect("the crates")

@@ -7,7 +7,7 @@ use std::process::{Command, Stdio};
 
 use host::reference::description::LONGEST_DESCRIPTION;
 use host::reference::packing::packed_length;
-use host::reference::sizes::{LONGEST, LONGEST_BYTES};
+use host::reference::sizes::{HEARING_SIZE, LONGEST, LONGEST_BYTES};
 use host::testing::files::{repository, text};
 
 /// A language as gcc is told of it: its name, its standard.
@@ -105,6 +105,29 @@ w = 1, T = 6: refusal 14, value 0, steps 0, ee
 w = 2, T = 513: refusal 14, value 0, steps 0, ee
 ";
 
+/// What a hearing gives, decoded in full; before the clear it has V, then V and right signs.
+const HEARD: &str = "\
+open: refusal 0, value 0, steps 0,
+nothing heard, T = 1: refusal 0, value 1, steps 24, 00
+add V: refusal 0, value 1, steps 0,
+V heard, T = 1: refusal 16, value 1, steps 24, ee
+V heard, T = 2: refusal 0, value 2, steps 48, 00
+V heard, T = 6: refusal 14, value 0, steps 0, ee
+add 32: refusal 13, value 7, steps 0,
+add seven values: refusal 12, value 0, steps 0,
+add right signs: refusal 0, value 2, steps 0,
+both heard, T = 1: refusal 0, value 1, steps 24, a0
+clear: refusal 0, value 0, steps 0,
+cleared, T = 1: refusal 0, value 1, steps 24, 00
+add 255 times: refusal 0, value 255, steps 0,
+add once more: refusal 27, value 0, steps 0,
+mask 80: refusal 8, value 0, steps 0,
+full, T = 1: refusal 0, value 1, steps 24, a0
+a byte less: refusal 40, value 0, steps 0,
+no bytes: refusal 40, value 0, steps 0,
+damaged: refusal 40, value 0, steps 0, ee
+";
+
 /// What is printed with fewer steps.
 fn fewer(text: &str, steps: &[(&str, &str)]) -> String {
     let replace = |text: String, (full, fewer): &(&str, &str)| text.replace(full, fewer);
@@ -136,6 +159,8 @@ fn rows_of_the_paper() {
                 ("168,", "89,"),
             ],
         ),
+        HEARD,
+        &fewer(HEARD, &[("48,", "32,")]),
     ]
     .concat();
     for language in languages() {
@@ -149,13 +174,20 @@ fn the_example() {
 }
 
 #[test]
+fn the_example_of_a_repeat() {
+    assert_eq!(run(C, "examples", "repeat"), text("examples/repeat.out"));
+}
+
+#[test]
 fn sizes_of_the_longest_code() {
     let longest_payload = packed_length(LONGEST - 1);
     let expected = format!(
         "code {LONGEST}, description {LONGEST_DESCRIPTION}, codeword {LONGEST_BYTES}, \
-         payload {longest_payload}\n\
+         payload {longest_payload}, hearing {HEARING_SIZE}\n\
          encode: refusal 0\n\
          resume: refusal 0\n\
+         decode: refusal 0, trial 1, the payload sent\n\
+         hearing: refusals 0, 0, count 1\n\
          decode: refusal 0, trial 1, the payload sent\n"
     );
     for language in languages() {

@@ -1,17 +1,21 @@
 //! The plain codecs that the benchmark compares with, held to the reference.
 
 use host::bench::{others, Codec};
+use host::reference::description::LONGEST_DESCRIPTION;
 use host::reference::encode::encode;
 use host::reference::flip::{decode, Accepted};
-use host::reference::number::{decode_number, encode_number, quantise_numbers, resume_number};
+use host::reference::hearing::state::{add_in, clear_in, decode_in, open_in};
+use host::reference::number::{
+    decode_number, encode_number, hearing_number, quantise_numbers, resume_number,
+};
 use host::reference::quantise::quantise;
 use host::reference::refusal::Refusal;
 use host::reference::restart::Restart;
 use host::reference::resume::resume;
 use host::reference::sets::decode_sets;
-use host::reference::sizes::LAYERS;
+use host::reference::sizes::{HEARING_SIZE, LAYERS};
 use host::testing::call::Call;
-use host::testing::library::{Decoder, SetDecoder};
+use host::testing::library::{Decoder, HearingDecoder, SetDecoder};
 use host::testing::random::Random;
 use host::testing::samples;
 
@@ -27,6 +31,12 @@ const SET_DECODERS: [fn(&Codec) -> SetDecoder; 3] = [
     |codec| codec.decode_sets_full,
     |codec| codec.decode_sets_half,
     |codec| codec.decode_sets_restarted,
+];
+
+/// Those of hearings, full and restarted.
+const HEARING_DECODERS: [fn(&Codec) -> HearingDecoder; 2] = [
+    |codec| codec.hearing_decode_full,
+    |codec| codec.hearing_decode_restarted,
 ];
 
 /// Each operation on these inputs, whether they suit each other or not.
@@ -89,6 +99,56 @@ fn compare(
     }
 }
 
+/// Each call on the state of a hearing likewise; gives the state after an add.
+fn check_hearing(call: &Call, state: &[u8]) -> Vec<u8> {
+    let (d, channel, limit) = (&call.description, &call.channel, call.limit);
+    let restarts = [Restart::Full, Restart::AfterFlip];
+    for (restart, decoder) in restarts.into_iter().zip(HEARING_DECODERS) {
+        let reference = |output: &mut [u8]| decode_in(restart, state, limit, output);
+        compare(call, reference, |codec, output| {
+            decoder(codec)(state, limit, output)
+        });
+    }
+    let open = |state: &mut [u8]| open_in(d, state);
+    let add = |state: &mut [u8]| add_in(state, channel);
+    changed(state, open, |codec, state| (codec.hearing_open)(d, state));
+    changed(state, clear_in, |codec, state| (codec.hearing_clear)(state));
+    changed(state, add, |codec, state| {
+        (codec.hearing_add)(state, channel)
+    })
+}
+
+/// The state after a call of the reference; that after a call of each codec is the same, and so is
+/// the answer.
+fn changed(
+    before: &[u8],
+    reference: impl Fn(&mut [u8]) -> Result<usize, Refusal>,
+    call: impl Fn(&Codec, &mut [u8]) -> u64,
+) -> Vec<u8> {
+    let mut expected = before.to_vec();
+    let number = hearing_number(&reference(&mut expected));
+    for codec in others() {
+        let mut state = before.to_vec();
+        let answer = call(&codec, &mut state);
+        assert_eq!(answer, number, "{}: {before:02x?}", codec.name);
+        assert!(state == expected, "{}: {before:02x?}", codec.name);
+    }
+    expected
+}
+
+/// Changes a byte of a state, or its size: mostly into what no list of calls leaves.
+fn spoil_state(random: &mut Random, state: &mut Vec<u8>, n: usize) {
+    let place = match random.below(6) {
+        0 => return state.resize([HEARING_SIZE - 1, HEARING_SIZE + 1][random.below(2)], 0),
+        1 => LONGEST_DESCRIPTION,
+        2 => random.below(12),
+        3 => random.below(LONGEST_DESCRIPTION),
+        4 => LONGEST_DESCRIPTION + 1 + random.below(1 << n),
+        _ => random.below(HEARING_SIZE),
+    };
+    state[place] = [0, 1, 31, 32, 224, 225, 255, random.byte()][random.below(8)];
+}
+
 /// Codewords under noise, or any values, and descriptions of both kinds; one input in three has a
 /// fault.
 #[test]
@@ -124,6 +184,30 @@ fn plain_codecs_try_the_sets_of_the_reference() {
     }
 }
 
+/// Lists of adds, some with a fault; then a state whose count is 255, and one with a fault.
+#[test]
+fn plain_hearings_agree_with_the_reference() {
+    let mut random = Random::new(6);
+    for n in LAYERS {
+        for round in 0..(8_000 >> n).max(30) {
+            let d = samples::useful_description(&mut random, n);
+            let mut state = random.bytes(HEARING_SIZE);
+            let mut call = Call::new(&mut random, d.clone(), [8, 12, 16][round % 3]);
+            open_in(&d, &mut state).expect("a hearing");
+            for _ in 0..3 {
+                state = check_hearing(&call, &state);
+                call = Call::new(&mut random, d.clone(), 12);
+                call.spoil(&mut random);
+            }
+            let mut full = state.clone();
+            full[LONGEST_DESCRIPTION] = 255;
+            check_hearing(&call, &full);
+            spoil_state(&mut random, &mut state, n);
+            check_hearing(&call, &state);
+        }
+    }
+}
+
 /// Each refusal of a description.
 #[test]
 fn plain_codecs_refuse_descriptions_as_the_reference() {
@@ -134,6 +218,7 @@ fn plain_codecs_refuse_descriptions_as_the_reference() {
         call.description = d.to_vec();
         check(&call);
         check_sets(&call);
+        check_hearing(&call, &[0; HEARING_SIZE]);
     });
 }
 

@@ -1,6 +1,7 @@
 //! The library's resume, held to the reference on more than 200,000 calls, more than 100,000 of them
 //! under descriptions of kind 4.
 
+use host::reference::channel::value_byte;
 use host::reference::description::{is_information, mask_of, record, REFUSALS};
 use host::reference::number::resume_number;
 use host::reference::pass::skipped_steps;
@@ -33,7 +34,7 @@ fn check(d: &[u8], channel: &[u8], prefix: &[u8], before: &[u8]) -> usize {
 fn values(random: &mut Random, count: usize) -> Vec<u8> {
     let of = |random: &mut Random, choice: &[i64]| {
         let value = choice[random.below(choice.len())];
-        samples::value_byte(value)
+        value_byte(value)
     };
     match random.below(6) {
         0 | 1 => samples::channel(random, count, 31),
@@ -200,7 +201,7 @@ fn values_out_of_range() {
         let size = code.size();
         for place in [0, size - 1, random.below(size), random.below(size)] {
             let mut channel = values(random, size);
-            channel[place] = [32, 224, 127, 128, 33, 223][random.below(6)];
+            channel[place] = samples::value_out_of_range(random);
             let before = random.bytes(size);
             let refused = (((place as u64) << 8) + 13, before.clone());
             assert_eq!(run(d, &channel, &[], &before), refused);

@@ -5,11 +5,13 @@ use std::fs;
 use std::path::Path;
 
 use host::reference::description::{record, LONGEST_DESCRIPTION};
-use host::reference::sizes::{DEEPEST, LAYERS, LONGEST, LONGEST_BYTES, MOST_STEPS, MOST_TRIALS};
+use host::reference::sizes::{
+    DEEPEST, HEARING_SIZE, LAYERS, LONGEST, LONGEST_BYTES, MOST_STEPS, MOST_TRIALS,
+};
 use host::testing::files::{repository, text};
 
-/// The largest n, the longest code, its mask, its steps and trials, and the longest description of
-/// each kind, as they could be spelt out.
+/// The largest n, the longest code, its mask, its steps and trials, the longest description of each
+/// kind, and a hearing's state, as they could be spelt out.
 fn spellings() -> Vec<String> {
     let least = LAYERS.start();
     let sizes = [
@@ -21,6 +23,7 @@ fn spellings() -> Vec<String> {
         MOST_TRIALS,
         MOST_STEPS,
         MOST_TRIALS * MOST_STEPS,
+        HEARING_SIZE,
     ];
     let mut spellings: Vec<String> = sizes.iter().map(usize::to_string).collect();
     spellings.extend([

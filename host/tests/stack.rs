@@ -3,7 +3,7 @@
 use host::reference::description::{describe, record, with_start};
 use host::reference::packing::packed_length;
 use host::reference::sets::{limits, MOST_FLIPS};
-use host::reference::sizes::{DEEPEST, LONGEST, LONGEST_BYTES};
+use host::reference::sizes::{DEEPEST, HEARING_SIZE, LONGEST, LONGEST_BYTES};
 use host::testing::files::text;
 use host::testing::library;
 use host::testing::random::Random;
@@ -15,6 +15,7 @@ const ENCODE: usize = 8 * KIB;
 const RESUME: usize = 52 * KIB;
 const DECODERS: usize = 72 * KIB;
 const SET_DECODERS: usize = 92 * KIB;
+const HEARINGS: usize = 72 * KIB;
 
 /// What a thread may take for its own start.
 const THREAD: usize = 16 * KIB;
@@ -85,12 +86,51 @@ fn decoders() {
 
 /// A decoder at the least limits and at the largest.
 fn decoder(name: &str, decode: library::Decoder, d: &[u8], channel: &[u8]) {
+    at_limits(DECODERS, name, d, |limit, payload| {
+        decode(d, channel, limit, payload)
+    });
+}
+
+/// That calls at the least trial limits and at the largest keep to a limit.
+fn at_limits(most: usize, name: &str, d: &[u8], decode: impl Fn(u32, &mut [u8]) -> u64 + Sync) {
     let code = describe(d).expect("a code");
     let mut payload = vec![0; packed_length(code.k)];
     for limit in [1, 2, code.information() as u32 + 1] {
-        keeps_to(DECODERS, &format!("{name}, T = {limit}"), || {
-            let answer = decode(d, channel, limit, &mut payload);
+        keeps_to(most, &format!("{name}, T = {limit}"), || {
+            let answer = decode(limit, &mut payload);
             assert!([0, 16].contains(&(answer & 0xFF)));
+        });
+    }
+}
+
+#[test]
+fn hearings() {
+    let mut random = Random::new(5);
+    for d in descriptions() {
+        let channel = samples::channel(&mut random, LONGEST, 31);
+        let mut state = vec![0; HEARING_SIZE];
+        keeps_to(HEARINGS, "open", || {
+            assert_eq!(library::hearing_open(&d, &mut state), 0);
+        });
+        keeps_to(HEARINGS, "add", || {
+            assert_eq!(library::hearing_add(&mut state, &channel) & 0xFF, 0);
+        });
+        decode_hearing(&d, &state);
+        keeps_to(HEARINGS, "clear", || {
+            assert_eq!(library::hearing_clear(&mut state), 0);
+        });
+        decode_hearing(&d, &state);
+    }
+}
+
+fn decode_hearing(d: &[u8], state: &[u8]) {
+    let both: [(&str, library::HearingDecoder); 2] = [
+        ("full, of a hearing", library::hearing_decode_full),
+        ("restarted, of a hearing", library::hearing_decode_restarted),
+    ];
+    for (name, decode) in both {
+        at_limits(HEARINGS, name, d, |limit, payload| {
+            decode(state, limit, payload)
         });
     }
 }
@@ -128,16 +168,17 @@ fn set_decoder(name: &str, decode: library::SetDecoder, d: &[u8], channel: &[u8]
 
 #[test]
 fn header_and_readme_say_so() {
-    let kib = [ENCODE, RESUME, DECODERS, SET_DECODERS].map(|most| most / KIB);
-    let words = format!(
-        "at most {} KiB of stack for encode, {} KiB for resume, {} KiB for the decoders, and {} KiB for those by sets",
-        kib[0], kib[1], kib[2], kib[3]
+    let [encode, resume, decoders, set_decoders, hearings] =
+        [ENCODE, RESUME, DECODERS, SET_DECODERS, HEARINGS].map(|most| most / KIB);
+    let others = format!(
+        "{decoders} KiB for the decoders, {set_decoders} KiB for those by sets, and {hearings} KiB for hearings"
     );
+    let words =
+        format!("at most {encode} KiB of stack for encode, {resume} KiB for resume, {others}");
     let header = text("include/polar.h").replace("\n * ", " ");
     assert!(header.contains(&words), "no `{words}`");
     let words = format!(
-        "at most {} KiB of stack for `polar_encode`, {} KiB for `polar_resume`, {} KiB for the decoders, and {} KiB for those by sets",
-        kib[0], kib[1], kib[2], kib[3]
+        "at most {encode} KiB of stack for `polar_encode`, {resume} KiB for `polar_resume`, {others}"
     );
     let readme = text("README.md").replace('\n', " ");
     assert!(readme.contains(&words), "no `{words}`");

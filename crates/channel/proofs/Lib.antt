@@ -1,2 +1,4 @@
+pub mod Bytes
+pub mod Inside
 pub mod Outside
 pub mod Judge

@@ -12,7 +12,15 @@ use Rattle.laws.proofs.First.{first-le, first-before}
 use Rattle.channel.specs.Channel.{channelValue, channelValues, firstOutside}
 use Rattle.values.specs.Claims.{Within}
 
--- where there is none, all values are within
+-- where there is none, each value is within, and all are
+pub each-inside : (channel : List ℕ) → length channel ≤ firstOutside channel → (k : ℕ) → natAbs (channelValue (getD channel k 0)) ≤ 31
+unfolding channelValue
+each-inside channel l k = go (ltb k (length channel)) refl
+  where
+    go : (t : Bool) → ltb k (length channel) ≡ t → natAbs (channelValue (getD channel k 0)) ≤ 31
+    go true e = ltb-false 31 _ (first-before (λ i. ltb 31 (natAbs (channelValue (getD channel i 0)))) (length channel) k (omega (arith, ltb-true k (length channel) e)))
+    go false e = omega (arith, ap (λ (b : ℕ). natAbs (channelValue b)) (List·getD-eq-default channel 0 (ltb-false k (length channel) e)))
+
 pub all-inside : (channel : List ℕ) → length channel ≤ firstOutside channel → Within 31 (channelValues channel)
 unfolding channelValue
 all-inside channel l = record { at = each }
@@ -20,12 +28,8 @@ all-inside channel l = record { at = each }
     value : (k : ℕ) → getD (channelValues channel) k (pos 0) ≡ channelValue (getD channel k 0)
     value k = List·getD-map channelValue channel k 0
 
-    go : (k : ℕ) (t : Bool) → ltb k (length channel) ≡ t → natAbs (channelValue (getD channel k 0)) ≤ 31
-    go k true e = ltb-false 31 _ (first-before (λ i. ltb 31 (natAbs (channelValue (getD channel i 0)))) (length channel) k (omega (arith, ltb-true k (length channel) e)))
-    go k false e = omega (arith, ap (λ (b : ℕ). natAbs (channelValue b)) (List·getD-eq-default channel 0 (ltb-false k (length channel) e)))
-
     each : (k : ℕ) → natAbs (getD (channelValues channel) k (pos 0)) ≤ 31
-    each k = subst (λ (z : ℤ). natAbs z ≤ 31) (sym (value k)) (go k (ltb k (length channel)) refl)
+    each k = subst (λ (z : ℤ). natAbs z ≤ 31) (sym (value k)) (each-inside channel l k)
 
 pub first-outside-le : (channel : List ℕ) → firstOutside channel ≤ length channel
 first-outside-le channel = first-le _ (length channel)

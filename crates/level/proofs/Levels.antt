@@ -1,17 +1,17 @@
 -- The level: its sign and magnitude, before and after clipping, and its byte.
-use mathlib.Core.Path.{_≡_, refl, ap}
+use mathlib.Core.Path.{_≡_, refl}
 use mathlib.Core.Bool.{Bool, true, false, cond}
-use Prim.Native.Nat.{ℕ, zero, suc, _+_, _-_, _*_, _%_, _≤_, _<_, min}
+use Prim.Native.Nat.{ℕ, zero, suc, _+_, _-_, _*_, _≤_, _<_, min}
 use native.Mathlib.Nat.{mul-pos, zero-lt-suc}
 use native.Mathlib.Omega.{arith}
 use borrow.Author.Tests.{lt-ltb, le-ltb}
 use lib.Dec.{ltb, ltb→lt, nltb→le}
-use lib.IntN.{ℤ, pos, negsuc, negℤ, natAbs, _-ℤ_, _*ℤ_}
+use lib.IntN.{ℤ, pos, natAbs, _-ℤ_, _*ℤ_}
 use lib.Ieee.{Float, fin, up, down, lt}
 use lib.Ieee.Fits.{up-pos, down-pos}
 use Rattle.laws.proofs.Choice.{cond-ind}
 use Rattle.laws.proofs.Signed.{abs-neg}
-use Rattle.channel.specs.Channel.{channelValue, byteOf, clip}
+use Rattle.channel.specs.Channel.{clip}
 use Rattle.level.specs.Level.{plusZero, quarters, signed, whole, level, isClipped}
 use Rattle.level.proofs.Nearest.{nearest-zero, nearest-from, nearest-below, nearest-closest}
 
@@ -32,24 +32,10 @@ pub level-signed : (p : Float) → level p ≡ signed (lt p plusZero) (min 31 (q
 unfolding level whole
 level-signed p = clip-signed (lt p plusZero) (quarters p)
 
--- −n as a byte
-pub minus-byte : (k n : ℕ) → k ≡ n → n ≤ 31 → (256 - k) % 256 ≡ byteOf (negℤ (pos n))
-minus-byte k zero e h = omega arith
-minus-byte k (suc n) e h = omega arith
-
 -- the count that a clipped value adds
 pub one-if : (r : ℕ) (p : Float) → (31 < quarters p → r ≡ 1) → (quarters p ≤ 31 → r ≡ 0) → r ≡ cond (isClipped p) 1 0
 unfolding isClipped
 one-if r p f g = rw abs-whole (cond-ind (λ (x : ℕ). r ≡ x) (ltb 31 (quarters p)) 1 0 (λ t. f (ltb→lt 31 _ t)) (λ t. g (nltb→le 31 _ t)))
-
--- ---- the bytes are channel values
-
-pub channel-byte : (z : ℤ) → natAbs z ≤ 31 → channelValue (byteOf z) ≡ z
-unfolding channelValue
-channel-byte (pos n) h = rw (lt-ltb n 128 (omega arith))
-channel-byte (negsuc n) h =
-    let back : 256 - suc (256 - suc n) ≡ n = omega arith in
-    rw (le-ltb (256 - suc n) 128 (omega arith), lt-ltb (256 - suc n) 256 (omega arith)) (ap negsuc back)
 
 pub level-le : (p : Float) → natAbs (level p) ≤ 31
 level-le p = rw (level-signed, abs-signed) (omega arith)

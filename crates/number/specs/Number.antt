@@ -10,8 +10,10 @@ use Rattle.resume.specs.declared.Resumed.{Resumed}
 use Rattle.resume.specs.declared.Resumed.the-variants as resume
 use Rattle.run.specs.declared.Decoded.{Decoded}
 use Rattle.run.specs.declared.Decoded.the-variants as decode
+use Rattle.lent.specs.declared.Kept.{Kept}
+use Rattle.lent.specs.declared.Kept.the-variants as keep
 
--- the refusal, or 0; the trial, or an index; the steps
+-- the refusal, or 0; the trial, the count, or an index; the steps
 pub record Parts : Type 0 where
   pub refusal : ℕ
   pub value : ℕ
@@ -40,6 +42,11 @@ encodedParts (encode.Refused x) = refusalParts x
 abbrev pub resumedParts : Resumed → Parts
 resumedParts (resume.Done steps) = parts 0 0 steps
 resumedParts (resume.Refused x) = refusalParts x
+
+-- a call on a lent state carries the count of hearings
+abbrev pub keptParts : Kept → Parts
+keptParts (keep.Done count) = parts 0 count 0
+keptParts (keep.Refused x) = refusalParts x
 
 -- refusal 16 carries its T
 abbrev pub decodedParts : Decoded → Parts

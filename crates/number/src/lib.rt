@@ -1,11 +1,12 @@
 // The number that an answer comes back as to C.
 use encoder::Encoded;
+use lent::Kept;
 use refusal::Refusal;
 use resume::Resumed;
 use run::Decoded;
 ghost use mathlib.Core.Path.{_≡_};
 ghost use Prim.Native.Nat.{_<_, _^_};
-ghost use Rattle.number.specs.Number.{parts, number, refusalParts, encodedParts, resumedParts, decodedParts};
+ghost use Rattle.number.specs.Number.{parts, number, refusalParts, encodedParts, resumedParts, decodedParts, keptParts};
 ghost use Rattle.number.specs.Contracts.{Fitting};
 
 // The number that comes back: refusal, then trial or index, then steps.
@@ -58,5 +59,16 @@ pub fn decoded_answer(decoded: Decoded) -> u64
         Decoded::Accepted { trial, steps } => answer(0, trial as u64, steps as u64),
         Decoded::Failed { trials, steps } => answer(16, trials as u64, steps as u64),
         Decoded::Refused(x) => refusal_answer(x),
+    }
+}
+
+// The number of an answer to a call on a lent state.
+pub fn kept_answer(kept: Kept) -> u64
+    requires { ⌜ Fitting (keptParts kept) ⌝ }
+    ensures { λ x. ⌜ x ≡ number (keptParts kept) ⌝ }
+{
+    match kept {
+        Kept::Done { count } => answer(0, count as u64, 0),
+        Kept::Refused(x) => refusal_answer(x),
     }
 }

@@ -3,6 +3,7 @@ use Rattle.trial.specs.declared.Restart.the-variants.{Root, Half, After}
 use Rattle.number.proofs.Fields.{number-fields}
 use Rattle.polar.specs.Claims.{ReadBack}
 use Rattle.polar.proofs.Fitting.{encoded-fits, resumed-fits, decoded-fits, sets-fits}
+use Rattle.polar.proofs.Fitting.{opened-fits, added-fits, cleared-fits, heard-fits}
 
 pub read-back : ReadBack
 read-back = (
@@ -14,4 +15,9 @@ read-back = (
   λ d channel w limit output. number-fields _ (sets-fits Root d channel w limit output),
   λ d channel w limit output. number-fields _ (sets-fits Half d channel w limit output),
   λ d channel w limit output. number-fields _ (sets-fits After d channel w limit output),
+  λ d b. number-fields _ (opened-fits d b),
+  λ b channel. number-fields _ (added-fits b channel),
+  λ b. number-fields _ (cleared-fits b),
+  λ b limit output. number-fields _ (heard-fits Root b limit output),
+  λ b limit output. number-fields _ (heard-fits After b limit output),
 )

@@ -1,13 +1,13 @@
 -- Each part of an answer fits its place in the number.
 use mathlib.Core.Path.{_≡_, refl}
-use mathlib.Core.Bool.{Bool, true, false}
+use mathlib.Core.Bool.{Bool, true, false, cond}
 use mathlib.Core.List.{List}
 use Prim.Native.Nat.{ℕ, _^_, _≤_, _<_}
 use native.Mathlib.Nat.{le-of-eq}
 use native.Mathlib.Omega.{arith}
 use borrow.Author.Needs.{needs}
 use borrow.Author.Tests.{ltb-true, ltb-false}
-use lib.Dec.{ltb}
+use lib.Dec.{ltb, eqb}
 use lib.ListN.{length}
 use Rattle.refusal.specs.declared.Refusal.{Refusal}
 use Rattle.refusal.specs.declared.Refusal.the-variants.{Alone, At}
@@ -39,7 +39,15 @@ use Rattle.demands.proofs.StepBounds.{Bounded, decoded-bounded}
 use Rattle.sets.specs.Tried.{setTrials}
 use Rattle.sets.specs.DecodeSets.{setRefusals, searchOf, setsBy, setsWith}
 use Rattle.setdemands.proofs.StepBounds.{sets-bounded}
-use Rattle.number.specs.Number.{Parts, parts, refusalParts, encodedParts, resumedParts, decodedParts}
+use Rattle.hearing.specs.Hearing.{fresh, combined, addedTo, addRefusals, isHearing}
+use Rattle.hearing.proofs.Adding.{count-most, not-full}
+use Rattle.state.specs.declared.State.{State}
+use Rattle.state.specs.declared.Heard.{Heard}
+use Rattle.state.specs.State.{stateOf, noState, descriptionOf, isState, codeOfState, heard, refusedIn, withHearing, opened, hearingWith}
+use Rattle.state.proofs.States.{codeBy, state-is, is-hearing}
+use Rattle.lent.specs.declared.Kept.the-variants as keep
+use Rattle.lent.specs.Lent.{hearingSize, stateIn, kept, openedIn, addedIn, clearedIn}
+use Rattle.number.specs.Number.{Parts, parts, refusalParts, encodedParts, resumedParts, decodedParts, keptParts}
 use Rattle.number.specs.Contracts.{Fitting}
 
 -- an answer beside the output's bytes
@@ -86,19 +94,19 @@ description-fits d = go (judge (descriptionRefusals d)) (judged-reached RefusalF
 
 -- what holds of its refusals, which fit, and of its answer, holds of what it gives
 module _ {X : Type 0} (Holds : X → Type 0) (refuse : Refusal → X) (carry : (x : Refusal) → RefusalFits x → Holds (refuse x)) where
+  on-judged : (j : Judgement) → Judged RefusalFits j → {answer : X} → Holds answer → Holds (refusedOr j refuse answer)
+  unfolding refusedOr
+  on-judged Fine f a = a
+  on-judged (Refused x) f a = carry x f
+
+  on-code : (a : Description) → DescriptionFits a → {answer : Code → X} → ((c : Code) → a ≡ Accepted c → Holds (answer c)) → Holds (onDescription a refuse answer)
+  on-code (Accepted c) f h = h c refl
+  on-code (NoCode x) f h = carry x f
+
   on-call : (d : List ℕ) (tests : Code → List (Bool × Refusal)) {answer : Code → X}
       → ((c : Code) → describe d ≡ Accepted c → Judged RefusalFits (judge (tests c)) × Holds (answer c))
       → Holds (onDescription (describe d) refuse (λ c. refusedOr (judge (tests c)) refuse (answer c)))
-  unfolding refusedOr
-  on-call d tests {answer} h = go (describe d) refl (description-fits d)
-    where
-      judged : (c : Code) (j : Judgement) → Judged RefusalFits j → Holds (answer c) → Holds (refusedOr j refuse (answer c))
-      judged c Fine f a = a
-      judged c (Refused x) f a = carry x f
-
-      go : (x : Description) → describe d ≡ x → DescriptionFits x → Holds (onDescription x refuse (λ c. refusedOr (judge (tests c)) refuse (answer c)))
-      go (Accepted c) e f = judged c (judge (tests c)) (h c e .0) (h c e .1)
-      go (NoCode x) e f = carry x f
+  on-call d tests h = on-code (describe d) (description-fits d) (λ c e. on-judged (judge (tests c)) (h c e .0) (h c e .1))
 
 -- ---- the exports
 
@@ -148,3 +156,65 @@ sets-fits restart d channel w limit output =
       ran-fits (maskOf d) c output (run (trialPasses (maskOf d) c) 0 0 (setTrials s (maskOf d) c (channelValues channel))),
     ))
     (sets-bounded restart w limit d channel output)
+
+-- ---- the exports on a state
+
+state-fits : (s : State) → DescriptionFits (codeOfState s)
+state-fits s = by (describe (descriptionOf s))
+  where
+    at : (t : Bool) (c : Code) → DescriptionFits (cond t (Accepted c) (NoCode (Alone 40)))
+    at true c = tt
+    at false c = alone (omega arith)
+
+    by : (a : Description) → DescriptionFits (codeBy s a)
+    by (Accepted c) = at (isState c s) c
+    by (NoCode x) = alone (omega arith)
+
+-- what is kept of an answer, its count within 255
+abbrev KeptFits : List ℕ → Heard → Type 0
+KeptFits b a = Fits keptParts (kept a b)
+
+kept-refused : (b : List ℕ) (s : State) (x : Refusal) → RefusalFits x → KeptFits b (refusedIn s x)
+unfolding refusedOr
+kept-refused b s x f = f
+
+kept-fine : (b : List ℕ) (s : State) → s .hearing .count ≤ 255 → KeptFits b (heard Fine s)
+unfolding refusedOr
+kept-fine b s l = fitting (omega arith) (omega arith) (omega arith)
+
+pub opened-fits : (d b : List ℕ) → Fits keptParts (openedIn d b)
+opened-fits d b = at (eqb (length b) hearingSize)
+  where
+    at : (t : Bool) → Fits keptParts (cond t (kept (opened d) b) (keep.Refused (Alone 40), b))
+    at true = on-code (KeptFits b) (refusedIn noState) (kept-refused b noState) (describe d) (description-fits d) (λ c e. kept-fine b (stateOf d fresh) (omega arith))
+    at false = alone (omega arith)
+
+module _ (b channel : List ℕ) where
+  abbrev s : State
+  s = stateIn b
+
+  added-under : (c : Code) → isHearing c (s .hearing) ≡ true → (j : Judgement) → judge (addRefusals c (s .hearing .count) channel) ≡ j → Judged RefusalFits j
+      → KeptFits b (refusedOr j (refusedIn s) (heard Fine (withHearing s (addedTo c (s .hearing) channel))))
+  unfolding refusedOr
+  added-under c is Fine e f =
+      kept-fine b (withHearing s (addedTo c (s .hearing) channel)) (omega (arith, not-full c (s .hearing .count) channel e (count-most c (s .hearing) is)))
+  added-under c is (Refused x) e f = kept-refused b s x f
+
+  pub added-fits : Fits keptParts (addedIn b channel)
+  added-fits =
+      on-code (KeptFits b) (refusedIn s) (kept-refused b s) (codeOfState s) (state-fits s)
+      (λ c e.
+      let n-most = described (descriptionOf s) c (state-is s c e .0) .coded .n-most in
+      let tests = addRefusals c (s .hearing .count) channel in
+      added-under c (is-hearing s c e) (judge tests) refl (judged-reached RefusalFits tests (search (needs, alone, outside-fits c n-most channel))))
+
+pub cleared-fits : (b : List ℕ) → Fits keptParts (clearedIn b)
+cleared-fits b =
+    let s = stateIn b in
+    on-code (KeptFits b) (refusedIn s) (kept-refused b s) (codeOfState s) (state-fits s) (λ c e. kept-fine b (withHearing s fresh) (omega arith))
+
+pub heard-fits : (restart : Restart) (b : List ℕ) (limit : ℕ) (output : List ℕ) → Fits decodedParts (hearingWith (planOf restart limit) (stateIn b) output)
+heard-fits restart b limit output =
+    let s = stateIn b in
+    on-code (Fits decodedParts) _ (λ x f. f) (codeOfState s) (state-fits s)
+    (λ c e. decoded-fits restart (descriptionOf s) (combined c (s .hearing)) limit output)

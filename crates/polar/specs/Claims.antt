@@ -5,7 +5,8 @@ use Rattle.encoder.specs.Encode.{encoded}
 use Rattle.resume.specs.Resume.{resumed}
 use Rattle.flip.specs.Decode.{decodedFull, decodedHalf, decodedRestarted}
 use Rattle.sets.specs.DecodeSets.{setsFull, setsHalf, setsRestarted}
-use Rattle.number.specs.Number.{encodedParts, resumedParts, decodedParts}
+use Rattle.lent.specs.Lent.{openedIn, addedIn, clearedIn, fullIn, restartedIn}
+use Rattle.number.specs.Number.{encodedParts, resumedParts, decodedParts, keptParts}
 use Rattle.number.specs.Claims.{Read}
 
 -- the number of every answer of every export gives its parts back: `read-back` of proofs/Fields.antt
@@ -19,3 +20,8 @@ ReadBack =
     × ((d channel : List ℕ) (w limit : ℕ) (output : List ℕ) → Read (decodedParts (setsFull d channel w limit output .0)))
     × ((d channel : List ℕ) (w limit : ℕ) (output : List ℕ) → Read (decodedParts (setsHalf d channel w limit output .0)))
     × ((d channel : List ℕ) (w limit : ℕ) (output : List ℕ) → Read (decodedParts (setsRestarted d channel w limit output .0)))
+    × ((d b : List ℕ) → Read (keptParts (openedIn d b .0)))
+    × ((b channel : List ℕ) → Read (keptParts (addedIn b channel .0)))
+    × ((b : List ℕ) → Read (keptParts (clearedIn b .0)))
+    × ((b : List ℕ) (limit : ℕ) (output : List ℕ) → Read (decodedParts (fullIn b limit output .0)))
+    × ((b : List ℕ) (limit : ℕ) (output : List ℕ) → Read (decodedParts (restartedIn b limit output .0)))

@@ -1,13 +1,15 @@
 // The codec for host firmware in C; include/polar.h has the prototypes.
 use number::decoded_answer;
 use number::encoded_answer;
+use number::kept_answer;
 use number::resumed_answer;
 ghost use mathlib.Core.Path.{_≡_};
 ghost use Rattle.encoder.specs.Encode.{encoded};
 ghost use Rattle.resume.specs.Resume.{resumed};
 ghost use Rattle.flip.specs.Decode.{decodedFull, decodedHalf, decodedRestarted};
 ghost use Rattle.sets.specs.DecodeSets.{setsFull, setsHalf, setsRestarted};
-ghost use Rattle.number.specs.Number.{numbered, encodedParts, resumedParts, decodedParts};
+ghost use Rattle.lent.specs.Lent.{openedIn, addedIn, clearedIn, fullIn, restartedIn};
+ghost use Rattle.number.specs.Number.{numbered, encodedParts, resumedParts, decodedParts, keptParts};
 
 #[no_mangle]
 pub extern "C" fn polar_encode(description: &[u8], payload: &[u8], codeword: &mut [u8]) -> u64
@@ -101,4 +103,43 @@ pub extern "C" fn polar_decode_sets_restarted(
     ensures { λ x. ⌜ (x, now (payload .exit)) ≡ numbered decodedParts (setsRestarted (now (description .entry)) (now (channel .entry)) w limit (now (payload .entry))) ⌝ }
 {
     decoded_answer(setflip::decode_sets_restarted(description, channel, w, limit, payload))
+}
+
+#[no_mangle]
+pub extern "C" fn polar_hearing_open(description: &[u8], state: &mut [u8]) -> u64
+    ensures { λ x. ⌜ (x, now (state .exit)) ≡ numbered keptParts (openedIn (now (description .entry)) (now (state .entry))) ⌝ }
+{
+    kept_answer(lent::open(description, state))
+}
+
+#[no_mangle]
+pub extern "C" fn polar_hearing_add(state: &mut [u8], channel: &[u8]) -> u64
+    ensures { λ x. ⌜ (x, now (state .exit)) ≡ numbered keptParts (addedIn (now (state .entry)) (now (channel .entry))) ⌝ }
+{
+    kept_answer(lent::add(state, channel))
+}
+
+#[no_mangle]
+pub extern "C" fn polar_hearing_clear(state: &mut [u8]) -> u64
+    ensures { λ x. ⌜ (x, now (state .exit)) ≡ numbered keptParts (clearedIn (now (state .entry))) ⌝ }
+{
+    kept_answer(lent::clear(state))
+}
+
+#[no_mangle]
+pub extern "C" fn polar_hearing_decode_full(state: &[u8], limit: u32, payload: &mut [u8]) -> u64
+    ensures { λ x. ⌜ (x, now (payload .exit)) ≡ numbered decodedParts (fullIn (now (state .entry)) limit (now (payload .entry))) ⌝ }
+{
+    decoded_answer(lent::decode_full(state, limit, payload))
+}
+
+#[no_mangle]
+pub extern "C" fn polar_hearing_decode_restarted(
+    state: &[u8],
+    limit: u32,
+    payload: &mut [u8],
+) -> u64
+    ensures { λ x. ⌜ (x, now (payload .exit)) ≡ numbered decodedParts (restartedIn (now (state .entry)) limit (now (payload .entry))) ⌝ }
+{
+    decoded_answer(lent::decode_restarted(state, limit, payload))
 }

@@ -10,3 +10,4 @@ pub mod Starred
 pub mod Sets
 pub mod Longer
 pub mod Half
+pub mod Hearing

@@ -91,26 +91,31 @@ static size_t make_trials(struct pass *p, const struct code *code, const int8_t 
     return 0;
 }
 
+/* Decodes values of a code that was read. */
+static uint64_t decode_values(const struct code *code, const int8_t *values, uint32_t limit, uint8_t *payload, size_t payload_len,
+                              enum restart restart)
+{
+    if (limit < 1 || limit > code->k + code->r + 1)
+        return answer(14, 0, 0);
+    if (payload_len != bytes_for(code->k))
+        return answer(15, 0, 0);
+    struct pass pass;
+    uint8_t message[SIZE];
+    start(&pass, code);
+    size_t trial = make_trials(&pass, code, values, limit, restart, message);
+    if (trial == 0)
+        return answer(16, limit, pass.steps);
+    pack(message, code->k, payload);
+    return answer(0, trial, pass.steps);
+}
+
 static uint64_t decode(const uint8_t *description, size_t description_len, const uint8_t *channel, size_t channel_len, uint32_t limit,
                        uint8_t *payload, size_t payload_len, enum restart restart)
 {
     struct code code;
     const int8_t *values = (const int8_t *)channel;
     uint64_t refusal = read_call(description, description_len, values, channel_len, &code);
-    if (refusal)
-        return refusal;
-    if (limit < 1 || limit > code.k + code.r + 1)
-        return answer(14, 0, 0);
-    if (payload_len != bytes_for(code.k))
-        return answer(15, 0, 0);
-    struct pass pass;
-    uint8_t message[SIZE];
-    start(&pass, &code);
-    size_t trial = make_trials(&pass, &code, values, limit, restart, message);
-    if (trial == 0)
-        return answer(16, limit, pass.steps);
-    pack(message, code.k, payload);
-    return answer(0, trial, pass.steps);
+    return refusal ? refusal : decode_values(&code, values, limit, payload, payload_len, restart);
 }
 
 static uint64_t decode_full(const uint8_t *description, size_t description_len, const uint8_t *channel, size_t channel_len, uint32_t limit,

@@ -87,9 +87,18 @@ pub fn value(byte: u8) -> i32 {
     i32::from(byte as i8)
 }
 
-/// Refusals 12 and 13.
+/// Whether all values lie in −31..31. It looks at each of them, so that several are compared at once.
+pub fn are_within(values: &[u8]) -> bool {
+    let outside = |byte: &u8| byte.wrapping_add(31) > 62;
+    !values.iter().fold(false, |any, byte| any | outside(byte))
+}
+
+/// Refusals 12 and 13; most channels have no value outside.
 pub fn check_channel(code: &Code, channel: &[u8]) -> Result<(), u64> {
     refuse_if(channel.len() != code.size, 12)?;
+    if are_within(channel) {
+        return Ok(());
+    }
     match channel.iter().position(|byte| value(*byte).abs() > 31) {
         Some(index) => Err(13 + ((index as u64) << 8)),
         None => Ok(()),

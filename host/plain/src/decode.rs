@@ -79,12 +79,23 @@ fn try_decode(
 ) -> Answer {
     let code = Code::read(description)?;
     check_channel(&code, channel)?;
+    decode_values(&code, channel, limit, payload, restart)
+}
+
+/// Decodes values of a code that was read.
+pub fn decode_values(
+    code: &Code,
+    values: &[u8],
+    limit: u32,
+    payload: &mut [u8],
+    restart: Restart,
+) -> Answer {
     let limit = limit as usize;
     refuse_if(limit < 1 || limit > code.information() + 1, 14)?;
     refuse_if(payload.len() != code.k.div_ceil(8), 15)?;
-    let mut pass = Pass::new(&code);
+    let mut pass = Pass::new(code);
     let mut message = [0; SIZE];
-    let trial = make_trials(&mut pass, &code, channel, limit, restart, &mut message);
+    let trial = make_trials(&mut pass, code, values, limit, restart, &mut message);
     let steps = (pass.steps as u64) << 32;
     let Some(trial) = trial else {
         return Err(16 + ((limit as u64) << 8) + steps);

@@ -6,6 +6,7 @@ mod answer;
 mod code;
 mod decode;
 mod encode;
+mod hearing;
 mod message;
 mod pass;
 mod quantise;
@@ -14,6 +15,9 @@ mod sets;
 
 pub use decode::{decode_full, decode_half, decode_restarted};
 pub use encode::encode;
+pub use hearing::{
+    hearing_add, hearing_clear, hearing_decode_full, hearing_decode_restarted, hearing_open,
+};
 pub use quantise::quantise;
 pub use resume::resume;
 pub use sets::{decode_sets_full, decode_sets_half, decode_sets_restarted};

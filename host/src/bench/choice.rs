@@ -1,20 +1,20 @@
 //! What the command line chooses of the benchmark.
 
 use crate::bench::codec::Way;
-use crate::bench::frames::Frames;
+use crate::bench::frames::{Frames, Purpose};
 use crate::bench::process::TIMES_ONLY;
 use crate::bench::search::Search;
-use crate::bench::task::{limits, Limit, Task};
+use crate::bench::task::{limits, Limit, Task, ONE_LIMIT};
 use crate::bench::DEPTHS;
 use crate::reference::sizes::{DEEPEST, MOST_TRIALS};
 
 pub const USAGE: &str = "\
 bench [OPERATION ..] [--n N ..] [--t T ..] [--w W ..] [--k K ..] [--rounds R]
-  OPERATION   encode, pass, full, half, restarted, quantise, sets-full, sets-half or sets-restarted;
-              all where none is named
+  OPERATION   encode, pass, full, half, restarted, quantise, add, heard, sets-full, sets-half or
+              sets-restarted; all where none is named
   --n N       the code lengths, as n from 5 on; 5, 7, 10 and the largest where none is named
   --t T       the trial limits, from 1 on, or all for K + 1; 1, 13 and all where none is named, and
-              13 alone of half restart
+              13 alone of half and heard
   --w W       the most flips of a set, 2 or 3; both where none is named
   --k K       the payload sizes of flip sets, those of document 000; all where none is named
   --rounds R  how many rounds each row takes, instead of 10 to 205, the fewer the longer a round takes";
@@ -75,15 +75,29 @@ impl Choice {
 
     /// The frames of all rows.
     pub fn frames(&self) -> Vec<Frames> {
-        let lengths = self.layers.iter().map(|&n| Frames::of_length(n));
+        let lengths = self.layers.iter().flat_map(|&n| self.frames_of_length(n));
         let searches = self.searches.iter().map(|&of| Frames::of_search(of));
         lengths.chain(searches).collect()
     }
 
+    /// Those of a length, for each purpose that there is a task for.
+    fn frames_of_length(&self, n: usize) -> Vec<Frames> {
+        let has = |purpose| self.tasks_for(purpose).count() > 0;
+        let single = has(Purpose::Single).then(|| Frames::of_length(n));
+        let heard_twice = has(Purpose::Hearing).then(|| Frames::of_hearings(n));
+        single.into_iter().chain(heard_twice).collect()
+    }
+
+    /// The tasks with this purpose on frames of a length.
+    pub fn tasks_for(&self, purpose: Purpose) -> impl Iterator<Item = Task> + '_ {
+        let is_for = move |task: &Task| task.purpose() == purpose;
+        self.tasks.iter().copied().filter(is_for)
+    }
+
     /// What is done with these.
     pub fn tasks_on(&self, frames: &Frames) -> Vec<Task> {
-        match frames.search {
-            None => self.tasks.clone(),
+        match frames.search() {
+            None => self.tasks_for(frames.purpose).collect(),
             Some(search) => self
                 .ways
                 .iter()
@@ -112,21 +126,24 @@ impl Named {
     }
 }
 
-/// A task, a way of decoding under each trial limit, or one by each search.
+/// A task, a way of decoding under each trial limit, that of hearings, or one by each search.
 #[derive(Clone, Copy)]
 enum Operation {
     One(Task),
     Each(Way),
+    Heard,
     Sets(Way),
 }
 
-const OPERATIONS: [(&str, Operation); 9] = [
+const OPERATIONS: [(&str, Operation); 11] = [
     ("encode", Operation::One(Task::Encode)),
     ("pass", Operation::One(Task::Pass)),
     ("full", Operation::Each(Way::Full)),
     ("half", Operation::Each(Way::Half)),
     ("restarted", Operation::Each(Way::Restarted)),
     ("quantise", Operation::One(Task::Quantise)),
+    ("add", Operation::One(Task::Add)),
+    ("heard", Operation::Heard),
     ("sets-full", Operation::Sets(Way::Full)),
     ("sets-half", Operation::Sets(Way::Half)),
     ("sets-restarted", Operation::Sets(Way::Restarted)),
@@ -140,12 +157,13 @@ impl Operation {
 
     /// What it does with frames of a length, under the limits named or those of its way.
     fn tasks(&self, named: &[Limit]) -> Vec<Task> {
+        let named = |all| or_all(named.to_vec(), all).into_iter();
         match *self {
             Operation::One(task) => vec![task],
-            Operation::Each(way) => or_all(named.to_vec(), limits(way))
-                .into_iter()
+            Operation::Each(way) => named(limits(way))
                 .map(|limit| Task::Decode(way, limit))
                 .collect(),
+            Operation::Heard => named(ONE_LIMIT).map(Task::Heard).collect(),
             Operation::Sets(_) => vec![],
         }
     }
@@ -204,8 +222,9 @@ mod tests {
     fn all_where_nothing_is_named() {
         let choice = read("").expect("a choice");
         assert_eq!(choice.layers, DEPTHS);
-        let rows = Way::ALL.map(|way| limits(way).len());
-        assert_eq!(choice.tasks.len(), 3 + rows.iter().sum::<usize>());
+        let rows: usize = Way::ALL.iter().map(|way| limits(*way).len()).sum();
+        assert_eq!(choice.tasks_for(Purpose::Single).count(), 3 + rows);
+        assert_eq!(choice.tasks_for(Purpose::Hearing).count(), 2);
         assert_eq!(choice.searches, Search::all());
         assert_eq!(choice.ways, Way::ALL);
         assert_eq!(choice.rounds, None);
@@ -223,6 +242,14 @@ mod tests {
         };
         let words = "restarted --n 10 --t 13 --rounds 31";
         assert_eq!(read(words), Some(expected));
+    }
+
+    #[test]
+    fn rows_of_hearings() {
+        let choice = read("heard add --t all --n 5").expect("a choice");
+        assert_eq!(choice.tasks, [Task::Heard(Limit::All), Task::Add]);
+        let purposes: Vec<Purpose> = choice.frames().iter().map(|of| of.purpose).collect();
+        assert_eq!(purposes, [Purpose::Hearing]);
     }
 
     #[test]

@@ -2,10 +2,13 @@
 
 use std::fmt::{self, Display, Formatter};
 
-use crate::testing::library::{self, call, Decoder, SetDecoder};
+use crate::testing::library::{self, call, Decoder, HearingDecoder, SetDecoder};
 
 type Encode = fn(&[u8], &[u8], &mut [u8]) -> u64;
 type Resume = fn(&[u8], &[u8], &[u8], &mut [u8]) -> u64;
+type Open = fn(&[u8], &mut [u8]) -> u64;
+type Add = fn(&mut [u8], &[u8]) -> u64;
+type Clear = fn(&mut [u8]) -> u64;
 type Quantise = fn(f32, &[f32], &mut [u8], &mut [u64; 2]) -> f32;
 
 /// A codec with the calls and answers of `library`.
@@ -19,6 +22,12 @@ pub struct Codec {
     pub decode_sets_full: SetDecoder,
     pub decode_sets_half: SetDecoder,
     pub decode_sets_restarted: SetDecoder,
+    pub hearing_open: Open,
+    pub hearing_add: Add,
+    /// The same without a copy of the state, in plain C.
+    pub hearing_clear: Clear,
+    pub hearing_decode_full: HearingDecoder,
+    pub hearing_decode_restarted: HearingDecoder,
     pub quantise: Quantise,
 }
 
@@ -73,6 +82,11 @@ pub const LIBRARY: Codec = Codec {
     decode_sets_full: library::decode_sets_full,
     decode_sets_half: library::decode_sets_half,
     decode_sets_restarted: library::decode_sets_restarted,
+    hearing_open: library::hearing_open,
+    hearing_add: library::hearing_add,
+    hearing_clear: library::hearing_clear,
+    hearing_decode_full: library::hearing_decode_full,
+    hearing_decode_restarted: library::hearing_decode_restarted,
     quantise: library::quantise,
 };
 
@@ -87,6 +101,11 @@ const PLAIN_RUST: Codec = Codec {
     decode_sets_full: plain::decode_sets_full,
     decode_sets_half: plain::decode_sets_half,
     decode_sets_restarted: plain::decode_sets_restarted,
+    hearing_open: plain::hearing_open,
+    hearing_add: plain::hearing_add,
+    hearing_clear: plain::hearing_clear,
+    hearing_decode_full: plain::hearing_decode_full,
+    hearing_decode_restarted: plain::hearing_decode_restarted,
     quantise: plain::quantise,
 };
 
@@ -126,6 +145,15 @@ macro_rules! plain_c {
             decode_sets_restarted: |d, channel, most_flips, limit, payload| unsafe {
                 let by = $table.decode_sets_restarted;
                 call::decode_sets(by, d, channel, most_flips, limit, payload)
+            },
+            hearing_open: |d, state| unsafe { call::open($table.hearing_open, d, state) },
+            hearing_add: |state, channel| unsafe { call::add($table.hearing_add, state, channel) },
+            hearing_clear: |state| unsafe { call::clear($table.hearing_clear, state) },
+            hearing_decode_full: |state, limit, payload| unsafe {
+                call::decode_hearing($table.hearing_decode_full, state, limit, payload)
+            },
+            hearing_decode_restarted: |state, limit, payload| unsafe {
+                call::decode_hearing($table.hearing_decode_restarted, state, limit, payload)
             },
             quantise: |scale, samples, output, numbers| unsafe {
                 call::quantise($table.quantise, scale, samples, output, numbers)
@@ -213,6 +241,11 @@ struct Table {
     decode_sets_half: call::DecodeSets,
     decode_sets_restarted: call::DecodeSets,
     decode_sets_by_clock: DecodeByClock,
+    hearing_open: call::Open,
+    hearing_add: call::Add,
+    hearing_clear: call::Clear,
+    hearing_decode_full: call::DecodeHearing,
+    hearing_decode_restarted: call::DecodeHearing,
     quantise: call::Quantise,
 }
 

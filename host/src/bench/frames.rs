@@ -5,6 +5,7 @@ use std::f64::consts::TAU;
 use crate::bench::search::Search;
 use crate::reference::description::{describe, record, Code};
 use crate::reference::packing::{pack, packed_length, unpack};
+use crate::reference::sizes::HEARING_SIZE;
 use crate::simulation::DEPTH;
 use crate::testing::random::Random;
 use crate::testing::samples;
@@ -15,21 +16,39 @@ pub const COUNT: usize = 256;
 /// The quantiser's scale: a bit without noise, a sample of 1, has the channel value 10.
 pub const SCALE: f32 = 2.5;
 
-/// A code, a payload, and its codeword under noise: as samples, and as channel values.
+/// A code, a payload, and its codeword under noise: as samples, and as channel values. Of a frame that
+/// is heard twice these are the second time's.
 pub struct Frame {
     pub description: Vec<u8>,
     pub code: Code,
     pub payload: Vec<u8>,
     pub samples: Vec<f32>,
     pub channel: Vec<u8>,
+    held: Option<Held>,
+}
+
+/// The states of a hearing before and after the channel values of the second time are added.
+pub struct Held {
+    pub once: Vec<u8>,
+    pub twice: Vec<u8>,
+}
+
+/// What is done with frames.
+#[derive(Clone, Copy, Debug, PartialEq, Eq)]
+pub enum Purpose {
+    /// Each is heard once.
+    Single,
+    /// Each is heard twice.
+    Hearing,
+    /// They are decoded with flip sets.
+    Search(Search),
 }
 
 /// Frames of one length at a ratio Eb/N0.
 pub struct Frames {
     pub n: usize,
     pub decibels: f64,
-    /// What they are decoded by, where it is flip sets.
-    pub search: Option<Search>,
+    pub purpose: Purpose,
     pub list: Vec<Frame>,
 }
 
@@ -37,37 +56,45 @@ impl Frames {
     /// Frames of length 2^n, each of another code, at the noise where one in ten fails its first
     /// trial.
     pub fn of_length(n: usize) -> Frames {
+        let sent = sent(&mut Random::new(n as u64), n);
+        let frame = |at: usize, decibels| sent[at].received(decibels, SCALE);
+        Frames::with_failures(n, Purpose::Single, frame)
+    }
+
+    /// The same frames, each heard twice with as much noise as makes one in ten fail its first trial
+    /// after both are added.
+    pub fn of_hearings(n: usize) -> Frames {
         let mut random = Random::new(n as u64);
-        let sent: Vec<Sent> = (0..COUNT)
-            .map(|_| {
-                let description = description(&mut random, n);
-                Sent::new(&mut random, description)
-            })
-            .collect();
+        let first = sent(&mut random, n);
+        let second: Vec<Sent> = first.iter().map(|sent| sent.again(&mut random)).collect();
+        let frame = |at: usize, decibels| {
+            let [first, second] = [&first, &second].map(|sent| sent[at].received(decibels, SCALE));
+            second.heard_after(&first)
+        };
+        Frames::with_failures(n, Purpose::Hearing, frame)
+    }
+
+    /// Frames by their place and the ratio, at the largest ratio where one in ten fails.
+    fn with_failures(n: usize, purpose: Purpose, frame: impl Fn(usize, f64) -> Frame) -> Frames {
+        let received = |hundredths: i32| {
+            let decibels = f64::from(hundredths) / 100.0;
+            Frames {
+                n,
+                decibels,
+                purpose,
+                list: (0..COUNT).map(|at| frame(at, decibels)).collect(),
+            }
+        };
         let (mut quiet, mut loud) = (1000, -1000);
         while quiet - loud > 1 {
             let middle = (quiet + loud) / 2;
-            if 10 * Frames::received(n, &sent, middle).failing() < COUNT {
+            if 10 * received(middle).failing() < COUNT {
                 quiet = middle;
             } else {
                 loud = middle;
             }
         }
-        Frames::received(n, &sent, loud)
-    }
-
-    fn received(n: usize, sent: &[Sent], hundredths: i32) -> Frames {
-        let decibels = f64::from(hundredths) / 100.0;
-        let list = sent
-            .iter()
-            .map(|sent| sent.received(decibels, SCALE))
-            .collect();
-        Frames {
-            n,
-            decibels,
-            search: None,
-            list,
-        }
+        received(loud)
     }
 
     /// Frames of a code of document 000 at the noise of its table I.
@@ -81,8 +108,16 @@ impl Frames {
         Frames {
             n: DEPTH,
             decibels,
-            search: Some(search),
+            purpose: Purpose::Search(search),
             list,
+        }
+    }
+
+    /// The search of those decoded with flip sets.
+    pub fn search(&self) -> Option<Search> {
+        match self.purpose {
+            Purpose::Search(search) => Some(search),
+            Purpose::Single | Purpose::Hearing => None,
         }
     }
 
@@ -93,9 +128,31 @@ impl Frames {
 }
 
 impl Frame {
+    /// The states of a frame that is heard twice.
+    pub fn held(&self) -> &Held {
+        self.held.as_ref().expect("a frame that is heard twice")
+    }
+
     fn fails_first(&self) -> bool {
         let mut payload = vec![0; packed_length(self.code.k)];
-        plain::decode_full(&self.description, &self.channel, 1, &mut payload) & 0xFF == 16
+        let answer = match &self.held {
+            None => plain::decode_full(&self.description, &self.channel, 1, &mut payload),
+            Some(held) => plain::hearing_decode_full(&held.twice, 1, &mut payload),
+        };
+        answer & 0xFF == 16
+    }
+
+    /// This frame, where another one with the same codeword was heard before.
+    fn heard_after(self, first: &Frame) -> Frame {
+        let mut once = vec![0; HEARING_SIZE];
+        plain::hearing_open(&self.description, &mut once);
+        plain::hearing_add(&mut once, &first.channel);
+        let mut twice = once.clone();
+        plain::hearing_add(&mut twice, &self.channel);
+        Frame {
+            held: Some(Held { once, twice }),
+            ..self
+        }
     }
 }
 
@@ -116,10 +173,21 @@ impl Sent {
         plain::encode(&description, &payload, &mut packed);
         Sent {
             codeword: unpack(&packed, code.size()),
-            noise: (0..code.size()).map(|_| normal(random)).collect(),
+            noise: noise(random, code.size()),
             description,
             code,
             payload,
+        }
+    }
+
+    /// The same codeword with other noise.
+    fn again(&self, random: &mut Random) -> Self {
+        Sent {
+            description: self.description.clone(),
+            code: self.code,
+            payload: self.payload.clone(),
+            codeword: self.codeword.clone(),
+            noise: noise(random, self.code.size()),
         }
     }
 
@@ -139,8 +207,18 @@ impl Sent {
             payload: self.payload.clone(),
             samples,
             channel,
+            held: None,
         }
     }
+}
+
+/// Codewords of length 2^n, each of another code.
+fn sent(random: &mut Random, n: usize) -> Vec<Sent> {
+    let one = |_| {
+        let description = description(random, n);
+        Sent::new(random, description)
+    };
+    (0..COUNT).map(one).collect()
 }
 
 /// A code with a payload of an eighth to a half of its length.
@@ -150,6 +228,10 @@ fn description(random: &mut Random, n: usize) -> Vec<u8> {
     let k = random.between(size / 8, size / 2);
     let polynomial = samples::polynomial(random, r);
     record(n, r, polynomial, &samples::reliable_mask(n, k + r))
+}
+
+fn noise(random: &mut Random, count: usize) -> Vec<f64> {
+    (0..count).map(|_| normal(random)).collect()
 }
 
 /// A number of the standard normal distribution, by Box and Muller.
@@ -164,11 +246,12 @@ mod tests {
 
     #[test]
     fn one_frame_in_ten_fails_its_first_trial() {
-        for n in [5, 7] {
-            let frames = Frames::of_length(n);
-            assert_eq!(frames.list.len(), COUNT);
-            let failing = frames.failing();
-            assert!((26..=28).contains(&failing), "{failing}");
+        for frames in [5, 7].map(|n| [Frames::of_length(n), Frames::of_hearings(n)]) {
+            for frames in frames {
+                assert_eq!(frames.list.len(), COUNT);
+                let failing = frames.failing();
+                assert!((26..=28).contains(&failing), "{failing}");
+            }
         }
     }
 

@@ -2,7 +2,7 @@
 
 use crate::bench::choice::Choice;
 use crate::bench::codec::Way;
-use crate::bench::frames::{Frames, COUNT};
+use crate::bench::frames::{Frames, Purpose, COUNT};
 use crate::bench::report::Row;
 use crate::bench::task::Task;
 
@@ -12,8 +12,8 @@ pub fn print(choice: &Choice, all: &[Frames], rows: &[Row]) {
         return;
     };
     println!();
-    let lengths: Vec<&Frames> = all.iter().filter(|of| of.search.is_none()).collect();
-    print_with_length(choice, &lengths, rows);
+    print_with_length("Growth with N", choice, Purpose::Single, all, rows);
+    print_with_length("Heard twice, N", choice, Purpose::Hearing, all, rows);
     let of = |way| decoded(rows, *largest, way);
     print_with_limit(
         1 << largest,
@@ -21,24 +21,23 @@ pub fn print(choice: &Choice, all: &[Frames], rows: &[Row]) {
     );
 }
 
-fn print_with_length(choice: &Choice, lengths: &[&Frames], rows: &[Row]) {
-    print_line(
-        "Growth with N",
-        lengths.iter().map(|frames| (1 << frames.n).to_string()),
-    );
-    print_noise(lengths);
-    for &task in &choice.tasks {
+/// Prints what the tasks on frames of one purpose tell; nothing where there are none.
+fn print_with_length(name: &str, choice: &Choice, purpose: Purpose, all: &[Frames], rows: &[Row]) {
+    let lengths: Vec<&Frames> = all.iter().filter(|of| of.purpose == purpose).collect();
+    if lengths.is_empty() {
+        return;
+    }
+    let sizes = lengths.iter().map(|frames| (1 << frames.n).to_string());
+    print_line(name, sizes);
+    print_noise(&lengths);
+    for task in choice.tasks_for(purpose) {
         let rows = rows.iter().filter(|row| row.task == task);
-        match task {
-            Task::Quantise => print_line(
-                "  quantise, ns / N",
-                rows.map(|row| hundredths(row.time_of_each((1 << row.n) as f64))),
-            ),
-            _ => print_line(
-                &format!("  {task}, ns / (n · N)"),
-                rows.map(|row| hundredths(row.time_of_each((row.n << row.n) as f64))),
-            ),
-        }
+        let (unit, parts): (_, fn(usize) -> usize) = match task.is_linear() {
+            true => ("N", |n| 1 << n),
+            false => ("(n · N)", |n| n << n),
+        };
+        let time = |row: &Row| hundredths(row.time_of_each(parts(row.n) as f64));
+        print_line(&format!("  {task}, ns / {unit}"), rows.map(time));
     }
 }
 

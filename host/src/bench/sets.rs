@@ -24,7 +24,7 @@ pub fn print(choice: &Choice, all: &[Frames], rows: &[Row]) {
 
 /// The frames and rows of one w, for each k.
 fn print_searches(searches: &[Search], all: &[Frames], rows: &[Row]) {
-    let is_of = |frames: &&Frames| frames.search.is_some_and(|of| searches.contains(&of));
+    let is_of = |frames: &&Frames| frames.search().is_some_and(|of| searches.contains(&of));
     let frames: Vec<&Frames> = all.iter().filter(is_of).collect();
     print_line(
         &format!("Flip sets, {}, k", searches[0]),
@@ -49,7 +49,7 @@ fn decoded<'a>(searches: &[Search], rows: &'a [Row], way: Way) -> Vec<&'a Row> {
 /// The share of choosing the next set in the time of plain C's restarted decoder, by a clock around
 /// each choice.
 fn choosing(plain: &Clocked, frames: &Frames) -> f64 {
-    let search = frames.search.expect("a search");
+    let search = frames.search().expect("a search");
     let mut room = [0; LONGEST_BYTES];
     let [mut whole, mut choosing] = [0; 2];
     for frame in (0..SWEEPS).flat_map(|_| &frames.list) {

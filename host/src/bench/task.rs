@@ -3,9 +3,10 @@
 use std::fmt::{self, Display, Formatter};
 
 use crate::bench::codec::{Codec, Way};
-use crate::bench::frames::{Frame, SCALE};
+use crate::bench::frames::{Frame, Purpose, SCALE};
 use crate::bench::search::Search;
 use crate::reference::packing::packed_length;
+use crate::reference::sizes::HEARING_SIZE;
 
 /// An operation on a frame.
 #[derive(Clone, Copy, Debug, PartialEq, Eq)]
@@ -17,6 +18,10 @@ pub enum Task {
     /// Decoding with flip sets.
     Sets(Way, Search),
     Quantise,
+    /// Adding the second vector of a hearing.
+    Add,
+    /// Restarted decoding of a hearing with two vectors.
+    Heard(Limit),
 }
 
 /// A trial limit T.
@@ -27,16 +32,20 @@ pub enum Limit {
     All,
 }
 
+/// The trial limit of rows that have one alone.
+pub const ONE_LIMIT: &[Limit] = &[Limit::Trials(13)];
+
 /// The trial limits that are timed: of half restart, which lies between the other ways, one alone.
 pub fn limits(way: Way) -> &'static [Limit] {
     match way {
-        Way::Half => &[Limit::Trials(13)],
+        Way::Half => ONE_LIMIT,
         Way::Full | Way::Restarted => &[Limit::Trials(1), Limit::Trials(13), Limit::All],
     }
 }
 
 impl Task {
-    /// Calls a codec; gives its answer as one number. The output goes to the start of `room`.
+    /// Calls a codec; gives its answer as one number. The output goes to the start of `room`, where a
+    /// task that changes a state finds it.
     pub fn call(self, codec: &Codec, frame: &Frame, room: &mut [u8]) -> u64 {
         let Frame {
             description,
@@ -44,6 +53,7 @@ impl Task {
             payload,
             samples,
             channel,
+            ..
         } = frame;
         let output = &mut room[..self.output_length(frame)];
         match self {
@@ -63,21 +73,49 @@ impl Task {
                 let [refusal, clipped] = numbers;
                 refusal ^ clipped << 8 ^ u64::from(peak.to_bits()) << 32
             }
+            Task::Add => (codec.hearing_add)(output, channel),
+            Task::Heard(limit) => {
+                let limit = limit.of(code.information());
+                (codec.hearing_decode_restarted)(&frame.held().twice, limit, output)
+            }
         }
     }
 
     /// The answer, and the output after it.
     pub fn result(self, codec: &Codec, frame: &Frame) -> (u64, Vec<u8>) {
-        let mut output = vec![0xEE; self.output_length(frame)];
+        let mut output = match self.changes_state() {
+            true => frame.held().once.clone(),
+            false => vec![0xEE; self.output_length(frame)],
+        };
         let answer = self.call(codec, frame, &mut output);
         (answer, output)
+    }
+
+    /// Whether the output is the state of a hearing, which holds one vector before.
+    pub fn changes_state(self) -> bool {
+        matches!(self, Task::Add)
+    }
+
+    /// What frames it needs.
+    pub fn purpose(self) -> Purpose {
+        match self {
+            Task::Encode | Task::Pass | Task::Decode(..) | Task::Quantise => Purpose::Single,
+            Task::Add | Task::Heard(_) => Purpose::Hearing,
+            Task::Sets(_, search) => Purpose::Search(search),
+        }
+    }
+
+    /// Whether its time grows with N, and not with n · N.
+    pub fn is_linear(self) -> bool {
+        matches!(self, Task::Quantise) || self.changes_state()
     }
 
     fn output_length(self, frame: &Frame) -> usize {
         match self {
             Task::Encode => frame.code.size() / 8,
             Task::Pass | Task::Quantise => frame.code.size(),
-            Task::Decode(..) | Task::Sets(..) => packed_length(frame.code.k),
+            Task::Decode(..) | Task::Sets(..) | Task::Heard(_) => packed_length(frame.code.k),
+            Task::Add => HEARING_SIZE,
         }
     }
 }
@@ -101,6 +139,8 @@ impl Display for Task {
             Task::Quantise => to.write_str("quantise"),
             Task::Decode(way, limit) => write!(to, "{way}, T = {limit}"),
             Task::Sets(way, search) => write!(to, "{way}, {search}, k = {}", search.k),
+            Task::Add => to.write_str("add"),
+            Task::Heard(limit) => write!(to, "heard twice, T = {limit}"),
         }
     }
 }

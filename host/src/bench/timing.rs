@@ -151,6 +151,9 @@ fn round<'a>(
 
 /// The time of some sweeps over frames.
 fn time(task: Task, codec: &Codec, frames: &[Frame], sweeps: usize) -> f64 {
+    if task.changes_state() {
+        return time_on_states(task, codec, frames, sweeps);
+    }
     let mut room = [0; LONGEST];
     let start = thread_time();
     for _ in 0..sweeps {
@@ -159,6 +162,21 @@ fn time(task: Task, codec: &Codec, frames: &[Frame], sweeps: usize) -> f64 {
         }
     }
     thread_time() - start
+}
+
+/// The same on a state of each frame, which is made anew before each sweep while the clock stands.
+fn time_on_states(task: Task, codec: &Codec, frames: &[Frame], sweeps: usize) -> f64 {
+    let mut states: Vec<Vec<u8>> = vec![vec![]; frames.len()];
+    let sweep = |_| {
+        let pairs = states.iter_mut().zip(frames);
+        pairs.for_each(|(state, frame)| state.clone_from(&frame.held().once));
+        let start = thread_time();
+        for (state, frame) in states.iter_mut().zip(frames) {
+            black_box(task.call(codec, frame, state));
+        }
+        thread_time() - start
+    };
+    (0..sweeps).map(sweep).sum()
 }
 
 #[repr(C)]

@@ -2,16 +2,29 @@
 
 use crate::reference::refusal::Refusal;
 
+/// The largest magnitude of a channel value.
+const LARGEST: i64 = 31;
+
 /// Reads `size` bytes in two's complement, each from −31 to 31.
 pub fn read_channel(bytes: &[u8], size: usize) -> Result<Vec<i64>, Refusal> {
     if bytes.len() != size {
         return Err(Refusal::Number(12));
     }
     let values: Vec<i64> = bytes.iter().map(|&byte| value(byte)).collect();
-    match values.iter().position(|v| !(-31..=31).contains(v)) {
+    match values.iter().position(|v| v.abs() > LARGEST) {
         Some(index) => Err(Refusal::At(13, index)),
         None => Ok(values),
     }
+}
+
+/// The nearest channel value.
+pub fn clip(value: i64) -> i64 {
+    value.clamp(-LARGEST, LARGEST)
+}
+
+/// A channel value as a byte in two's complement.
+pub fn value_byte(value: i64) -> u8 {
+    i8::try_from(value).expect("a channel value") as u8
 }
 
 /// A byte in two's complement.
@@ -38,6 +51,13 @@ mod tests {
             [0, 127, -128, -1],
             "the ends of both halves"
         );
+        assert!((-31..=31).all(|v| value(value_byte(v)) == v));
+    }
+
+    #[test]
+    fn clipped_at_both_ends() {
+        let clipped = [-62, -32, -31, 0, 31, 32, 62].map(clip);
+        assert_eq!(clipped, [-31, -31, -31, 0, 31, 31, 31]);
     }
 
     /// Rows of the paper: 31 is allowed, 32 and −32 at index 7 are not.

@@ -82,7 +82,7 @@ mod tests {
     use crate::reference::pass::{pass, plain_rules, skipped_steps};
     use crate::reference::sizes::LAYERS;
     use crate::testing::hex::parse;
-    use crate::testing::paper::{D, D_WITH_START, MASK_OF_D, V};
+    use crate::testing::paper::{D, D_WITH_START, MASK_OF_D, RIGHT, V};
     use crate::testing::samples;
 
     /// Decodes into a buffer that holds `before`.
@@ -120,10 +120,9 @@ mod tests {
 
     #[test]
     fn rows_of_the_paper() {
-        let right = parse("04 FC 04 FC FC 04 FC 04");
         for restart in Restart::ALL {
             let of = |channel: &[u8], limit| decode_d(restart, channel, limit, &[0xEE]);
-            assert_eq!(of(&right, 1), accepted(1, 24, 0xA0));
+            assert_eq!(of(&RIGHT, 1), accepted(1, 24, 0xA0));
             assert_eq!(of(&[0; 8], 1), accepted(1, 24, 0x00));
             assert_eq!(of(&[0; 8], 5), accepted(1, 24, 0x00));
         }

@@ -1,6 +1,6 @@
 //! The 64-bit number that C gets: document 01, "Flip decoding, full and restarted". Bits 0–7 hold
-//! the refusal, or 0; bits 8–31 the trial, refusal 16's trials, or a refusal's first index; bits
-//! 32–63 the steps; what an answer lacks is 0.
+//! the refusal, or 0; bits 8–31 the trial, refusal 16's trials, a refusal's first index, or the count
+//! of hearings; bits 32–63 the steps; what an answer lacks is 0.
 
 use crate::reference::flip::Accepted;
 use crate::reference::quantise::Quantised;
@@ -26,6 +26,15 @@ pub fn resume_number(answer: &Result<usize, Refusal>) -> u64 {
 pub fn decode_number(answer: &Result<Accepted, Refusal>) -> u64 {
     match answer {
         Ok(accepted) => number(0, accepted.trial, accepted.steps),
+        Err(refusal) => number_of_refusal(refusal),
+    }
+}
+
+/// The number of an answer of a call that opens, adds to or clears a hearing, by the count of hearings
+/// after it.
+pub fn hearing_number(answer: &Result<usize, Refusal>) -> u64 {
+    match answer {
+        Ok(count) => number(0, *count, 0),
         Err(refusal) => number_of_refusal(refusal),
     }
 }
@@ -77,6 +86,10 @@ mod tests {
             steps: 24,
         };
         assert_eq!(decode_number(&Err(failed)), 0x0000_0018_0000_0110);
+        assert_eq!(hearing_number(&Ok(0)), 0);
+        assert_eq!(hearing_number(&Ok(255)), 0xFF00);
+        assert_eq!(hearing_number(&Err(Refusal::Number(27))), 27);
+        assert_eq!(hearing_number(&Err(Refusal::At(13, 7))), 0x070D);
     }
 
     #[test]

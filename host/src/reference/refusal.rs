@@ -1,4 +1,4 @@
-//! Refusals, numbered as in documents 01 and 02.
+//! Refusals, numbered as in documents 01 and 02; numbers from 40 on are the codec's own.
 
 /// A refusal carries its number alone unless its line in the paper names more.
 #[derive(Clone, Copy, Debug, PartialEq, Eq)]

@@ -3,6 +3,8 @@
 
 use std::ops::RangeInclusive;
 
+use crate::reference::description::LONGEST_DESCRIPTION;
+
 /// The layers of a code, n.
 pub const LAYERS: RangeInclusive<usize> = 3..=12;
 
@@ -23,3 +25,6 @@ pub const MOST_TRIALS: usize = LONGEST + 1;
 
 /// The longest record: its length is told in two bytes.
 pub const LONGEST_RECORD: usize = 65_535;
+
+/// The state of a hearing: a description, the count, a byte for each value.
+pub const HEARING_SIZE: usize = LONGEST_DESCRIPTION + 1 + LONGEST;

@@ -13,6 +13,28 @@ pub trait Named: Copy + PartialEq + 'static {
     }
 }
 
+/// What a row says of the way of decoding: the names of its columns, and the values in them.
+pub trait Columns: Copy + PartialEq {
+    const NAMES: &'static [&'static str];
+
+    fn values(self) -> Vec<String>;
+
+    fn read(values: &[&str]) -> Option<Self>;
+}
+
+impl<D: Named> Columns for D {
+    const NAMES: &'static [&'static str] = &["decoder"];
+
+    fn values(self) -> Vec<String> {
+        vec![self.name().to_string()]
+    }
+
+    fn read(values: &[&str]) -> Option<D> {
+        let [name] = values else { return None };
+        D::named(name)
+    }
+}
+
 /// What one decoder did at one ratio.
 #[derive(Clone, Debug, PartialEq)]
 pub struct Row<D> {
@@ -22,12 +44,16 @@ pub struct Row<D> {
     pub tally: Tally,
 }
 
-const HEADING: &str = "k,ebn0_db,decoder,frames,frame_errors,undetected_errors,trials,steps,\
-                       frame_error_rate,undetected_error_rate,average_trials,average_steps";
+const SUMS: &str = "frames,frame_errors,undetected_errors,trials,steps,\
+                    frame_error_rate,undetected_error_rate,average_trials,average_steps";
+
+fn heading<D: Columns>() -> String {
+    format!("k,ebn0_db,{},{SUMS}", D::NAMES.join(","))
+}
 
 /// A heading, and a line for each row: its sums over the frames, then what they are for one frame.
-pub fn csv<D: Named>(rows: &[Row<D>]) -> String {
-    with_heading(HEADING, rows.iter().map(line))
+pub fn csv<D: Columns>(rows: &[Row<D>]) -> String {
+    with_heading(&heading::<D>(), rows.iter().map(line))
 }
 
 /// A heading and lines, each with its end.
@@ -36,13 +62,13 @@ pub fn with_heading(heading: &str, lines: impl Iterator<Item = String>) -> Strin
     format!("{heading}\n{lines}")
 }
 
-fn line<D: Named>(row: &Row<D>) -> String {
+fn line<D: Columns>(row: &Row<D>) -> String {
     let tally = &row.tally;
     format!(
         "{},{:.3},{},{},{},{},{},{},{:.5},{:.5},{:.4},{:.1}",
         row.k,
         row.decibels,
-        row.decoder.name(),
+        row.decoder.values().join(","),
         tally.frames,
         tally.errors,
         tally.undetected,
@@ -56,16 +82,17 @@ fn line<D: Named>(row: &Row<D>) -> String {
 }
 
 /// The rows of a text of `csv`, from their sums; `None` where it is no such text.
-pub fn read_csv<D: Named>(text: &str) -> Option<Vec<Row<D>>> {
-    let lines = text.strip_prefix(HEADING)?.trim_start().lines();
+pub fn read_csv<D: Columns>(text: &str) -> Option<Vec<Row<D>>> {
+    let lines = text.strip_prefix(&heading::<D>())?.trim_start().lines();
     lines.map(read_line).collect()
 }
 
-fn read_line<D: Named>(line: &str) -> Option<Row<D>> {
+fn read_line<D: Columns>(line: &str) -> Option<Row<D>> {
     let fields: Vec<&str> = line.split(',').collect();
-    let [k, decibels, decoder, sums @ ..] = &fields[..] else {
+    let [k, decibels, others @ ..] = &fields[..] else {
         return None;
     };
+    let (decoder, sums) = others.split_at_checked(D::NAMES.len())?;
     let sums: Option<Vec<u64>> = sums.iter().take(5).map(|sum| sum.parse().ok()).collect();
     let [frames, errors, undetected, trials, steps] = sums?[..] else {
         return None;
@@ -73,7 +100,7 @@ fn read_line<D: Named>(line: &str) -> Option<Row<D>> {
     Some(Row {
         k: k.parse().ok()?,
         decibels: decibels.parse().ok()?,
-        decoder: D::named(decoder)?,
+        decoder: D::read(decoder)?,
         tally: Tally {
             frames,
             errors,

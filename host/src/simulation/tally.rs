@@ -4,12 +4,28 @@ use std::array::from_fn;
 use std::ops::Range;
 use std::thread;
 
+/// Refusal 16: all trials fail.
+const ALL_FAILED: u64 = 16;
+
 /// A decoder's answer: the payload, or none where all trials failed.
 #[derive(Clone, Debug, PartialEq, Eq)]
 pub struct Outcome {
     pub payload: Option<Vec<u8>>,
     pub trials: u64,
     pub steps: u64,
+}
+
+impl Outcome {
+    /// From the number that the library gave, and what it wrote.
+    pub fn of(answer: u64, payload: Vec<u8>) -> Outcome {
+        let refusal = answer & 0xFF;
+        assert!(refusal == 0 || refusal == ALL_FAILED, "refusal {refusal}");
+        Outcome {
+            payload: (refusal == 0).then_some(payload),
+            trials: answer >> 8 & 0xFF_FFFF,
+            steps: answer >> 32,
+        }
+    }
 }
 
 /// The sums over frames of one decoder. An error is a frame that is refused, or accepted with

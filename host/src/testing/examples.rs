@@ -2,8 +2,8 @@
 //! indices 3, 5, 6 and 7; a later trial resumes at 5, 6, 7 or 8 and then makes 11, 8, 7 or 0 steps.
 //! With half restart it makes 24 steps where its lowest index is 3, and otherwise 12.
 
+use crate::reference::channel::value_byte;
 use crate::reference::sets::LIMITS_OF_SETS;
-use crate::testing::samples::value_byte;
 
 /// A call, and what comes of it.
 #[derive(Debug)]

@@ -1,30 +1,36 @@
-//! Calls of decoders with faults that are put in on purpose.
+//! Calls of decoders, and on the state of a hearing, with faults that are put in on purpose.
 
 use crate::reference::description::{describe, with_start, REFUSALS};
+use crate::reference::hearing::{Hearing, MOST_HEARINGS};
 use crate::reference::packing::packed_length;
 use crate::reference::sizes::MOST_TRIALS;
+use crate::testing::hearing::damage;
 use crate::testing::met::Met;
 use crate::testing::random::Random;
 use crate::testing::samples;
 
-/// A call of a decoder; single flips have no `most_flips`.
+/// What a call is lent; flip sets alone have `most_flips`, hearings alone a state.
 pub struct Faulty {
     pub description: Vec<u8>,
     pub channel: Vec<u8>,
     pub most_flips: u32,
     pub limit: u32,
     pub before: Vec<u8>,
+    pub state: Vec<u8>,
 }
 
 impl Faulty {
-    /// Silence under a start other than 0, with T = 1: nothing is wrong, and 16 is the answer.
+    /// Silence under a start other than 0, with T = 1, and a fresh hearing: nothing is wrong, and 16
+    /// is the answer.
     pub fn silent(random: &mut Random) -> Faulty {
         let n = samples::layers(random);
         let d = samples::description(random, n);
         let start = samples::nonzero_start(random, d[5].into());
         let k = describe(&d).expect("a code").k;
+        let d = with_start(&d, start);
         Faulty {
-            description: with_start(&d, start),
+            state: Hearing::open(&d).expect("a hearing").to_bytes(),
+            description: d,
             channel: vec![0; 1 << n],
             most_flips: samples::most_flips(random),
             limit: 1,
@@ -42,7 +48,7 @@ impl Faulty {
             }
             13 => {
                 let place = random.below(size / 2);
-                self.channel[place] = [32, 224, 127, 128][random.below(4)];
+                self.channel[place] = samples::value_out_of_range(random);
             }
             26 => self.most_flips = samples::wrong_most_flips(random),
             14 => self.limit = [0, MOST_TRIALS as u32 + 1, u32::MAX][random.below(3)],
@@ -51,18 +57,24 @@ impl Faulty {
                 let other = [0, length - 1, length + 1, 2 * length][random.below(4)];
                 self.before.resize(other, 0xEE);
             }
+            27 => {
+                let mut hearing = Hearing::from_bytes(&self.state).expect("a hearing");
+                hearing.count = MOST_HEARINGS;
+                self.state = hearing.to_bytes();
+            }
+            40 => damage(random, &mut self.state),
             _ => panic!("a call has no refusal {refusal}"),
         }
     }
 
-    /// Puts in the faults of these refusals, which stand in their order; nothing where the
-    /// description cannot have one.
+    /// Puts in the faults of these refusals, which stand in their order, those of later ones first;
+    /// nothing where the description cannot have one.
     fn with_faults(random: &mut Random, refusals: &[usize]) -> Option<Faulty> {
         let mut call = Faulty::silent(random);
         let (of_description, own): (Vec<usize>, Vec<usize>) = refusals
             .iter()
             .partition(|refusal| REFUSALS.contains(refusal));
-        for refusal in own {
+        for refusal in own.into_iter().rev() {
             call.put_fault(random, refusal);
         }
         let can_break = |&refusal: &usize| samples::can_break(&call.description, refusal);

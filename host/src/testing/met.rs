@@ -11,6 +11,11 @@ impl Met {
         *self.0.entry(refusal).or_default() += 1;
     }
 
+    /// How many were counted.
+    pub fn calls(&self) -> usize {
+        self.0.values().sum()
+    }
+
     /// That each number of these lists was met, and no other.
     pub fn are_all(&self, lists: &[&[usize]]) {
         let mut all = lists.concat();
@@ -31,7 +36,9 @@ mod tests {
 
     #[test]
     fn all_are_met() {
-        met([0, 25, 8, 25]).are_all(&[&[0, 25], &[8]]);
+        let met = met([0, 25, 8, 25]);
+        met.are_all(&[&[0, 25], &[8]]);
+        assert_eq!(met.calls(), 4);
     }
 
     #[test]

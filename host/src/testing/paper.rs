@@ -13,3 +13,6 @@ pub const MASK_OF_D: [u8; 1] = [0xE8];
 
 /// The channel values V: −1, 3, 2, 2, −2, −2, 3, 2.
 pub const V: [u8; 8] = [0xFF, 0x03, 0x02, 0x02, 0xFE, 0xFE, 0x03, 0x02];
+
+/// The channel values 4, −4, 4, −4, −4, 4, −4, 4: the signs of the codeword of A0 under D.
+pub const RIGHT: [u8; 8] = [0x04, 0xFC, 0x04, 0xFC, 0xFC, 0x04, 0xFC, 0x04];

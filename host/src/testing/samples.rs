@@ -3,6 +3,7 @@
 use std::cmp::Reverse;
 use std::ops::RangeInclusive;
 
+use crate::reference::channel::{clip, value_byte};
 use crate::reference::description::{
     describe, has_start, header_length, is_information, mask_of, record, with_start, word, Code,
     REFUSALS,
@@ -315,6 +316,11 @@ pub fn channel(random: &mut Random, count: usize, largest: usize) -> Vec<u8> {
         .collect()
 }
 
+/// A byte that is no channel value: near one, or at an end.
+pub fn value_out_of_range(random: &mut Random) -> u8 {
+    [32, 224, 33, 223, 127, 128][random.below(6)]
+}
+
 /// Every vector of eight channel values from −1, 0 and 1.
 pub fn small_vectors() -> impl Iterator<Item = Vec<u8>> {
     let digit = |number: usize, place| number / 3usize.pow(place) % 3;
@@ -342,7 +348,7 @@ pub fn noisy(random: &mut Random, codeword: &[u8], strength: usize, noise: usize
                 + random.between(0, 2 * noise) as i64
                 + random.between(0, 2 * noise) as i64
                 - 3 * noise as i64;
-            value_byte((favour(bit, strength) + disturbed).clamp(-31, 31))
+            value_byte(clip(favour(bit, strength) + disturbed))
         })
         .collect()
 }
@@ -350,11 +356,6 @@ pub fn noisy(random: &mut Random, codeword: &[u8], strength: usize, noise: usize
 /// A value of this magnitude that favours a bit.
 fn favour(bit: u8, magnitude: usize) -> i64 {
     (1 - 2 * i64::from(bit)) * magnitude as i64
-}
-
-/// A channel value as a byte in two's complement.
-pub fn value_byte(value: i64) -> u8 {
-    i8::try_from(value).expect("a channel value") as u8
 }
 
 #[cfg(test)]

@@ -1,4 +1,4 @@
-/* The longest code, in buffers of the header's sizes: encoded, decoded, and compared. */
+/* The longest code, in buffers of the header's sizes: encoded, decoded, heard, and compared. */
 #include "polar.h"
 
 #include <stdio.h>
@@ -8,6 +8,7 @@ static uint8_t description[POLAR_LONGEST_DESCRIPTION];
 static uint8_t sent[POLAR_LONGEST_PAYLOAD], received[POLAR_LONGEST_PAYLOAD];
 static uint8_t codeword[POLAR_LONGEST_CODEWORD];
 static uint8_t channel[POLAR_LONGEST_CODE], bits[POLAR_LONGEST_CODE];
+static uint8_t hearing[POLAR_HEARING_SIZE];
 
 /* All indices are information indices, and the check is a parity that starts at 1: of the two kinds, 4 is the longer. */
 static void describe(void)
@@ -34,10 +35,25 @@ static void send_codeword(void)
         channel[i] = codeword[i / 8] >> (7 - i % 8) & 1 ? 0xFC : 4;
 }
 
+static void print_decoded(uint64_t answer)
+{
+    printf("decode: refusal %u, trial %u, %s\n", POLAR_REFUSAL(answer), (unsigned)POLAR_VALUE(answer),
+           memcmp(sent, received, sizeof sent) == 0 ? "the payload sent" : "another payload");
+}
+
+static void hear(void)
+{
+    uint64_t opened = polar_hearing_open(description, sizeof description, hearing, sizeof hearing);
+    uint64_t added = polar_hearing_add(hearing, sizeof hearing, channel, sizeof channel);
+    printf("hearing: refusals %u, %u, count %u\n", POLAR_REFUSAL(opened), POLAR_REFUSAL(added), (unsigned)POLAR_VALUE(added));
+    memset(received, 0, sizeof received);
+    print_decoded(polar_hearing_decode_restarted(hearing, sizeof hearing, POLAR_LONGEST_CODE + 1, received, sizeof received));
+}
+
 int main(void)
 {
-    printf("code %d, description %d, codeword %d, payload %d\n",
-           POLAR_LONGEST_CODE, POLAR_LONGEST_DESCRIPTION, POLAR_LONGEST_CODEWORD, POLAR_LONGEST_PAYLOAD);
+    printf("code %d, description %d, codeword %d, payload %d, hearing %d\n", POLAR_LONGEST_CODE, POLAR_LONGEST_DESCRIPTION,
+           POLAR_LONGEST_CODEWORD, POLAR_LONGEST_PAYLOAD, POLAR_HEARING_SIZE);
     describe();
     choose_payload();
     uint64_t a = polar_encode(description, sizeof description, sent, sizeof sent, codeword, sizeof codeword);
@@ -46,7 +62,7 @@ int main(void)
     a = polar_resume(description, sizeof description, channel, sizeof channel, NULL, 0, bits, sizeof bits);
     printf("resume: refusal %u\n", POLAR_REFUSAL(a));
     a = polar_decode_restarted(description, sizeof description, channel, sizeof channel, POLAR_LONGEST_CODE + 1, received, sizeof received);
-    printf("decode: refusal %u, trial %u, %s\n", POLAR_REFUSAL(a), (unsigned)POLAR_VALUE(a),
-           memcmp(sent, received, sizeof sent) == 0 ? "the payload sent" : "another payload");
+    print_decoded(a);
+    hear();
     return 0;
 }

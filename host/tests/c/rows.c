@@ -1,4 +1,4 @@
-/* Rows of document 01, and of requests 2.1, 2.2 and 2.4, by each function of the header: each answer in its parts, then the output. */
+/* Rows of document 01, and of requests 2.1, 2.2, 2.4 and 2.6, by each function of the header: each answer in its parts, then the output. */
 #include "polar.h"
 
 #include <inttypes.h>
@@ -7,6 +7,7 @@
 
 typedef uint64_t decoder(const uint8_t *, size_t, const uint8_t *, size_t, uint32_t, uint8_t *, size_t);
 typedef uint64_t set_decoder(const uint8_t *, size_t, const uint8_t *, size_t, uint32_t, uint32_t, uint8_t *, size_t);
+typedef uint64_t hearing_decoder(const uint8_t *, size_t, uint32_t, uint8_t *, size_t);
 
 static const uint8_t D[9] = {0x09, 0, 1, 0, 3, 1, 1, 0, 0xE8};
 static const uint8_t D_MASK_80[9] = {0x09, 0, 1, 0, 3, 1, 1, 0, 0x80};
@@ -24,6 +25,7 @@ static const uint8_t ZEROS[8] = {0};
 static const uint8_t LAST_31[8] = {0, 0, 0, 0, 0, 0, 0, 31};
 static const uint8_t LAST_32[8] = {0, 0, 0, 0, 0, 0, 0, 32};
 static const uint8_t LAST_MINUS_32[8] = {0, 0, 0, 0, 0, 0, 0, 0xE0};
+static uint8_t hearing[POLAR_HEARING_SIZE];
 
 static void print(const char *name, uint64_t answer, const uint8_t *output, size_t len)
 {
@@ -65,6 +67,23 @@ static void decode_sets(const char *name, set_decoder *by, const uint8_t *descri
 {
     uint8_t payload[1] = {0xEE};
     uint64_t answer = by(description, 9, channel, 8, most_flips, limit, payload, sizeof payload);
+    print(name, answer, payload, sizeof payload);
+}
+
+static void open_hearing(const char *name, const uint8_t *description, size_t len)
+{
+    print(name, polar_hearing_open(description, len, hearing, sizeof hearing), NULL, 0);
+}
+
+static void add_vector(const char *name, const uint8_t *channel, size_t len)
+{
+    print(name, polar_hearing_add(hearing, sizeof hearing, channel, len), NULL, 0);
+}
+
+static void decode_hearing(const char *name, hearing_decoder *by, uint32_t limit)
+{
+    uint8_t payload[1] = {0xEE};
+    uint64_t answer = by(hearing, sizeof hearing, limit, payload, sizeof payload);
     print(name, answer, payload, sizeof payload);
 }
 
@@ -120,6 +139,33 @@ static void set_rows(set_decoder *by)
     decode_sets("w = 2, T = 513", by, D, V, 2, 513);
 }
 
+/* One hearing: V, then right signs; cleared; filled with right signs. */
+static void hearing_rows(hearing_decoder *by)
+{
+    open_hearing("open", D, sizeof D);
+    decode_hearing("nothing heard, T = 1", by, 1);
+    add_vector("add V", V, sizeof V);
+    decode_hearing("V heard, T = 1", by, 1);
+    decode_hearing("V heard, T = 2", by, 2);
+    decode_hearing("V heard, T = 6", by, 6);
+    add_vector("add 32", LAST_32, sizeof LAST_32);
+    add_vector("add seven values", V, 7);
+    add_vector("add right signs", RIGHT, sizeof RIGHT);
+    decode_hearing("both heard, T = 1", by, 1);
+    print("clear", polar_hearing_clear(hearing, sizeof hearing), NULL, 0);
+    decode_hearing("cleared, T = 1", by, 1);
+    for (int i = 1; i < 255; i++)
+        polar_hearing_add(hearing, sizeof hearing, RIGHT, sizeof RIGHT);
+    add_vector("add 255 times", RIGHT, sizeof RIGHT);
+    add_vector("add once more", RIGHT, sizeof RIGHT);
+    open_hearing("mask 80", D_MASK_80, sizeof D_MASK_80);
+    decode_hearing("full, T = 1", by, 1);
+    print("a byte less", polar_hearing_clear(hearing, sizeof hearing - 1), NULL, 0);
+    print("no bytes", polar_hearing_clear(NULL, 0), NULL, 0);
+    memset(hearing, 0, sizeof hearing);
+    decode_hearing("damaged", by, 1);
+}
+
 int main(void)
 {
     encode_rows();
@@ -130,5 +176,7 @@ int main(void)
     set_rows(polar_decode_sets_full);
     set_rows(polar_decode_sets_half);
     set_rows(polar_decode_sets_restarted);
+    hearing_rows(polar_hearing_decode_full);
+    hearing_rows(polar_hearing_decode_restarted);
     return 0;
 }

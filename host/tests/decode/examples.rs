@@ -1,18 +1,17 @@
 //! Rows of the documents, and every vector of small values.
 
 use host::testing::decoders::{check, Pair, ALL, FULL, HALF, RESTARTED};
-use host::testing::paper::{D, D_WITH_START, V};
+use host::testing::outcomes::Outcomes;
+use host::testing::paper::{D, D_WITH_START, RIGHT, V};
 use host::testing::samples;
 
 use crate::calls::number;
-use crate::outcomes::Outcomes;
 
 #[test]
 fn rows_of_the_paper() {
-    let right = [4, 252, 4, 252, 252, 4, 252, 4];
     for decoder in ALL {
         let of = |channel: &[u8], limit| decoder.run(&D, channel, limit, &[0xEE]);
-        assert_eq!(of(&right, 1), (number(0, 1, 24), vec![0xA0]));
+        assert_eq!(of(&RIGHT, 1), (number(0, 1, 24), vec![0xA0]));
         assert_eq!(of(&V, 1), (number(16, 1, 24), vec![0xEE]));
         assert_eq!(of(&[0; 8], 1), (number(0, 1, 24), vec![0x00]));
         assert_eq!(of(&V, 0), (14, vec![0xEE]));

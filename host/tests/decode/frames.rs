@@ -5,11 +5,11 @@ use host::reference::placing::place;
 use host::reference::sizes::LAYERS;
 use host::reference::transform::transform;
 use host::testing::decoders::{check, ALL};
+use host::testing::outcomes::Outcomes;
 use host::testing::random::Random;
 use host::testing::samples;
 
 use crate::calls::{code_of, limit, number, room, sent};
-use crate::outcomes::Outcomes;
 
 /// Codewords under noise of several strengths.
 #[test]

@@ -5,5 +5,4 @@ mod calls;
 mod examples;
 mod frames;
 mod limits;
-mod outcomes;
 mod refusals;

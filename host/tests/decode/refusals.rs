@@ -18,7 +18,7 @@ fn values_out_of_range() {
         let before = room(random, d);
         for place in [0, size - 1, random.below(size)] {
             let mut channel = samples::channel(random, size, 31);
-            channel[place] = [32, 224, 127, 128][random.below(4)];
+            channel[place] = samples::value_out_of_range(random);
             let refused = Err(Refusal::At(13, place));
             assert_eq!(check(d, &channel, 1, &before), refused);
         }

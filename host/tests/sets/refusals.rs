@@ -55,6 +55,7 @@ fn several_faults() {
             channel: inputs.channel,
             most_flips: inputs.most_flips,
             limit: inputs.limit,
+            state: vec![],
         };
         for refusal in [26, 14, 15] {
             if random.below(4) == 0 {
@@ -74,7 +75,7 @@ fn values_out_of_range() {
         for first in [0, size - 1, random.below(size)] {
             let mut channel = samples::channel(random, size, 31);
             for place in [first, random.between(first, size - 1)] {
-                channel[place] = [32, 224, 127, 128][random.below(4)];
+                channel[place] = samples::value_out_of_range(random);
             }
             let of = Lent {
                 description: d,

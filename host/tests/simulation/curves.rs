@@ -1,13 +1,13 @@
 //! Frame errors of one pass, single flips and flip sets.
 
-use host::simulation::papers::curves::{at, of, BLOCK, ENOUGH_ERRORS, LEAST_RATE};
+use host::simulation::papers::curves::{at, of};
 use host::simulation::papers::gain_summary;
-use host::simulation::{csv, read_csv, Flips, Named, Row, FRAMES, SETTINGS};
+use host::simulation::{csv, read_csv, Flips, Named, Row, BLOCK, ENOUGH_ERRORS, SETTINGS};
 
-use crate::{document, flipping, plot};
+use crate::{curve, document, flipping, plot};
 
 /// The rows of docs/sets.csv.
-fn shipped() -> Vec<Row<Flips>> {
+pub fn shipped() -> Vec<Row<Flips>> {
     read_csv(&document("sets.csv")).expect("rows")
 }
 
@@ -35,30 +35,8 @@ fn documents_agree_with_the_curves() {
     for setting in &SETTINGS {
         for &decoder in Flips::ALL {
             let is_of = |row: &&Row<Flips>| (row.k, row.decoder) == (setting.k, decoder);
-            check_curve(&rows.iter().filter(is_of).collect::<Vec<_>>());
+            curve::check(&rows.iter().filter(is_of).collect::<Vec<_>>());
         }
-    }
-}
-
-/// A curve falls, ends at the least rate, and has frames or errors enough at each point.
-fn check_curve(curve: &[&Row<Flips>]) {
-    assert!(curve.len() > 4, "{curve:?}");
-    assert!(curve
-        .windows(2)
-        .all(|pair| pair[0].decibels < pair[1].decibels));
-    assert!(curve.is_sorted_by(|a, b| a.tally.error_rate() > b.tally.error_rate()));
-    let (last, others) = curve.split_last().expect("a point");
-    assert!(last.tally.error_rate() < LEAST_RATE);
-    assert!(others
-        .iter()
-        .all(|row| row.tally.error_rate() >= LEAST_RATE));
-    for row in curve {
-        let (frames, errors) = (row.tally.frames, row.tally.errors);
-        assert!(frames == FRAMES || errors >= ENOUGH_ERRORS, "{row:?}");
-        assert!(
-            frames == FRAMES || errors < ENOUGH_ERRORS + BLOCK,
-            "{row:?}"
-        );
     }
 }
 

@@ -1,5 +1,7 @@
 //! The simulations: that they count rightly, and that the results in docs/ agree with each other.
 
+mod combining;
+mod curve;
 mod curves;
 mod flipping;
 mod papers;

@@ -4,7 +4,8 @@ use native.Mathlib.Omega.{arith}
 use borrow.Author.Needs.{needs}
 use lib.Ieee.{ofBits}
 use Rattle.level.specs.Level.{quarters}
-use Rattle.level.proofs.Levels.{level-signed, minus-byte}
+use Rattle.channel.proofs.Bytes.{minus-byte}
+use Rattle.level.proofs.Levels.{level-signed}
 use Rattle.level.proofs.level_byte.Statement.{statement}
 use Rattle.level.proofs.level_byte.Tie as tie
 

@@ -15,11 +15,11 @@ use Rattle.code.specs.Code.{codeLength}
 use Rattle.code.specs.Description.{describe, onDescription}
 use Rattle.code.specs.Claims.{Described}
 use Rattle.code.proofs.Facts.{described}
+use Rattle.code.proofs.Room.{description-most}
 use Rattle.lines.specs.Line.{codeLine, noLine}
 use Rattle.lines.proofs.Putting.{length-put, take-put}
 use Rattle.response.specs.Respond.{descriptionResponse}
 use Rattle.response.proofs.Answers.{answers-line, answers-as}
-use Rattle.response.proofs.Room.{description-most}
 use Rattle.response.proofs.respond_description.Statement.{statement}
 use Rattle.response.proofs.respond_description.Tie as tie
 

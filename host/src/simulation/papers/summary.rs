@@ -1,5 +1,7 @@
 //! The tables of docs/PERFORMANCE.md, beside the papers' figures. Shares are in %.
 
+use crate::simulation::curve::crossing;
+use crate::simulation::markdown::{in_decibels, table};
 use crate::simulation::papers::cycles::Model;
 use crate::simulation::papers::figures::{
     by_size, DYNAMIC, DYNAMIC_HALF, DYNAMIC_RIGHT, HALF, RESTARTED,
@@ -128,26 +130,13 @@ pub fn gain_summary(rows: &[Row<Flips>]) -> String {
             .iter()
             .zip(once)
             .map(|(ratio, once)| Some(once? - (*ratio)?));
-        let cell = |ratio: Option<f64>| ratio.map_or(String::new(), |ratio| format!("{ratio:.2}"));
         vec![
             vec![flips.name().to_string(), flips.limit().to_string()],
-            ratios.into_iter().map(cell).collect(),
-            gains.map(cell).collect(),
+            ratios.into_iter().map(in_decibels).collect(),
+            gains.map(in_decibels).collect(),
         ]
     });
     table(&heading, lines)
-}
-
-/// Where a curve passes one error in a hundred, by a line between two points on the logarithmic axis.
-fn crossing(rows: &[Row<Flips>], k: usize, flips: Flips) -> Option<f64> {
-    let is_of = |row: &&Row<Flips>| (row.k, row.decoder) == (k, flips);
-    let curve: Vec<&Row<Flips>> = rows.iter().filter(is_of).collect();
-    let height = |row: &Row<Flips>| (row.tally.error_rate() / 0.01).ln();
-    let pair = curve
-        .windows(2)
-        .find(|pair| height(pair[0]) >= 0.0 && height(pair[1]) < 0.0)?;
-    let part = height(pair[0]) / (height(pair[0]) - height(pair[1]));
-    Some(pair[0].decibels + part * (pair[1].decibels - pair[0].decibels))
 }
 
 /// The first cells of a line.
@@ -187,13 +176,4 @@ fn find(
 
 fn percent(part: f64) -> String {
     format!("{:.1}", 100.0 * part)
-}
-
-/// A table in Markdown, whose decoders are words. A line's cells come in groups.
-fn table(heading: &str, lines: impl Iterator<Item = Vec<Vec<String>>>) -> String {
-    let side = |cell| if cell == "decoder" { "---|" } else { "--:|" };
-    let sides: String = heading.split(" | ").map(side).collect();
-    let line = |groups: Vec<Vec<String>>| format!("| {} |\n", groups.concat().join(" | "));
-    let lines: String = lines.map(line).collect();
-    format!("| {heading} |\n|{sides}\n{lines}")
 }

@@ -21,6 +21,11 @@ pub type DecodeSets =
     unsafe extern "C" fn(*const u8, usize, *const u8, usize, u32, u32, *mut u8, usize) -> u64;
 pub type Quantise = unsafe extern "C" fn(f32, *const f32, usize, *mut u8, usize, *mut u64) -> f32;
 
+pub type Open = unsafe extern "C" fn(*const u8, usize, *mut u8, usize) -> u64;
+pub type Add = unsafe extern "C" fn(*mut u8, usize, *const u8, usize) -> u64;
+pub type Clear = unsafe extern "C" fn(*mut u8, usize) -> u64;
+pub type DecodeHearing = unsafe extern "C" fn(*const u8, usize, u32, *mut u8, usize) -> u64;
+
 /// Writes a packed codeword; the answer is as in `number::encode_number`.
 pub unsafe fn encode(by: Encode, d: &[u8], payload: &[u8], codeword: &mut [u8]) -> u64 {
     by(
@@ -97,5 +102,41 @@ pub unsafe fn quantise(
         output.as_mut_ptr(),
         output.len(),
         numbers.as_mut_ptr(),
+    )
+}
+
+/// Opens a hearing in a state; the answer is as in `number::hearing_number`.
+pub unsafe fn open(by: Open, d: &[u8], state: &mut [u8]) -> u64 {
+    by(d.as_ptr(), d.len(), state.as_mut_ptr(), state.len())
+}
+
+/// Adds a vector to a state; the answer is as in `number::hearing_number`.
+pub unsafe fn add(by: Add, state: &mut [u8], channel: &[u8]) -> u64 {
+    by(
+        state.as_mut_ptr(),
+        state.len(),
+        channel.as_ptr(),
+        channel.len(),
+    )
+}
+
+/// Clears a state; the answer is as in `number::hearing_number`.
+pub unsafe fn clear(by: Clear, state: &mut [u8]) -> u64 {
+    by(state.as_mut_ptr(), state.len())
+}
+
+/// Decodes a state and writes the packed payload; the answer is as in `number::decode_number`.
+pub unsafe fn decode_hearing(
+    by: DecodeHearing,
+    state: &[u8],
+    limit: u32,
+    payload: &mut [u8],
+) -> u64 {
+    by(
+        state.as_ptr(),
+        state.len(),
+        limit,
+        payload.as_mut_ptr(),
+        payload.len(),
     )
 }

@@ -1,7 +1,7 @@
 //! What became of frames.
 
-use host::reference::flip::Accepted;
-use host::reference::refusal::Refusal;
+use crate::reference::flip::Accepted;
+use crate::reference::refusal::Refusal;
 
 /// How often frames were accepted on trial 1, on a later trial, and not at all.
 #[derive(Default, Debug)]

@@ -1,0 +1,54 @@
+-- Document 02, request 2.6: "Hold N combined values for a code, starting at zero, and a count of hearings." Values are bytes as a channel's
+-- are. A hearing has room for those of the longest code; what follows the N of its code is zero.
+use mathlib.Core.Bool.{Bool, _&&_, cond}
+use mathlib.Core.List.{List, [], _∷_, _++_}
+use Prim.Native.Nat.{ℕ, _+_, _^_}
+use lib.Dec.{leb, eqb}
+use lib.IntN.{_+ℤ_}
+use lib.ListN.{getD, take, drop}
+use Rattle.laws.specs.Table.{table}
+use Rattle.refusal.specs.declared.Refusal.{Refusal}
+use Rattle.refusal.specs.declared.Refusal.the-variants.{Alone}
+use Rattle.arrays.specs.Sizes.{deepest}
+use Rattle.code.specs.declared.Code.{Code}
+use Rattle.code.specs.Code.{codeLength}
+use Rattle.channel.specs.Channel.{channelValue, byteOf, clip, firstOutside, channelRefusals}
+use Rattle.hearing.specs.declared.Hearing.{Hearing}
+use Rattle.hearing.specs.Padded.{padded, allZero}
+
+-- a hearing by its values and its count
+abbrev pub hearingOf : List ℕ → ℕ → Hearing
+hearingOf values count = record { values = padded (2 ^ deepest) values; count = count }
+
+-- the N combined values
+abbrev pub combined : Code → Hearing → List ℕ
+combined c h = take (codeLength c) (h .values)
+
+-- "starting at zero": before the first add, and what "Clearing returns zeros and count 0" returns
+abbrev pub fresh : Hearing
+fresh = hearingOf [] 0
+
+-- the sum of two values, clipped to −31..31
+abbrev pub clippedSum : ℕ → ℕ → ℕ
+clippedSum a b = byteOf (clip (channelValue a +ℤ channelValue b))
+
+-- "Adding a vector adds value by value and clips to −31..31"
+abbrev pub clippedSums : ℕ → List ℕ → List ℕ → List ℕ
+clippedSums size values channel = table (λ i. clippedSum (getD values i 0) (getD channel i 0)) size
+
+abbrev pub addedTo : Code → Hearing → List ℕ → Hearing
+addedTo c h channel = hearingOf (clippedSums (codeLength c) (h .values) channel) (h .count + 1)
+
+-- "The add applies 12 and 13 to its vector. It refuses, as 27 after 13, a hearing when the count is 255."
+abbrev pub addRefusals : Code → ℕ → List ℕ → List (Bool × Refusal)
+addRefusals c count channel = channelRefusals c channel ++ ((eqb count 255, Alone 27) ∷ [])
+
+-- the place from which on all values are zero: the first where the count is 0, else N
+abbrev pub zeroFrom : Code → ℕ → ℕ
+zeroFrom c count = cond (eqb count 0) 0 (codeLength c)
+
+-- Which values and count some adds and clears leave under a code: a count of at most 255, values in −31..31, and zeros from `zeroFrom` on.
+-- `held-after` and `left-by-some` of crate `repeats` prove that these are the ones.
+abbrev pub isHearing : Code → Hearing → Bool
+isHearing c h =
+    leb (h .count) 255 && (allZero (drop (zeroFrom c (h .count)) (h .values)) && eqb (firstOutside (combined c h)) (codeLength c))

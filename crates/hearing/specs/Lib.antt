@@ -1,0 +1,3 @@
+pub mod Padded
+pub mod Hearing
+pub mod Contracts

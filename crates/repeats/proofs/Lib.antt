@@ -1,0 +1,6 @@
+pub mod Descriptions
+pub mod Adding
+pub mod HeldAfter
+pub mod Refused
+pub mod Buffer
+pub mod Left

@@ -1,0 +1,1 @@
+// What a hearing holds after any list of adds and clears; see specs/ and proofs/.

@@ -1,0 +1,186 @@
+-- Document 02, request 2.6: two weak hearings of one frame, of which neither decodes with the largest T, by computation; and what is held after
+-- both, from the theorems, whose premises are met.
+use mathlib.Core.Path.{_≡_, refl, sym, ap, _∙_, subst}
+use mathlib.Core.Bool.{Bool, true, false, _&&_}
+use mathlib.Core.List.{List, [], _∷_, map, map-map}
+use Prim.Native.Nat.{ℕ, zero, suc, _-_, _^_, _<_, _≤_}
+use native.Mathlib.Omega.{arith}
+use borrow.Author.Tests.{ltb-true}
+use lib.Dec.{ltb}
+use lib.IntN.{ℤ, natAbs}
+use lib.ListN.{length, getD, replicate, length-replicate, List·getD-map}
+use Rattle.laws.specs.First.{firstWhere}
+use Rattle.laws.specs.Table.{table}
+use Rattle.laws.proofs.Each.{Each, each-append}
+use Rattle.laws.proofs.Table.{getD-table}
+use Rattle.refusal.specs.Judge.{judge, refusedOr}
+use Rattle.arrays.specs.Sizes.{deepest}
+use Rattle.bits.specs.Bit.{number}
+use Rattle.bits.specs.Mask.{onesBelow}
+use Rattle.bits.specs.Packing.{packed, unpacked}
+use Rattle.code.specs.Description.{describeUpTo}
+use Rattle.crc.specs.Check.{checkOf}
+use Rattle.transform.specs.Transform.{covers, parity, transformed, xors}
+use Rattle.placing.specs.Place.{taken}
+use Rattle.values.specs.Values.{hard, f, g, leftValues, rightValues}
+use Rattle.channel.specs.Channel.{channelValue, channelValues, firstOutside}
+use Rattle.channel.proofs.Outside.{each-inside}
+use Rattle.tree.specs.Node.{node}
+use Rattle.order.specs.Order.{information, insert, ordered}
+use Rattle.run.specs.declared.Decoded.the-variants.{Accepted, Failed}
+use Rattle.run.specs.Trials.{run}
+use Rattle.run.specs.WellFormed.{WellFormed}
+use Rattle.flip.specs.Decode.{decodedBy, decodedWith, decodedFull, decodedRestarted}
+use Rattle.demands.specs.Noiseless.{Received}
+use Rattle.demands.proofs.NoiselessDecoding.{noiseless-decoding}
+use Rattle.sets.proofs.Examples.{wideD, wideCode, vector}
+use Rattle.hearing.specs.Hearing.{hearingOf, combined}
+use Rattle.hearing.proofs.Zeros.{and-true, length-padded}
+use Rattle.state.specs.declared.State.{State}
+use Rattle.state.specs.State.{longestDescription, stateOf, descriptionOf, opened, hearingFull, hearingRestarted}
+use Rattle.lent.specs.Lent.{hearingSize, stateIn, openedIn, fullIn, restartedIn}
+use Rattle.repeats.specs.Repeats.{Call, add, clear, after, acceptedIn, Holds, bufferAfter}
+use Rattle.repeats.specs.Claims.{Sized}
+use Rattle.repeats.proofs.Descriptions.{code-of}
+use Rattle.repeats.proofs.Adding.{Inside, each-zero, heard-hearing}
+use Rattle.repeats.proofs.HeldAfter.{held-after}
+use Rattle.repeats.proofs.Left.{left-by-some}
+use Rattle.repeats.proofs.Buffer.{buffer-after}
+use Rattle.vectors.proofs.Sets.{describes, encodes, small}
+
+-- 9, 3, −21, 9, 13, 8, −3, −17
+abbrev pub firstV : List ℕ
+firstV = 0x09 ∷ 0x03 ∷ 0xEB ∷ 0x09 ∷ 0x0D ∷ 0x08 ∷ 0xFD ∷ 0xEF ∷ []
+
+-- −10, 3, 10, 12, −9, −12, 9, −17
+abbrev pub secondV : List ℕ
+secondV = 0xF6 ∷ 0x03 ∷ 0x0A ∷ 0x0C ∷ 0xF7 ∷ 0xF4 ∷ 0x09 ∷ 0xEF ∷ []
+
+-- their sums: −1, 6, −11, 21, 4, −4, 6, and −34, clipped to −31
+abbrev pub sumsV : List ℕ
+sumsV = 0xFF ∷ 0x06 ∷ 0xF5 ∷ 0x15 ∷ 0x04 ∷ 0xFC ∷ 0x06 ∷ 0xE1 ∷ []
+
+-- T = 5 is the largest that 14 allows; with a smaller one fewer of the same trials are made. Whatever byte the output held
+abbrev pub Neither : ℕ → List ℕ → Type 0
+Neither byte v =
+    (decodedFull wideD v 5 (byte ∷ []) ≡ (Failed 5 120, byte ∷ [])) × (decodedRestarted wideD v 5 (byte ∷ []) ≡ (Failed 5 50, byte ∷ []))
+
+pub neither-decodes : (byte : ℕ) → Neither byte firstV × Neither byte secondV
+unfolding firstWhere table judge refusedOr number onesBelow packed describeUpTo checkOf covers parity transformed xors taken f g leftValues rightValues channelValue node information insert ordered run decodedBy decodedWith
+neither-decodes byte = ((refl, refl), (refl, refl))
+
+-- another frame is heard and cleared; then both hearings, and between them a vector that is too short, and one with a value out of range
+abbrev pub calls : List Call
+calls = add vector ∷ clear ∷ add firstV ∷ add (0x01 ∷ []) ∷ add (0x20 ∷ 0 ∷ 0 ∷ 0 ∷ 0 ∷ 0 ∷ 0 ∷ 0 ∷ []) ∷ add secondV ∷ []
+
+both-accepted : acceptedIn wideCode [] calls ≡ firstV ∷ secondV ∷ []
+unfolding firstWhere judge refusedOr channelValue
+both-accepted = refl
+
+-- whatever state holds both
+module _ (s : State) (h : Holds wideD wideCode s (firstV ∷ secondV ∷ [])) where
+  abbrev held : List ℕ
+  held = combined wideCode (s .hearing)
+
+  abbrev sums : List ℤ
+  sums = channelValues sumsV
+
+  values : channelValues held ≡ sums
+  unfolding channelValue table
+  values = h .values-are
+
+  -- they have the signs of the codeword `A5` of payload `80`
+  signs : map (λ b. hard (channelValue b)) held ≡ unpacked (0xA5 ∷ []) 8
+  unfolding channelValue table unpacked
+  signs = sym (map-map hard channelValue held) ∙ ap (map hard) values
+
+  strengths : map (λ b. ltb 0 (natAbs (channelValue b))) held ≡ table (λ _. true) 8
+  unfolding channelValue table
+  strengths = sym (map-map (λ z. ltb 0 (natAbs z)) channelValue held) ∙ ap (map (λ z. ltb 0 (natAbs z))) values
+
+  received : Received 8 (0xA5 ∷ []) held
+  unfolding channelValue
+  received = record {
+    sign = λ j l. sym (List·getD-map (λ b. hard (channelValue b)) held j 0) ∙ ap (λ (x : List ℕ). getD x j 0) signs;
+    strength = λ j l.
+        ltb-true 0 (natAbs (channelValue (getD held j 0)))
+        (sym (List·getD-map (λ b. ltb 0 (natAbs (channelValue b))) held j 0) ∙ ap (λ (x : List Bool). getD x j false) strengths
+        ∙ getD-table (λ _. true) 8 j false l);
+  }
+
+  -- for every T, whatever byte the output held
+  both-decode : (T byte : ℕ) → 1 ≤ T → T ≤ 5
+      → (hearingFull s T (byte ∷ []) ≡ (Accepted 1 24, 0x80 ∷ [])) × (hearingRestarted s T (byte ∷ []) ≡ (Accepted 1 24, 0x80 ∷ []))
+  both-decode T byte least most =
+      let well : WellFormed wideCode held T (byte ∷ []) = record {
+        channel-size = h .size-is;
+        in-range = h .in-range ∙ sym (h .size-is);
+        limit-least = least;
+        limit-most = most;
+        output-size = refl;
+      } in
+      let x = noiseless-decoding wideD wideCode (0x80 ∷ []) (0 ∷ []) (0xA5 ∷ []) held T (byte ∷ []) describes small encodes received well in
+      (h .full-is T (byte ∷ []) ∙ x .0, h .restarted-is T (byte ∷ []) ∙ x .1)
+
+-- in Rattle, where the state goes from call to call
+abbrev pub heardTwice : State
+heardTwice = after (opened wideD .state) calls
+
+holds-both : Holds wideD wideCode heardTwice (firstV ∷ secondV ∷ [])
+holds-both = subst (Holds wideD wideCode heardTwice) both-accepted (held-after wideD wideCode calls describes)
+
+pub twice-counted : heardTwice .hearing .count ≡ 2
+twice-counted = holds-both .count-is
+
+pub twice-decodes : (T byte : ℕ) → 1 ≤ T → T ≤ 5
+    → (hearingFull heardTwice T (byte ∷ []) ≡ (Accepted 1 24, 0x80 ∷ [])) × (hearingRestarted heardTwice T (byte ∷ []) ≡ (Accepted 1 24, 0x80 ∷ []))
+twice-decodes = both-decode heardTwice holds-both
+
+-- and for C, in any buffer of the right size; there are such buffers
+module _ (b : List ℕ) (size : length b ≡ hearingSize) where
+  abbrev buffer : List ℕ
+  buffer = bufferAfter (openedIn wideD b .1) calls
+
+  pub buffer-decodes : (T byte : ℕ) → 1 ≤ T → T ≤ 5
+      → (fullIn buffer T (byte ∷ []) ≡ (Accepted 1 24, 0x80 ∷ [])) × (restartedIn buffer T (byte ∷ []) ≡ (Accepted 1 24, 0x80 ∷ []))
+  buffer-decodes =
+      both-decode (stateIn buffer)
+      (subst (λ (s : State). Holds wideD wideCode s (firstV ∷ secondV ∷ [])) (sym (buffer-after wideD b wideCode calls describes size)) holds-both)
+
+pub a-buffer : length (replicate {A = ℕ} hearingSize 0) ≡ hearingSize
+a-buffer = length-replicate {A = ℕ} hearingSize 0
+
+-- ---- a state that is not refused is left by some calls: the one with these sums and count 2
+
+abbrev pub twice : State
+twice = stateOf wideD (hearingOf sumsV 2)
+
+sums-outside : firstOutside sumsV ≡ 8
+unfolding firstWhere channelValue
+sums-outside = refl
+
+inside : Inside 8 sumsV
+inside = record { size-is = refl; at = each-inside sumsV (omega (arith, sums-outside)) }
+
+-- bytes, one by one
+below : List ℕ → Bool
+below [] = true
+below (b ∷ v) = ltb b 256 && below v
+
+each-below : (v : List ℕ) → below v ≡ true → Each (λ b. b < 256) 0 v
+unfolding below
+each-below [] e i = omega arith
+each-below (b ∷ v) e zero = ltb-true b 256 (and-true (ltb b 256) (below v) e .0)
+each-below (b ∷ v) e (suc i) = each-below v (and-true (ltb b 256) (below v) e .1) i
+
+sized : Sized twice
+unfolding below
+sized = record {
+  description-size = length-padded longestDescription wideD (omega arith);
+  values-size = length-padded (2 ^ deepest) sumsV (omega arith);
+  bytes = each-append (λ b. b < 256) 0 sumsV (replicate (2 ^ deepest - 8) 0) (each-below sumsV refl) (each-zero (λ b. b < 256) (omega arith) (2 ^ deepest - 8));
+}
+
+pub twice-left : (list : List Call) × (after (opened (descriptionOf twice) .state) list ≡ twice)
+twice-left =
+    left-by-some twice wideCode sized (code-of wideD wideCode describes (hearingOf sumsV 2) (heard-hearing wideCode sumsV inside 1 (omega arith)))
