@@ -40,13 +40,13 @@ pub fn is_zero_from(bytes: &[u8], start: usize) -> bool
     requires { ⌜ start ≤ length (now bytes) ⌝ }
     ensures { λ b. ⌜ b ≡ allZero (drop start (now (bytes .entry))) ⌝ }
 {
-    let mut zero = true;
+    let mut any = 0u8;
     let mut i = start;
     while i < bytes.len() {
-        zero = zero & (bytes[i] == 0);
+        any = any | bytes[i];
         i += 1;
     }
-    zero
+    any == 0
 }
 
 fn clamped(x: u32) -> u32

@@ -1,7 +1,7 @@
 -- Document 02, request 2.6, for C: a state in a buffer that the caller lends. How its bytes are laid out is this codec's own choice: the
 -- description with the zeros that follow it, the count, and the values with the zeros that follow them.
 use mathlib.Core.Bool.{cond}
-use mathlib.Core.List.{List, [], _∷_, _++_}
+use mathlib.Core.List.{List, _∷_, _++_}
 use Prim.Native.Nat.{ℕ, _+_, _^_}
 use lib.Dec.{eqb}
 use lib.ListN.{length, getD, take, drop}

@@ -22,7 +22,7 @@ use Rattle.code.specs.declared.Description.the-variants.{Accepted as Coding}
 use Rattle.code.specs.Code.{codeLength}
 use Rattle.code.specs.Description.{word, describe}
 use Rattle.code.proofs.Facts.{described}
-use Rattle.channel.specs.Channel.{channelValue, byteOf, clip, channelRefusals, firstOutside}
+use Rattle.channel.specs.Channel.{channelValue, byteOf, clip, channelRefusals}
 use Rattle.channel.proofs.Bytes.{byte-channel}
 use Rattle.channel.proofs.Judge.{channel-fine}
 use Rattle.channel.proofs.Outside.{each-inside}

@@ -9,7 +9,7 @@ use run::Decoded;
 use run::Plan;
 use trial::Restart;
 ghost use mathlib.Core.Path.{_≡_};
-ghost use Prim.Native.Nat.{_+_, _≤_, min};
+ghost use Prim.Native.Nat.{_≤_, min};
 ghost use lib.ListN.{length, take, drop};
 ghost use Rattle.arrays.specs.Sizes.{deepest};
 ghost use Rattle.code.specs.Code.{codeLength};

@@ -22,7 +22,7 @@ use Rattle.state.specs.Contracts.{stateBy}
 use Rattle.state.proofs.States.{state-is, is-hearing}
 use Rattle.lent.specs.declared.Kept.{Kept}
 use Rattle.lent.specs.declared.Kept.the-variants.{Done}
-use Rattle.lent.specs.Lent.{hearingSize, stateIn, bytesOf, kept}
+use Rattle.lent.specs.Lent.{hearingSize, stateIn, kept}
 use Rattle.lent.proofs.InPlace.{code-size, part, parts, state-parts, added-bytes}
 use Rattle.lent.proofs.add_under.Statement.{statement}
 use Rattle.lent.proofs.add_under.Tie as tie

@@ -1,10 +1,9 @@
 -- `lent::code_in` meets its contract.
-use mathlib.Core.Path.{_≡_, sym, ap, _∙_}
+use mathlib.Core.Path.{sym, ap, _∙_}
 use mathlib.Core.Bool.{Bool, cond}
 use borrow.Author.Needs.{needs}
 use borrow.Author.Tests.{ne-eqb}
 use denote.Ref.{now}
-use Rattle.state.specs.declared.State.{State}
 use Rattle.state.specs.State.{noState, codeOfState}
 use Rattle.state.proofs.States.{no-code}
 use Rattle.lent.specs.Lent.{stateAt}

@@ -1,11 +1,11 @@
 -- `lent::read_at` meets its contract: each array is filled whole.
-use mathlib.Core.Path.{_≡_, ap, _∙_}
+use mathlib.Core.Path.{_∙_}
 use mathlib.Core.List.{List}
 use Prim.Native.Nat.{ℕ, _+_, _^_}
 use native.Mathlib.Omega.{arith}
 use borrow.Author.Needs.{needs}
 use denote.Ref.{now}
-use lib.ListN.{length, getD, take, drop, replicate, length-drop, length-replicate}
+use lib.ListN.{getD, take, drop, replicate, length-drop}
 use lib.Seq.{take-all, length-take-le}
 use Rattle.laws.proofs.Segment.{splice-whole, length-segment}
 use Rattle.arrays.specs.Sizes.{deepest}

@@ -5,7 +5,7 @@ use Prim.Native.Nat.{ℕ}
 use native.Mathlib.Omega.{arith}
 use borrow.Author.Needs.{needs}
 use denote.Ref.{now}
-use lib.ListN.{length, drop, take, length-take}
+use lib.ListN.{length, drop, length-take}
 use Rattle.code.specs.Description.{word}
 use Rattle.hearing.specs.Padded.{allZero}
 use Rattle.state.proofs.ends_in_zeros.Statement.{statement}

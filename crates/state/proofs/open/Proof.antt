@@ -1,11 +1,10 @@
 -- `state::open` meets its contract: the definition goes by what the description says.
-use mathlib.Core.Path.{_≡_, sym, ap, _∙_}
-use native.Mathlib.Omega.{arith}
+use mathlib.Core.Path.{sym, ap, _∙_}
 use borrow.Author.Needs.{needs}
 use denote.Ref.{now}
 use Rattle.refusal.specs.declared.Judgement.the-variants.{Fine}
 use Rattle.code.specs.declared.Description.{Description}
-use Rattle.code.specs.Description.{describe, onDescription}
+use Rattle.code.specs.Description.{onDescription}
 use Rattle.code.proofs.Facts.{described}
 use Rattle.code.proofs.Room.{description-most}
 use Rattle.hearing.specs.Hearing.{fresh}
