@@ -49,6 +49,7 @@ pub fn is_zero_from(bytes: &[u8], start: usize) -> bool
     any == 0
 }
 
+// The nearest number in 31..93: −31..31, 62 too large.
 fn clamped(x: u32) -> u32
     ensures { λ r. ⌜ r ≡ max 31 (min 93 x) ⌝ }
 {
@@ -61,7 +62,7 @@ fn clamped(x: u32) -> u32
     x
 }
 
-// The sum of two values, clipped to −31..31. It is 62 too large on the way, and so never negative.
+// The sum of two values, clipped to −31..31. On the way it is 62 too large, and so never negative.
 fn clipped_sum(a: u8, b: u8) -> u8
     requires { ⌜ (natAbs (channelValue a) ≤ 31) × (natAbs (channelValue b) ≤ 31) ⌝ }
     ensures { λ s. ⌜ s ≡ clippedSum a b ⌝ }

@@ -1,24 +1,17 @@
 -- The bytes of a state: what was written is read back.
 use mathlib.Core.Path.{_≡_, refl, sym, ap, _∙_}
-use mathlib.Core.Bool.{Bool, true, false, cond}
+use mathlib.Core.Bool.{Bool, cond}
 use mathlib.Core.List.{List, [], _∷_, _++_, append-assoc}
 use Prim.Native.Nat.{ℕ, _+_, _^_}
 use native.Mathlib.Omega.{arith}
-use borrow.Author.Tests.{eqb-true, eq-eqb}
-use lib.Dec.{eqb}
+use borrow.Author.Tests.{eq-eqb}
 use lib.ListN.{length, take, drop, set, length-append, take-append-drop}
 use lib.Seq.{take-at, drop-at, getD-at, drop-cons, append-snoc}
 use Rattle.laws.specs.Contracts.{splice}
 use Rattle.laws.proofs.Segment.{set-splice, splice-next, splice-whole, length-splice}
-use Rattle.refusal.specs.declared.Judgement.the-variants.{Fine}
 use Rattle.arrays.specs.Sizes.{deepest}
-use Rattle.code.specs.declared.Code.{Code}
-use Rattle.code.specs.declared.Description.{Description}
-use Rattle.code.specs.Description.{onDescription}
 use Rattle.state.specs.declared.State.{State}
-use Rattle.state.specs.declared.Heard.{Heard}
-use Rattle.state.specs.State.{longestDescription, noState, codeOfState, refusedIn}
-use Rattle.state.proofs.States.{no-code}
+use Rattle.state.specs.State.{longestDescription, noState}
 use Rattle.lent.specs.Lent.{hearingSize, bytesOf, stateAt, stateIn}
 use Rattle.lent.specs.Claims.{ReadWritten, WrittenRead}
 
@@ -59,15 +52,3 @@ pub written-read : WrittenRead
 written-read b nb =
     ap bytesOf (state-at b nb) ∙ ap (λ (l : List ℕ). take longestDescription b ++ l) (sym (drop-cons b longestDescription 0 (omega arith)))
     ∙ take-append-drop longestDescription b
-
--- an operation on a state is not refused only where the buffer has the right size
-pub fine-size : (b : List ℕ) (go : State → Code → Heard) → onDescription (codeOfState (stateIn b)) (refusedIn (stateIn b)) (go (stateIn b)) .judgement ≡ Fine → length b ≡ hearingSize
-fine-size b go = at (eqb (length b) hearingSize) refl
-  where
-    at : (t : Bool) → eqb (length b) hearingSize ≡ t
-        → let s = cond t (stateAt b) noState in onDescription (codeOfState s) (refusedIn s) (go s) .judgement ≡ Fine → length b ≡ hearingSize
-    at true e f = eqb-true (length b) hearingSize e
-    at false e f =
-        let refused = sym (ap (λ (a : Description). onDescription a (refusedIn noState) (go noState) .judgement) no-code) ∙ f in
-        let z : _≡_ {A = ℕ} 0 1 = cc in
-        absurd (omega arith)

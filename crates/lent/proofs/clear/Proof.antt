@@ -7,7 +7,7 @@ use Rattle.hearing.specs.Hearing.{fresh}
 use Rattle.state.specs.declared.Heard.{Heard}
 use Rattle.state.specs.State.{heard, withHearing, cleared}
 use Rattle.lent.specs.Lent.{stateIn, kept}
-use Rattle.lent.proofs.Bytes.{fine-size}
+use Rattle.lent.proofs.InPlace.{fine-size}
 use Rattle.lent.proofs.clear.Statement.{statement}
 use Rattle.lent.proofs.clear.Tie as tie
 
@@ -22,7 +22,8 @@ clear-spec =
     (λ c κs. search needs)
     (λ c κs. search needs)
     (λ c κs e.
-    fine-size (now (c .before .before .before .before .before .args .buffer)) (λ s code. heard Fine (withHearing s fresh))
+    let b = now (c .before .before .before .before .before .args .buffer) in
+    fine-size b (λ code. heard Fine (withHearing (stateIn b) fresh))
     (sym (ap (λ (a : Heard). a .judgement) (answer (c .before))) ∙ e))
     (λ c. search needs)
     (λ c.

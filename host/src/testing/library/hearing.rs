@@ -16,20 +16,6 @@ extern "C" {
         channel_len: usize,
     ) -> u64;
     fn polar_hearing_clear(state: *mut u8, state_len: usize) -> u64;
-    fn polar_hearing_decode_full(
-        state: *const u8,
-        state_len: usize,
-        trial_limit: u32,
-        payload: *mut u8,
-        payload_len: usize,
-    ) -> u64;
-    fn polar_hearing_decode_restarted(
-        state: *const u8,
-        state_len: usize,
-        trial_limit: u32,
-        payload: *mut u8,
-        payload_len: usize,
-    ) -> u64;
 }
 
 /// Writes the state of a fresh hearing; the answer is as in `number::hearing_number`.
@@ -47,12 +33,25 @@ pub fn hearing_clear(state: &mut [u8]) -> u64 {
     unsafe { call::clear(polar_hearing_clear, state) }
 }
 
-/// Writes the packed payload; the answer is as in `number::decode_number`.
-pub fn hearing_decode_full(state: &[u8], limit: u32, payload: &mut [u8]) -> u64 {
-    unsafe { call::decode_hearing(polar_hearing_decode_full, state, limit, payload) }
+/// Declares an export that decodes, and a function that calls it.
+macro_rules! decoder {
+    ($export:ident, $name:ident) => {
+        extern "C" {
+            fn $export(
+                state: *const u8,
+                state_len: usize,
+                trial_limit: u32,
+                payload: *mut u8,
+                payload_len: usize,
+            ) -> u64;
+        }
+
+        /// Writes the packed payload; the answer is as in `number::decode_number`.
+        pub fn $name(state: &[u8], limit: u32, payload: &mut [u8]) -> u64 {
+            unsafe { call::decode_hearing($export, state, limit, payload) }
+        }
+    };
 }
 
-/// The same, restarted.
-pub fn hearing_decode_restarted(state: &[u8], limit: u32, payload: &mut [u8]) -> u64 {
-    unsafe { call::decode_hearing(polar_hearing_decode_restarted, state, limit, payload) }
-}
+decoder!(polar_hearing_decode_full, hearing_decode_full);
+decoder!(polar_hearing_decode_restarted, hearing_decode_restarted);
