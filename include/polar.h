@@ -5,7 +5,7 @@
  * other; input and output must not overlap, and nothing else may write any of them during the call. The state of a hearing is an output
  * where it is no const. A pointer may be NULL where its length is 0. There is no global state and no allocation: all functions are
  * reentrant and may be called from several threads at once. A call takes at most 8 KiB of stack for encode, 52 KiB for resume, 72 KiB for
- * the decoders, 92 KiB for those by sets, and 72 KiB for hearings, whatever the code.
+ * the decoders, 92 KiB for those by sets, 72 KiB for hearings, and 76 KiB for preview, whatever the code.
  *
  * Each answer is one number: bits 0-7 hold the refusal, or 0 for acceptance; bits 8-31 the trial, refusal 16's number of trials, the count
  * of a hearing, or a refusal's first index; bits 32-63 the steps. What an answer lacks is 0. A refusal writes nothing. Where several
@@ -138,6 +138,10 @@ uint64_t polar_decode_sets_restarted(const uint8_t *description, size_t descript
  *
  * decode_full and decode_restarted decode the combined values as polar_decode_full and polar_decode_restarted do, and only read the state:
  * further vectors may be added after them. With count 0 they decode N zero values, which are silence, as above. Refusals: 40, 14, 15, 16.
+ *
+ * preview tries a vector before it is kept: its answer and payload are those of add and then decode_restarted on a copy of the state. The
+ * state itself is only read, and holds afterwards what it held before. A refusal of the add is the answer, and nothing is decoded.
+ * Refusals: 40, 12, 13, 27, 14, 15, 16.
  */
 uint64_t polar_hearing_open(const uint8_t *description, size_t description_len,
                             uint8_t *state, size_t state_len);
@@ -150,6 +154,10 @@ uint64_t polar_hearing_decode_full(const uint8_t *state, size_t state_len,
 uint64_t polar_hearing_decode_restarted(const uint8_t *state, size_t state_len,
                                         uint32_t trial_limit,
                                         uint8_t *payload, size_t payload_len);
+uint64_t polar_hearing_preview(const uint8_t *state, size_t state_len,
+                               const uint8_t *channel, size_t channel_len,
+                               uint32_t trial_limit,
+                               uint8_t *payload, size_t payload_len);
 
 #ifdef __cplusplus
 }

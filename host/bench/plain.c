@@ -30,10 +30,11 @@ struct table {
     adder *hearing_add;
     clearer *hearing_clear;
     hearing_decoder *hearing_decode_full, *hearing_decode_restarted;
+    decoder *hearing_preview;
     quantiser *quantise;
 };
 
 extern const struct table TABLE;
 const struct table TABLE = {encode, resume, decode_full, decode_half, decode_restarted, decode_sets_full, decode_sets_half,
                             decode_sets_restarted, decode_sets_by_clock, hearing_open, hearing_add, hearing_clear,
-                            hearing_decode_full, hearing_decode_restarted, quantise};
+                            hearing_decode_full, hearing_decode_restarted, hearing_preview, quantise};

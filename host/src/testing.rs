@@ -1,10 +1,10 @@
 //! What the tests need: `library` calls the codec, `guard` lends buffers to it, `lent` does both,
-//! `decoders`, `sets` and `hearing` hold the library to the reference, `stack` measures what a call
-//! takes, `program` runs `receive`; `random`, `samples`, `call` and `faulty` make inputs, `cab` calls on
-//! a hearing, `streams` what `receive` reads, `passing` frames that a chosen trial accepts, `paper` has
-//! those that the documents name, `examples` those of flip sets by hand, `hex` reads bytes, `met` counts
-//! refusals, and `outcomes` what became of frames; `files` has the repository's files, and `belief`
-//! what must be believed of the definitions.
+//! `sealed` has memory that cannot be written, `decoders`, `sets` and `hearing` hold the library to the
+//! reference, `stack` measures what a call takes, `program` runs `receive`; `random`, `samples`, `call`
+//! and `faulty` make inputs, `cab` calls on a hearing, `streams` what `receive` reads, `passing` frames
+//! that a chosen trial accepts, `paper` has those that the documents name, `examples` those of flip sets
+//! by hand, `hex` reads bytes, `met` counts refusals, and `outcomes` what became of frames; `files` has
+//! the repository's files, and `belief` what must be believed of the definitions.
 
 pub mod belief;
 pub mod cab;
@@ -25,6 +25,7 @@ pub mod passing;
 pub mod program;
 pub mod random;
 pub mod samples;
+pub mod sealed;
 pub mod sets;
 pub mod stack;
 pub mod streams;

@@ -128,6 +128,26 @@ no bytes: refusal 40, value 0, steps 0,
 damaged: refusal 40, value 0, steps 0, ee
 ";
 
+/// What previews give where nothing is held, where V is, in a full hearing and in a damaged one.
+const PREVIEWED: &str = "\
+open: refusal 0, value 0, steps 0,
+right signs tried, T = 1: refusal 0, value 1, steps 24, a0
+add V: refusal 0, value 1, steps 0,
+right signs tried, T = 1: refusal 0, value 1, steps 24, a0
+V tried, T = 1: refusal 16, value 1, steps 24, ee
+V tried, T = 2: refusal 0, value 2, steps 32, 00
+V tried, T = 6: refusal 14, value 0, steps 0, ee
+32 tried, T = 6: refusal 13, value 7, steps 0, ee
+seven values tried, T = 6: refusal 12, value 0, steps 0, ee
+V heard, T = 1: refusal 16, value 1, steps 24, ee
+add right signs: refusal 0, value 2, steps 0,
+both heard, T = 1: refusal 0, value 1, steps 24, a0
+add 255 times: refusal 0, value 255, steps 0,
+V tried, T = 6: refusal 27, value 0, steps 0, ee
+32 tried, T = 6: refusal 13, value 7, steps 0, ee
+damaged, seven values tried, T = 6: refusal 40, value 0, steps 0, ee
+";
+
 /// What is printed with fewer steps.
 fn fewer(text: &str, steps: &[(&str, &str)]) -> String {
     let replace = |text: String, (full, fewer): &(&str, &str)| text.replace(full, fewer);
@@ -161,6 +181,7 @@ fn rows_of_the_paper() {
         ),
         HEARD,
         &fewer(HEARD, &[("48,", "32,")]),
+        PREVIEWED,
     ]
     .concat();
     for language in languages() {
@@ -179,6 +200,11 @@ fn the_example_of_a_repeat() {
 }
 
 #[test]
+fn the_example_of_a_preview() {
+    assert_eq!(run(C, "examples", "preview"), text("examples/preview.out"));
+}
+
+#[test]
 fn sizes_of_the_longest_code() {
     let longest_payload = packed_length(LONGEST - 1);
     let expected = format!(
@@ -187,7 +213,9 @@ fn sizes_of_the_longest_code() {
          encode: refusal 0\n\
          resume: refusal 0\n\
          decode: refusal 0, trial 1, the payload sent\n\
-         hearing: refusals 0, 0, count 1\n\
+         hearing: refusal 0\n\
+         preview: refusal 0, trial 1, the payload sent\n\
+         add: refusal 0, count 1\n\
          decode: refusal 0, trial 1, the payload sent\n"
     );
     for language in languages() {

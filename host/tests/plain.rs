@@ -4,7 +4,7 @@ use host::bench::{others, Codec};
 use host::reference::description::LONGEST_DESCRIPTION;
 use host::reference::encode::encode;
 use host::reference::flip::{decode, Accepted};
-use host::reference::hearing::state::{add_in, clear_in, decode_in, open_in};
+use host::reference::hearing::state::{add_in, clear_in, decode_in, open_in, preview_in};
 use host::reference::number::{
     decode_number, encode_number, hearing_number, quantise_numbers, resume_number,
 };
@@ -109,6 +109,10 @@ fn check_hearing(call: &Call, state: &[u8]) -> Vec<u8> {
             decoder(codec)(state, limit, output)
         });
     }
+    let preview = |output: &mut [u8]| preview_in(state, channel, limit, output);
+    compare(call, preview, |codec, output| {
+        (codec.hearing_preview)(state, channel, limit, output)
+    });
     let open = |state: &mut [u8]| open_in(d, state);
     let add = |state: &mut [u8]| add_in(state, channel);
     changed(state, open, |codec, state| (codec.hearing_open)(d, state));

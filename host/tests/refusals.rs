@@ -53,6 +53,7 @@ const HEARING_OPEN: [usize; 1] = [40];
 const HEARING_ADD: [usize; 4] = [40, 12, 13, 27];
 const HEARING_CLEAR: [usize; 1] = [40];
 const HEARING_DECODERS: [usize; 4] = [40, 14, 15, 16];
+const HEARING_PREVIEW: [usize; 7] = [40, 12, 13, 27, 14, 15, 16];
 
 /// These carry the first index at fault.
 const WITH_INDEX: [usize; 3] = [13, 18, 22];
@@ -197,4 +198,5 @@ fn hearings_in_the_header() {
     assert_eq!(of("clear returns"), (HEARING_CLEAR.to_vec(), ""));
     let decoders = of("decode_full and decode_restarted");
     assert_eq!(decoders, (HEARING_DECODERS.to_vec(), ""));
+    assert_eq!(of("preview tries"), (HEARING_PREVIEW.to_vec(), ""));
 }

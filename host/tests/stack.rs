@@ -16,6 +16,7 @@ const RESUME: usize = 52 * KIB;
 const DECODERS: usize = 72 * KIB;
 const SET_DECODERS: usize = 92 * KIB;
 const HEARINGS: usize = 72 * KIB;
+const PREVIEW: usize = 76 * KIB;
 
 /// What a thread may take for its own start.
 const THREAD: usize = 16 * KIB;
@@ -135,6 +136,26 @@ fn decode_hearing(d: &[u8], state: &[u8]) {
     }
 }
 
+/// On a hearing that is fresh, and on one that holds a vector.
+#[test]
+fn preview() {
+    let mut random = Random::new(6);
+    for d in descriptions() {
+        let [first, second] = [(); 2].map(|_| samples::channel(&mut random, LONGEST, 31));
+        let mut state = vec![0; HEARING_SIZE];
+        assert_eq!(library::hearing_open(&d, &mut state), 0);
+        preview_on(&d, &state, &first);
+        assert_eq!(library::hearing_add(&mut state, &first) & 0xFF, 0);
+        preview_on(&d, &state, &second);
+    }
+}
+
+fn preview_on(d: &[u8], state: &[u8], channel: &[u8]) {
+    at_limits(PREVIEW, "preview", d, |limit, payload| {
+        library::hearing_preview(state, channel, limit, payload)
+    });
+}
+
 #[test]
 fn decoders_with_flip_sets() {
     let all: [(&str, library::SetDecoder); 3] = [
@@ -168,10 +189,11 @@ fn set_decoder(name: &str, decode: library::SetDecoder, d: &[u8], channel: &[u8]
 
 #[test]
 fn header_and_readme_say_so() {
-    let [encode, resume, decoders, set_decoders, hearings] =
-        [ENCODE, RESUME, DECODERS, SET_DECODERS, HEARINGS].map(|most| most / KIB);
+    let [encode, resume, decoders, set_decoders, hearings, preview] =
+        [ENCODE, RESUME, DECODERS, SET_DECODERS, HEARINGS, PREVIEW].map(|most| most / KIB);
     let others = format!(
-        "{decoders} KiB for the decoders, {set_decoders} KiB for those by sets, and {hearings} KiB for hearings"
+        "{decoders} KiB for the decoders, {set_decoders} KiB for those by sets, {hearings} KiB for hearings, \
+         and {preview} KiB for preview"
     );
     let words =
         format!("at most {encode} KiB of stack for encode, {resume} KiB for resume, {others}");

@@ -25,7 +25,7 @@ pub enum Kept {
 }
 
 // Where the values stand, and the size of a buffer.
-const VALUES_AT: usize = LONGEST + 1;
+pub const VALUES_AT: usize = LONGEST + 1;
 
 const HEARING_SIZE: usize = VALUES_AT + SIZE;
 
@@ -99,7 +99,7 @@ pub fn open(description: &[u8], buffer: &mut [u8]) -> Kept
 }
 
 // The code of the state in a buffer, or refusal 40.
-fn code_in(buffer: &[u8]) -> Description
+pub fn code_in(buffer: &[u8]) -> Description
     ensures { λ a. ⌜ a ≡ codeOfState (stateIn (now (buffer .entry))) ⌝ }
 {
     if buffer.len() == HEARING_SIZE {

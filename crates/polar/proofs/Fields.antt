@@ -1,9 +1,10 @@
 -- Every answer of every export is read back from its number.
 use Rattle.trial.specs.declared.Restart.the-variants.{Root, Half, After}
+use Rattle.lent.specs.Lent.{stateIn}
 use Rattle.number.proofs.Fields.{number-fields}
 use Rattle.polar.specs.Claims.{ReadBack}
 use Rattle.polar.proofs.Fitting.{encoded-fits, resumed-fits, decoded-fits, sets-fits}
-use Rattle.polar.proofs.Fitting.{opened-fits, added-fits, cleared-fits, heard-fits}
+use Rattle.polar.proofs.Fitting.{opened-fits, added-fits, cleared-fits, heard-fits, previewed-fits}
 
 pub read-back : ReadBack
 read-back = (
@@ -18,6 +19,7 @@ read-back = (
   λ d b. number-fields _ (opened-fits d b),
   λ b channel. number-fields _ (added-fits b channel),
   λ b. number-fields _ (cleared-fits b),
-  λ b limit output. number-fields _ (heard-fits Root b limit output),
-  λ b limit output. number-fields _ (heard-fits After b limit output),
+  λ b limit output. number-fields _ (heard-fits Root (stateIn b) limit output),
+  λ b limit output. number-fields _ (heard-fits After (stateIn b) limit output),
+  λ b channel limit output. number-fields _ (previewed-fits b channel limit output),
 )

@@ -31,8 +31,10 @@ use Rattle.encoder.specs.Encode.{encodingRefusals, encodedBy, encoded}
 use Rattle.tree.proofs.StepsMost.{steps-most}
 use Rattle.resume.specs.Resume.{firstBad, resumingRefusals, resumedBy, resumed}
 use Rattle.trial.specs.declared.Restart.{Restart}
+use Rattle.trial.specs.declared.Restart.the-variants.{After}
 use Rattle.trial.specs.Trial.{trialPasses}
 use Rattle.run.specs.declared.Decoded.{Decoded}
+use Rattle.run.specs.declared.Decoded.the-variants as decode
 use Rattle.run.specs.Trials.{trials, Verdict, passed, failed, run, answerOf}
 use Rattle.flip.specs.Decode.{decodingRefusals, planOf, decodedBy, decodedWith}
 use Rattle.demands.proofs.StepBounds.{Bounded, decoded-bounded}
@@ -43,10 +45,11 @@ use Rattle.hearing.specs.Hearing.{fresh, combined, addedTo, addRefusals, isHear
 use Rattle.hearing.proofs.Adding.{count-most, not-full}
 use Rattle.state.specs.declared.State.{State}
 use Rattle.state.specs.declared.Heard.{Heard}
-use Rattle.state.specs.State.{stateOf, noState, descriptionOf, isState, codeOfState, heard, refusedIn, withHearing, opened, hearingWith}
+use Rattle.state.specs.State.{stateOf, noState, descriptionOf, isState, codeOfState, heard, refusedIn, withHearing, opened, added, hearingWith, hearingRestarted}
 use Rattle.state.proofs.States.{codeBy, state-is, is-hearing}
 use Rattle.lent.specs.declared.Kept.the-variants as keep
-use Rattle.lent.specs.Lent.{hearingSize, stateIn, kept, openedIn, addedIn, clearedIn}
+use Rattle.lent.specs.Lent.{hearingSize, bytesOf, stateIn, kept, openedIn, addedIn, clearedIn}
+use Rattle.preview.specs.Preview.{previewedIn}
 use Rattle.number.specs.Number.{Parts, parts, refusalParts, encodedParts, resumedParts, decodedParts, keptParts}
 use Rattle.number.specs.Contracts.{Fitting}
 
@@ -213,8 +216,21 @@ cleared-fits b =
     let s = stateIn b in
     on-code (KeptFits b) (refusedIn s) (kept-refused b s) (codeOfState s) (state-fits s) (λ c e. kept-fine b (withHearing s fresh) (omega arith))
 
-pub heard-fits : (restart : Restart) (b : List ℕ) (limit : ℕ) (output : List ℕ) → Fits decodedParts (hearingWith (planOf restart limit) (stateIn b) output)
-heard-fits restart b limit output =
-    let s = stateIn b in
+pub heard-fits : (restart : Restart) (s : State) (limit : ℕ) (output : List ℕ) → Fits decodedParts (hearingWith (planOf restart limit) s output)
+heard-fits restart s limit output =
     on-code (Fits decodedParts) _ (λ x f. f) (codeOfState s) (state-fits s)
     (λ c e. decoded-fits restart (descriptionOf s) (combined c (s .hearing)) limit output)
+
+-- a preview: the refusal of the add, or the answer of decoding
+module _ (b channel : List ℕ) (limit : ℕ) (output : List ℕ) where
+  abbrev a : Heard
+  a = added (stateIn b) channel
+
+  previewed-by : (j : Judgement) → Fits keptParts (refusedOr j (λ x. (keep.Refused x, b)) (keep.Done (a .state .hearing .count), bytesOf (a .state)))
+      → Fits decodedParts (refusedOr j (λ x. (decode.Refused x, output)) (hearingRestarted (a .state) limit output))
+  unfolding refusedOr
+  previewed-by Fine f = heard-fits After (a .state) limit output
+  previewed-by (Refused x) f = f
+
+  pub previewed-fits : Fits decodedParts (previewedIn b channel limit output)
+  previewed-fits = previewed-by (a .judgement) (added-fits b channel)

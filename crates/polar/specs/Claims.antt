@@ -6,6 +6,7 @@ use Rattle.resume.specs.Resume.{resumed}
 use Rattle.flip.specs.Decode.{decodedFull, decodedHalf, decodedRestarted}
 use Rattle.sets.specs.DecodeSets.{setsFull, setsHalf, setsRestarted}
 use Rattle.lent.specs.Lent.{openedIn, addedIn, clearedIn, fullIn, restartedIn}
+use Rattle.preview.specs.Preview.{previewedIn}
 use Rattle.number.specs.Number.{encodedParts, resumedParts, decodedParts, keptParts}
 use Rattle.number.specs.Claims.{Read}
 
@@ -25,3 +26,4 @@ ReadBack =
     × ((b : List ℕ) → Read (keptParts (clearedIn b .0)))
     × ((b : List ℕ) (limit : ℕ) (output : List ℕ) → Read (decodedParts (fullIn b limit output .0)))
     × ((b : List ℕ) (limit : ℕ) (output : List ℕ) → Read (decodedParts (restartedIn b limit output .0)))
+    × ((b channel : List ℕ) (limit : ℕ) (output : List ℕ) → Read (decodedParts (previewedIn b channel limit output .0)))

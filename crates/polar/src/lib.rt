@@ -9,6 +9,7 @@ ghost use Rattle.resume.specs.Resume.{resumed};
 ghost use Rattle.flip.specs.Decode.{decodedFull, decodedHalf, decodedRestarted};
 ghost use Rattle.sets.specs.DecodeSets.{setsFull, setsHalf, setsRestarted};
 ghost use Rattle.lent.specs.Lent.{openedIn, addedIn, clearedIn, fullIn, restartedIn};
+ghost use Rattle.preview.specs.Preview.{previewedIn};
 ghost use Rattle.number.specs.Number.{numbered, encodedParts, resumedParts, decodedParts, keptParts};
 
 #[no_mangle]
@@ -142,4 +143,16 @@ pub extern "C" fn polar_hearing_decode_restarted(
     ensures { λ x. ⌜ (x, now (payload .exit)) ≡ numbered decodedParts (restartedIn (now (state .entry)) limit (now (payload .entry))) ⌝ }
 {
     decoded_answer(lent::decode_restarted(state, limit, payload))
+}
+
+#[no_mangle]
+pub extern "C" fn polar_hearing_preview(
+    state: &[u8],
+    channel: &[u8],
+    limit: u32,
+    payload: &mut [u8],
+) -> u64
+    ensures { λ x. ⌜ ((x, now (payload .exit)) ≡ numbered decodedParts (previewedIn (now (state .entry)) (now (channel .entry)) limit (now (payload .entry)))) × (now (state .exit) ≡ now (state .entry)) ⌝ }
+{
+    decoded_answer(preview::preview_in(state, channel, limit, payload))
 }

@@ -109,7 +109,7 @@ module _ (s : State) (h : Holds wideD wideCode s (firstV ∷ secondV ∷ [])) wh
   }
 
   -- for every T, whatever byte the output held
-  both-decode : (T byte : ℕ) → 1 ≤ T → T ≤ 5
+  pub both-decode : (T byte : ℕ) → 1 ≤ T → T ≤ 5
       → (hearingFull s T (byte ∷ []) ≡ (Accepted 1 24, 0x80 ∷ [])) × (hearingRestarted s T (byte ∷ []) ≡ (Accepted 1 24, 0x80 ∷ []))
   both-decode T byte least most =
       let well : WellFormed wideCode held T (byte ∷ []) = record {

@@ -11,3 +11,4 @@ pub mod Sets
 pub mod Longer
 pub mod Half
 pub mod Hearing
+pub mod Preview

@@ -121,4 +121,21 @@ static uint64_t hearing_decode_restarted(const uint8_t *state, size_t state_len,
     return hearing_decode(state, state_len, limit, payload, payload_len, RESTARTED);
 }
 
+/* Adds a vector to a copy and decodes that. The copy is of what an add changes: the count, and as many values as the code has. */
+static uint64_t hearing_preview(const uint8_t *state, size_t state_len, const uint8_t *channel, size_t channel_len, uint32_t limit,
+                                uint8_t *payload, size_t payload_len)
+{
+    const struct hearing *h = (const struct hearing *)state;
+    struct hearing copy;
+    struct code code;
+    if (read_state(state, state_len, &code))
+        return answer(40, 0, 0);
+    copy.count = h->count;
+    memcpy(copy.values, h->values, code.size);
+    uint64_t added = add_vector(&copy, &code, (const int8_t *)channel, channel_len);
+    if (added & 0xFF)
+        return added;
+    return decode_values(&code, copy.values, limit, payload, payload_len, RESTARTED);
+}
+
 #endif

@@ -79,6 +79,11 @@ impl Hearing {
         self.values = [0; SIZE];
         Ok(0)
     }
+
+    fn decode(&self, limit: u32, payload: &mut [u8], restart: Restart) -> Answer {
+        let code = self.code()?;
+        decode_values(&code, &self.values[..code.size], limit, payload, restart)
+    }
 }
 
 /// Whether all bytes are zero. It looks at each of them, so that several are compared at once.
@@ -134,7 +139,16 @@ pub fn hearing_decode_restarted(state: &[u8], limit: u32, payload: &mut [u8]) ->
 }
 
 fn try_decode(state: &[u8], limit: u32, payload: &mut [u8], restart: Restart) -> Answer {
-    let hearing = Hearing::read(state)?;
-    let code = hearing.code()?;
-    decode_values(&code, &hearing.values[..code.size], limit, payload, restart)
+    Hearing::read(state)?.decode(limit, payload, restart)
+}
+
+/// The same after a vector was added to a copy.
+pub fn hearing_preview(state: &[u8], channel: &[u8], limit: u32, payload: &mut [u8]) -> u64 {
+    number(try_preview(state, channel, limit, payload))
+}
+
+fn try_preview(state: &[u8], channel: &[u8], limit: u32, payload: &mut [u8]) -> Answer {
+    let mut copy = Hearing::read(state)?;
+    copy.add(channel)?;
+    copy.decode(limit, payload, Restart::Restarted)
 }

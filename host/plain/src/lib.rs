@@ -17,6 +17,7 @@ pub use decode::{decode_full, decode_half, decode_restarted};
 pub use encode::encode;
 pub use hearing::{
     hearing_add, hearing_clear, hearing_decode_full, hearing_decode_restarted, hearing_open,
+    hearing_preview,
 };
 pub use quantise::quantise;
 pub use resume::resume;

@@ -10,11 +10,11 @@ use crate::reference::sizes::{DEEPEST, MOST_TRIALS};
 
 pub const USAGE: &str = "\
 bench [OPERATION ..] [--n N ..] [--t T ..] [--w W ..] [--k K ..] [--rounds R]
-  OPERATION   encode, pass, full, half, restarted, quantise, add, heard, sets-full, sets-half or
-              sets-restarted; all where none is named
+  OPERATION   encode, pass, full, half, restarted, quantise, add, heard, preview, sets-full,
+              sets-half or sets-restarted; all where none is named
   --n N       the code lengths, as n from 5 on; 5, 7, 10 and the largest where none is named
   --t T       the trial limits, from 1 on, or all for K + 1; 1, 13 and all where none is named, and
-              13 alone of half and heard
+              13 alone of half, heard and preview
   --w W       the most flips of a set, 2 or 3; both where none is named
   --k K       the payload sizes of flip sets, those of document 000; all where none is named
   --rounds R  how many rounds each row takes, instead of 10 to 205, the fewer the longer a round takes";
@@ -126,16 +126,16 @@ impl Named {
     }
 }
 
-/// A task, a way of decoding under each trial limit, that of hearings, or one by each search.
+/// A task, a way of decoding under each trial limit, a decoding of hearings, or one by each search.
 #[derive(Clone, Copy)]
 enum Operation {
     One(Task),
     Each(Way),
-    Heard,
+    Hearing(fn(Limit) -> Task),
     Sets(Way),
 }
 
-const OPERATIONS: [(&str, Operation); 11] = [
+const OPERATIONS: [(&str, Operation); 12] = [
     ("encode", Operation::One(Task::Encode)),
     ("pass", Operation::One(Task::Pass)),
     ("full", Operation::Each(Way::Full)),
@@ -143,7 +143,8 @@ const OPERATIONS: [(&str, Operation); 11] = [
     ("restarted", Operation::Each(Way::Restarted)),
     ("quantise", Operation::One(Task::Quantise)),
     ("add", Operation::One(Task::Add)),
-    ("heard", Operation::Heard),
+    ("heard", Operation::Hearing(Task::Heard)),
+    ("preview", Operation::Hearing(Task::Preview)),
     ("sets-full", Operation::Sets(Way::Full)),
     ("sets-half", Operation::Sets(Way::Half)),
     ("sets-restarted", Operation::Sets(Way::Restarted)),
@@ -163,7 +164,7 @@ impl Operation {
             Operation::Each(way) => named(limits(way))
                 .map(|limit| Task::Decode(way, limit))
                 .collect(),
-            Operation::Heard => named(ONE_LIMIT).map(Task::Heard).collect(),
+            Operation::Hearing(task) => named(ONE_LIMIT).map(task).collect(),
             Operation::Sets(_) => vec![],
         }
     }
@@ -224,7 +225,7 @@ mod tests {
         assert_eq!(choice.layers, DEPTHS);
         let rows: usize = Way::ALL.iter().map(|way| limits(*way).len()).sum();
         assert_eq!(choice.tasks_for(Purpose::Single).count(), 3 + rows);
-        assert_eq!(choice.tasks_for(Purpose::Hearing).count(), 2);
+        assert_eq!(choice.tasks_for(Purpose::Hearing).count(), 3);
         assert_eq!(choice.searches, Search::all());
         assert_eq!(choice.ways, Way::ALL);
         assert_eq!(choice.rounds, None);
@@ -246,8 +247,10 @@ mod tests {
 
     #[test]
     fn rows_of_hearings() {
-        let choice = read("heard add --t all --n 5").expect("a choice");
-        assert_eq!(choice.tasks, [Task::Heard(Limit::All), Task::Add]);
+        let choice = read("heard add preview --t all --n 5").expect("a choice");
+        let all = Limit::All;
+        let expected = [Task::Heard(all), Task::Add, Task::Preview(all)];
+        assert_eq!(choice.tasks, expected);
         let purposes: Vec<Purpose> = choice.frames().iter().map(|of| of.purpose).collect();
         assert_eq!(purposes, [Purpose::Hearing]);
     }

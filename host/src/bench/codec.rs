@@ -24,10 +24,10 @@ pub struct Codec {
     pub decode_sets_restarted: SetDecoder,
     pub hearing_open: Open,
     pub hearing_add: Add,
-    /// The same without a copy of the state, in plain C.
     pub hearing_clear: Clear,
     pub hearing_decode_full: HearingDecoder,
     pub hearing_decode_restarted: HearingDecoder,
+    pub hearing_preview: Decoder,
     pub quantise: Quantise,
 }
 
@@ -87,6 +87,7 @@ pub const LIBRARY: Codec = Codec {
     hearing_clear: library::hearing_clear,
     hearing_decode_full: library::hearing_decode_full,
     hearing_decode_restarted: library::hearing_decode_restarted,
+    hearing_preview: library::hearing_preview,
     quantise: library::quantise,
 };
 
@@ -106,6 +107,7 @@ const PLAIN_RUST: Codec = Codec {
     hearing_clear: plain::hearing_clear,
     hearing_decode_full: plain::hearing_decode_full,
     hearing_decode_restarted: plain::hearing_decode_restarted,
+    hearing_preview: plain::hearing_preview,
     quantise: plain::quantise,
 };
 
@@ -154,6 +156,9 @@ macro_rules! plain_c {
             },
             hearing_decode_restarted: |state, limit, payload| unsafe {
                 call::decode_hearing($table.hearing_decode_restarted, state, limit, payload)
+            },
+            hearing_preview: |state, channel, limit, payload| unsafe {
+                call::decode($table.hearing_preview, state, channel, limit, payload)
             },
             quantise: |scale, samples, output, numbers| unsafe {
                 call::quantise($table.quantise, scale, samples, output, numbers)
@@ -246,6 +251,7 @@ struct Table {
     hearing_clear: call::Clear,
     hearing_decode_full: call::DecodeHearing,
     hearing_decode_restarted: call::DecodeHearing,
+    hearing_preview: call::Decode,
     quantise: call::Quantise,
 }
 

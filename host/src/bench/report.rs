@@ -69,13 +69,13 @@ impl Row {
 /// What is measured, and on which machine.
 pub fn print_setting() {
     println!("Time of one call in ns: processor time of the thread, over {COUNT} frames, each of another code;");
-    println!("one frame in ten fails its first trial. Rows add and heard are of the same frames heard twice: add puts");
-    println!("the second vector to a state that holds the first, and heard is restarted decoding of a state with both;");
-    println!("there one in ten fails after both are added. Rows with w are of flip sets: {COUNT} frames of one code at");
-    println!("the Eb/N0 of document 000, table I. A ratio is polar's time to the other's in one round, in which the");
-    println!("codecs take turns. Each number is a median over the quieter half of the rounds made by {PROCESSES}");
-    println!("processes; how many these are stands last, fewer where a round takes more than a second. Before,");
-    println!("all codecs have given the same answers and outputs for all frames.");
+    println!("one frame in ten fails its first trial. Rows add, heard and preview are of the same frames heard twice:");
+    println!("add puts the second vector to a state that holds the first, heard is restarted decoding of a state with");
+    println!("both, and preview does the two on a copy; there one in ten fails after both are added. Rows with w are of");
+    println!("flip sets: {COUNT} frames of one code at the Eb/N0 of document 000, table I. A ratio is polar's time to the");
+    println!("other's in one round, in which the codecs take turns. Each number is a median over the quieter half of the");
+    println!("rounds made by {PROCESSES} processes; how many these are stands last, fewer where a round takes more than a");
+    println!("second. Before, all codecs have given the same answers and outputs for all frames.");
     println!();
     println!("processor  {}", processor());
     println!("load       {}", load());

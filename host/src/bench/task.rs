@@ -22,6 +22,8 @@ pub enum Task {
     Add,
     /// Restarted decoding of a hearing with two vectors.
     Heard(Limit),
+    /// Adding the second vector and restarted decoding, on a copy.
+    Preview(Limit),
 }
 
 /// A trial limit T.
@@ -56,12 +58,12 @@ impl Task {
             ..
         } = frame;
         let output = &mut room[..self.output_length(frame)];
+        let trials = |limit: Limit| limit.of(code.information());
         match self {
             Task::Encode => (codec.encode)(description, payload, output),
             Task::Pass => (codec.resume)(description, channel, &[], output),
             Task::Decode(way, limit) => {
-                let limit = limit.of(code.information());
-                codec.decoder(way)(description, channel, limit, output)
+                codec.decoder(way)(description, channel, trials(limit), output)
             }
             Task::Sets(way, search) => {
                 let (most_flips, limit) = (search.most_flips, search.limit);
@@ -75,8 +77,10 @@ impl Task {
             }
             Task::Add => (codec.hearing_add)(output, channel),
             Task::Heard(limit) => {
-                let limit = limit.of(code.information());
-                (codec.hearing_decode_restarted)(&frame.held().twice, limit, output)
+                (codec.hearing_decode_restarted)(&frame.held().twice, trials(limit), output)
+            }
+            Task::Preview(limit) => {
+                (codec.hearing_preview)(&frame.held().once, channel, trials(limit), output)
             }
         }
     }
@@ -100,7 +104,7 @@ impl Task {
     pub fn purpose(self) -> Purpose {
         match self {
             Task::Encode | Task::Pass | Task::Decode(..) | Task::Quantise => Purpose::Single,
-            Task::Add | Task::Heard(_) => Purpose::Hearing,
+            Task::Add | Task::Heard(_) | Task::Preview(_) => Purpose::Hearing,
             Task::Sets(_, search) => Purpose::Search(search),
         }
     }
@@ -114,7 +118,9 @@ impl Task {
         match self {
             Task::Encode => frame.code.size() / 8,
             Task::Pass | Task::Quantise => frame.code.size(),
-            Task::Decode(..) | Task::Sets(..) | Task::Heard(_) => packed_length(frame.code.k),
+            Task::Decode(..) | Task::Sets(..) | Task::Heard(_) | Task::Preview(_) => {
+                packed_length(frame.code.k)
+            }
             Task::Add => HEARING_SIZE,
         }
     }
@@ -141,6 +147,7 @@ impl Display for Task {
             Task::Sets(way, search) => write!(to, "{way}, {search}, k = {}", search.k),
             Task::Add => to.write_str("add"),
             Task::Heard(limit) => write!(to, "heard twice, T = {limit}"),
+            Task::Preview(limit) => write!(to, "preview, T = {limit}"),
         }
     }
 }

@@ -1,5 +1,5 @@
-//! Hearings, which combine the repeats of a frame: document 02, request 2.6. `state` has them as the
-//! bytes that C lends.
+//! Hearings, which combine the repeats of a frame: document 02, requests 2.6 and 2.7. `state` has them
+//! as the bytes that C lends.
 
 pub mod state;
 
@@ -60,6 +60,19 @@ impl Hearing {
         flip::decode(restart, &self.description, &self.channel(), limit, output)
     }
 
+    /// What adding a vector and restarted decoding would give: both are made on a copy, and a refused
+    /// add ends it there. Writes the packed payload; a refusal writes nothing.
+    pub fn preview(
+        &self,
+        channel: &[u8],
+        limit: u32,
+        output: &mut [u8],
+    ) -> Result<Accepted, Refusal> {
+        let mut copy = self.clone();
+        copy.add(channel)?;
+        copy.decode(Restart::AfterFlip, limit, output)
+    }
+
     /// The combined values as the bytes of a channel.
     pub fn channel(&self) -> Vec<u8> {
         self.values.iter().map(|&value| value_byte(value)).collect()
@@ -69,7 +82,16 @@ impl Hearing {
 #[cfg(test)]
 mod tests {
     use super::*;
-    use crate::testing::paper::{D, D_WITH_START, RIGHT, V};
+    use crate::testing::paper::{right, D, D_WITH_START, RIGHT, V};
+
+    /// Trial 1 of a code of N = 8 fails, and the output holds EE as before.
+    const FAILED: (Result<Accepted, Refusal>, u8) = (
+        Err(Refusal::AllFailed {
+            trials: 1,
+            steps: 24,
+        }),
+        0xEE,
+    );
 
     fn open(d: &[u8]) -> Hearing {
         Hearing::open(d).expect("a hearing")
@@ -97,6 +119,15 @@ mod tests {
     fn decode(hearing: &Hearing, restart: Restart, limit: u32) -> (Result<Accepted, Refusal>, u8) {
         let mut output = [0xEE];
         let answer = hearing.decode(restart, limit, &mut output);
+        (answer, output[0])
+    }
+
+    /// Previews into a byte that holds EE; the hearing stays what it was.
+    fn preview(hearing: &Hearing, channel: &[u8], limit: u32) -> (Result<Accepted, Refusal>, u8) {
+        let mut output = [0xEE];
+        let before = hearing.clone();
+        let answer = hearing.preview(channel, limit, &mut output);
+        assert_eq!(*hearing, before);
         (answer, output[0])
     }
 
@@ -142,19 +173,15 @@ mod tests {
     /// Neither V nor twice V passes on trial 1; together with right signs it does.
     #[test]
     fn combined_values_are_decoded() {
-        let failed = Refusal::AllFailed {
-            trials: 1,
-            steps: 24,
-        };
         for (restart, steps) in [(Restart::Full, 48), (Restart::AfterFlip, 32)] {
             let of = |hearing: &Hearing, limit| decode(hearing, restart, limit);
             for hearing in [heard(&[V]), heard(&[V, V])] {
-                assert_eq!(of(&hearing, 1), (Err(failed), 0xEE));
+                assert_eq!(of(&hearing, 1), FAILED);
                 assert_eq!(of(&hearing, 2), accepted(2, steps, 0x00));
             }
             assert_eq!(of(&heard(&[V, RIGHT]), 1), accepted(1, 24, 0xA0));
             assert_eq!(of(&open(&D), 1), accepted(1, 24, 0x00));
-            assert_eq!(of(&open(&D_WITH_START), 1), (Err(failed), 0xEE));
+            assert_eq!(of(&open(&D_WITH_START), 1), FAILED);
         }
     }
 
@@ -198,5 +225,69 @@ mod tests {
         assert_eq!(hearing, full);
         hearing.clear();
         assert_eq!(hearing.add(&RIGHT), Ok(1));
+    }
+
+    /// V alone fails trial 1, and so does twice V; right signs would settle it, with V and without.
+    /// Restarted decoding makes 8 steps in trial 2 of twice V, and full decoding 24.
+    #[test]
+    fn previews_of_d() {
+        let held = heard(&[V]);
+        for _ in 0..3 {
+            assert_eq!(decode(&held, Restart::AfterFlip, 1), FAILED);
+            assert_eq!(preview(&held, &RIGHT, 1), accepted(1, 24, 0xA0));
+            assert_eq!(preview(&held, &V, 1), FAILED);
+            assert_eq!(preview(&held, &V, 2), accepted(2, 32, 0x00));
+        }
+        assert_eq!(preview(&open(&D), &RIGHT, 1), accepted(1, 24, 0xA0));
+        assert_eq!(held.count, 1);
+        assert_eq!(held.values, [-1, 3, 2, 2, -2, -2, 3, 2]);
+    }
+
+    /// Twice 31 is held as 31: −31 more would leave 0, which is silence, and −30 would leave right signs.
+    /// −9 and 31 are 22.
+    #[test]
+    fn previewed_sums_are_clipped() {
+        let held = heard(&[right(31), right(31)]);
+        assert_eq!(preview(&held, &right(-31), 1), accepted(1, 24, 0x00));
+        assert_eq!(preview(&held, &right(-30), 1), accepted(1, 24, 0xA0));
+        let held = heard(&[right(-9), right(31)]);
+        assert_eq!(preview(&held, &right(-22), 1), accepted(1, 24, 0x00));
+    }
+
+    /// Those of the add come before those of decoding.
+    #[test]
+    fn refusals_of_previews() {
+        let mut outside = RIGHT;
+        outside[5] = 32;
+        let refused = |hearing: &Hearing, channel: &[u8], limit, room: usize| {
+            let mut output = vec![0xEE; room];
+            let answer = hearing.preview(channel, limit, &mut output);
+            assert_eq!(output, vec![0xEE; room]);
+            answer.expect_err("a refusal")
+        };
+        for hearing in [open(&D), heard(&[V]), heard(&[V; MOST_HEARINGS])] {
+            let of = |channel: &[u8]| refused(&hearing, channel, 0, 2);
+            assert_eq!(of(&RIGHT[..7]), Refusal::Number(12));
+            assert_eq!(of(&[0x80; 9]), Refusal::Number(12));
+            assert_eq!(of(&outside), Refusal::At(13, 5));
+        }
+        let of = |limit, room| refused(&heard(&[V]), &RIGHT, limit, room);
+        assert_eq!(of(0, 2), Refusal::Number(14));
+        assert_eq!(of(6, 1), Refusal::Number(14));
+        assert_eq!(of(1, 2), Refusal::Number(15));
+        assert_eq!(of(5, 0), Refusal::Number(15));
+    }
+
+    /// The 255th vector may be tried; then nothing more is, whatever decoding would say.
+    #[test]
+    fn previews_of_a_full_hearing() {
+        let mut hearing = heard(&[RIGHT; MOST_HEARINGS - 1]);
+        assert_eq!(preview(&hearing, &RIGHT, 1), accepted(1, 24, 0xA0));
+        assert_eq!(hearing.add(&RIGHT), Ok(255));
+        let full = (Err(Refusal::Number(27)), 0xEE);
+        for limit in [0, 1, 6] {
+            assert_eq!(preview(&hearing, &RIGHT, limit), full);
+            assert_eq!(preview(&hearing, &[0; 8], limit), full);
+        }
     }
 }

@@ -9,6 +9,20 @@ use crate::testing::hearing::{Call, BOTH};
 use crate::testing::random::Random;
 use crate::testing::samples;
 
+/// Faults of adds, of decoding, and of previews: alone, and of two refusals.
+const OF_ADD: [&[usize]; 3] = [&[12], &[13], &[13, 12]];
+const OF_DECODE: [&[usize]; 3] = [&[14], &[15], &[15, 14]];
+const OF_PREVIEW: [&[usize]; 8] = [
+    &[12],
+    &[13],
+    &[13, 12],
+    &[14],
+    &[15],
+    &[15, 14],
+    &[14, 12],
+    &[15, 13],
+];
+
 /// A description, the frame that is sent under it, and how it is heard.
 pub struct Cab {
     pub description: Vec<u8>,
@@ -97,15 +111,26 @@ impl Cab {
         Call::Decode(BOTH[random.below(2)], lent.limit, lent.before)
     }
 
+    pub fn preview(&self, random: &mut Random) -> Call {
+        self.wrong_preview(random, &[])
+    }
+
+    pub fn wrong_preview(&self, random: &mut Random, faults: &[usize]) -> Call {
+        Call::preview(&self.wrong(random, faults))
+    }
+
+    pub fn refused_preview(&self, random: &mut Random) -> Call {
+        let faults = OF_PREVIEW[random.below(OF_PREVIEW.len())];
+        self.wrong_preview(random, faults)
+    }
+
     /// A call that is refused, but for 16.
     fn refused(&self, random: &mut Random) -> Call {
-        match random.below(7) {
-            0 => self.wrong_add(random, &[12]),
-            1 => self.wrong_add(random, &[13]),
-            2 => self.wrong_add(random, &[13, 12]),
-            3 => self.wrong_decode(random, &[14]),
-            4 => self.wrong_decode(random, &[15]),
-            5 => self.wrong_decode(random, &[15, 14]),
+        let which = random.below(3);
+        match random.below(10) {
+            0..=2 => self.wrong_add(random, OF_ADD[which]),
+            3..=5 => self.wrong_decode(random, OF_DECODE[which]),
+            6..=8 => self.refused_preview(random),
             _ => {
                 let refusal = REFUSALS[random.below(REFUSALS.len())];
                 Call::Open(samples::refused_description(random, refusal))
@@ -115,11 +140,12 @@ impl Cab {
 
     /// 300 calls of all exports.
     pub fn mixed_calls(&self, random: &mut Random) -> Vec<Call> {
-        let call = |_| match random.below(16) {
+        let call = |_| match random.below(20) {
             0 => self.open(),
             1 => Call::Clear,
             2..=8 => self.add(random),
             9..=12 => self.decode(random),
+            13..=16 => self.preview(random),
             _ => self.refused(random),
         };
         let mut calls = vec![self.open()];
@@ -132,9 +158,10 @@ impl Cab {
         let mut calls = vec![self.open()];
         for count in 1..=MOST_HEARINGS {
             calls.push(self.add(random));
-            match count % 24 {
+            match count % 30 {
                 0 => calls.push(self.decode(random)),
-                12 => calls.push(self.refused(random)),
+                10 => calls.push(self.preview(random)),
+                20 => calls.push(self.refused(random)),
                 _ => (),
             }
         }
@@ -142,18 +169,22 @@ impl Cab {
         calls
     }
 
-    fn calls_on_a_full_hearing(&self, random: &mut Random) -> [Call; 14] {
+    fn calls_on_a_full_hearing(&self, random: &mut Random) -> [Call; 18] {
         [
+            self.preview(random),
             self.add(random),
             self.wrong_add(random, &[12]),
             self.wrong_add(random, &[13]),
             self.wrong_add(random, &[13, 12]),
             self.decode(random),
             self.refused(random),
+            self.refused_preview(random),
+            self.wrong_preview(random, &[15, 14]),
             Call::Add(vec![0; self.codeword.len()]),
             self.decode(random),
             Call::Clear,
             self.decode(random),
+            self.preview(random),
             self.wrong_add(random, &[13]),
             self.add(random),
             self.add(random),

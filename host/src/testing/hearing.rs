@@ -5,7 +5,7 @@ use std::fmt::{self, Display, Formatter};
 
 use crate::reference::description::LONGEST_DESCRIPTION;
 use crate::reference::flip::Accepted;
-use crate::reference::hearing::state::{add_in, clear_in, decode_in, open_in};
+use crate::reference::hearing::state::{add_in, clear_in, decode_in, open_in, preview_in};
 use crate::reference::hearing::Hearing;
 use crate::reference::number::{decode_number, hearing_number};
 use crate::reference::refusal::Refusal;
@@ -14,8 +14,10 @@ use crate::reference::sizes::HEARING_SIZE;
 use crate::testing::decoders;
 use crate::testing::faulty::Faulty;
 use crate::testing::guard::{lend_input, lend_output, lend_reference};
+use crate::testing::lent;
 use crate::testing::library::{self, HearingDecoder};
 use crate::testing::met::Met;
+use crate::testing::outcomes::Outcomes;
 use crate::testing::random::Random;
 
 /// How the reference decodes, the library's decoder of a state, and that of a channel.
@@ -49,15 +51,23 @@ pub enum Call {
     Clear,
     /// The trial limit, and what the output holds before.
     Decode(Pair, u32, Vec<u8>),
+    /// The vector that is tried, then as above.
+    Preview(Vec<u8>, u32, Vec<u8>),
 }
 
 impl Call {
     /// A call of each export.
-    pub fn each(lent: &Faulty) -> [Call; 5] {
+    pub fn each(lent: &Faulty) -> [Call; 6] {
         let [full, restarted] = BOTH.map(|by| Call::Decode(by, lent.limit, lent.before.clone()));
         let open = Call::Open(lent.description.clone());
         let add = Call::Add(lent.channel.clone());
-        [open, add, Call::Clear, full, restarted]
+        let preview = Call::preview(lent);
+        [open, add, Call::Clear, full, restarted, preview]
+    }
+
+    /// A preview of what is lent.
+    pub fn preview(lent: &Faulty) -> Call {
+        Call::Preview(lent.channel.clone(), lent.limit, lent.before.clone())
     }
 
     /// Makes the call on a copy of a state that is lent between guard bytes, and compares it with the
@@ -70,30 +80,36 @@ impl Call {
             number == expected && after == written,
             "{number:x} and not {expected:x}, first other byte {differs:?}: {self} on {state:02x?}"
         );
-        if !matches!(self, Call::Decode(..)) {
+        if !matches!(self, Call::Decode(..) | Call::Preview(..)) {
             *state = after;
         }
         number
     }
 
     /// Makes the call on a buffer as it stands; what else is lent stands between guard bytes. Gives
-    /// its number.
-    pub fn make_in_place(&self, state: &mut [u8]) -> u64 {
-        match self {
+    /// its number, and its output after it, which is empty where it has none beside the state.
+    pub fn make_in_place(&self, state: &mut [u8]) -> (u64, Vec<u8>) {
+        let number = match self {
             Call::Open(d) => lend_input(d, |d| library::hearing_open(d, state)),
             Call::Add(channel) => {
                 lend_input(channel, |channel| library::hearing_add(state, channel))
             }
             Call::Clear => library::hearing_clear(state),
-            Call::Decode(by, limit, before) => by.run_in_place(state, *limit, before).0,
-        }
+            Call::Decode(by, limit, before) => return by.run_in_place(state, *limit, before),
+            Call::Preview(channel, limit, before) => {
+                return preview_in_place(state, channel, *limit, before);
+            }
+        };
+        (number, vec![])
     }
 
-    /// The library's number, and what it may write after the call.
+    /// The library's number, and what it may write after the call. A state that is only read is the
+    /// same afterwards.
     fn by_library(&self, state: &[u8]) -> (u64, Vec<u8>) {
         match self {
             Call::Decode(by, limit, before) => by.run(state, *limit, before),
-            _ => lend_output(state, |state| self.make_in_place(state)),
+            Call::Preview(channel, limit, before) => preview(state, channel, *limit, before),
+            _ => lend_output(state, |state| self.make_in_place(state).0),
         }
     }
 
@@ -105,12 +121,24 @@ impl Call {
             Call::Clear => lend_reference(state, clear_in),
             Call::Decode(by, limit, before) => {
                 let decode = |output: &mut [u8]| decode_in(by.restart, state, *limit, output);
-                let (answer, after) = lend_reference(before, decode);
-                return (decode_number(&answer), after);
+                return decoded_by_reference(before, decode);
+            }
+            Call::Preview(channel, limit, before) => {
+                let preview = |output: &mut [u8]| preview_in(state, channel, *limit, output);
+                return decoded_by_reference(before, preview);
             }
         };
         (hearing_number(&answer), after)
     }
+}
+
+/// The number of what the reference decodes, and the output after it.
+fn decoded_by_reference(
+    before: &[u8],
+    decode: impl FnOnce(&mut [u8]) -> Result<Accepted, Refusal>,
+) -> (u64, Vec<u8>) {
+    let (answer, after) = lend_reference(before, decode);
+    (decode_number(&answer), after)
 }
 
 impl Display for Call {
@@ -122,6 +150,10 @@ impl Display for Call {
             Call::Decode(by, limit, before) => {
                 let room = before.len();
                 write!(to, "decode {:?}, T = {limit}, {room} bytes", by.restart)
+            }
+            Call::Preview(channel, limit, before) => {
+                let room = before.len();
+                write!(to, "preview {channel:02x?}, T = {limit}, {room} bytes")
             }
         }
     }
@@ -137,6 +169,20 @@ impl Pair {
     fn run_in_place(self, state: &[u8], limit: u32, before: &[u8]) -> (u64, Vec<u8>) {
         lend_output(before, |output| (self.library)(state, limit, output))
     }
+}
+
+/// The library's answer to a preview, and its output after it.
+pub fn preview(state: &[u8], channel: &[u8], limit: u32, before: &[u8]) -> (u64, Vec<u8>) {
+    lent::decode(library::hearing_preview, state, channel, limit, before)
+}
+
+/// The same on a state as it stands.
+fn preview_in_place(state: &[u8], channel: &[u8], limit: u32, before: &[u8]) -> (u64, Vec<u8>) {
+    lend_input(channel, |channel| {
+        lend_output(before, |output| {
+            library::hearing_preview(state, channel, limit, output)
+        })
+    })
 }
 
 /// That decoding a state is decoding its values under its description, also in the steps, so that full
@@ -196,9 +242,10 @@ pub struct Tally {
     pub clear: Met,
     pub full: Met,
     pub restarted: Met,
-    /// How often a frame was accepted on trial 1, and on a later one.
-    pub first: usize,
-    pub later: usize,
+    pub preview: Met,
+    /// What became of frames, by decoding and by preview.
+    pub decoded: Outcomes,
+    pub previewed: Outcomes,
 }
 
 impl Tally {
@@ -211,25 +258,26 @@ impl Tally {
             Call::Clear => &mut self.clear,
             Call::Decode(by, ..) if by.restart == Restart::Full => &mut self.full,
             Call::Decode(..) => &mut self.restarted,
+            Call::Preview(..) => &mut self.preview,
         };
         met.count(refusal(number));
-        match (call, number % (1 << 32)) {
-            (Call::Decode(..), 0x100) => self.first += 1,
-            (Call::Decode(..), value) if value & 0xFF == 0 => self.later += 1,
+        match call {
+            Call::Decode(..) => self.decoded.count_number(number),
+            Call::Preview(..) => self.previewed.count_number(number),
             _ => (),
         }
         refusal(number)
     }
 
-    /// The calls of each export.
-    pub fn calls(&self) -> [usize; 5] {
-        let all = [
+    /// What came of the calls of each export, of open first.
+    pub fn all(&self) -> [&Met; 6] {
+        [
             &self.open,
             &self.add,
             &self.clear,
             &self.full,
             &self.restarted,
-        ];
-        all.map(Met::calls)
+            &self.preview,
+        ]
     }
 }

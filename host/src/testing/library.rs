@@ -14,12 +14,14 @@ pub use decode::{decode_full, decode_half, decode_restarted};
 pub use encode::encode;
 pub use hearing::{
     hearing_add, hearing_clear, hearing_decode_full, hearing_decode_restarted, hearing_open,
+    hearing_preview,
 };
 pub use quantise::quantise;
 pub use resume::resume;
 pub use sets::{decode_sets_full, decode_sets_half, decode_sets_restarted};
 
-/// A decoder with the call of `decode_full`.
+/// A decoder with the call of `decode_full`, or `hearing_preview`, which has a state in the place of a
+/// description.
 pub type Decoder = fn(&[u8], &[u8], u32, &mut [u8]) -> u64;
 
 /// A decoder with the call of `hearing_decode_full`.

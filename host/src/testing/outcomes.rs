@@ -21,6 +21,16 @@ impl Outcomes {
         }
     }
 
+    /// Counts the number of an answer; refusals before trial 1 are no outcome.
+    pub fn count_number(&mut self, number: u64) {
+        match (number & 0xFF, number >> 8 & 0xFF_FFFF) {
+            (0, 1) => self.first += 1,
+            (0, _) => self.later += 1,
+            (16, _) => self.none += 1,
+            _ => (),
+        }
+    }
+
     /// That each came about at least so often.
     pub fn at_least(&self, least: usize) {
         let each = [self.first, self.later, self.none];

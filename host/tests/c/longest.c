@@ -1,4 +1,4 @@
-/* The longest code, in buffers of the header's sizes: encoded, decoded, heard, and compared. */
+/* The longest code, in buffers of the header's sizes: encoded, decoded, tried, heard, and compared. */
 #include "polar.h"
 
 #include <stdio.h>
@@ -35,19 +35,25 @@ static void send_codeword(void)
         channel[i] = codeword[i / 8] >> (7 - i % 8) & 1 ? 0xFC : 4;
 }
 
-static void print_decoded(uint64_t answer)
+/* What was received is gone afterwards. */
+static void print_decoded(const char *name, uint64_t answer)
 {
-    printf("decode: refusal %u, trial %u, %s\n", POLAR_REFUSAL(answer), (unsigned)POLAR_VALUE(answer),
+    printf("%s: refusal %u, trial %u, %s\n", name, POLAR_REFUSAL(answer), (unsigned)POLAR_VALUE(answer),
            memcmp(sent, received, sizeof sent) == 0 ? "the payload sent" : "another payload");
+    memset(received, 0, sizeof received);
 }
 
 static void hear(void)
 {
-    uint64_t opened = polar_hearing_open(description, sizeof description, hearing, sizeof hearing);
-    uint64_t added = polar_hearing_add(hearing, sizeof hearing, channel, sizeof channel);
-    printf("hearing: refusals %u, %u, count %u\n", POLAR_REFUSAL(opened), POLAR_REFUSAL(added), (unsigned)POLAR_VALUE(added));
-    memset(received, 0, sizeof received);
-    print_decoded(polar_hearing_decode_restarted(hearing, sizeof hearing, POLAR_LONGEST_CODE + 1, received, sizeof received));
+    const uint32_t limit = POLAR_LONGEST_CODE + 1;
+    uint64_t a = polar_hearing_open(description, sizeof description, hearing, sizeof hearing);
+    printf("hearing: refusal %u\n", POLAR_REFUSAL(a));
+    a = polar_hearing_preview(hearing, sizeof hearing, channel, sizeof channel, limit, received, sizeof received);
+    print_decoded("preview", a);
+    a = polar_hearing_add(hearing, sizeof hearing, channel, sizeof channel);
+    printf("add: refusal %u, count %u\n", POLAR_REFUSAL(a), (unsigned)POLAR_VALUE(a));
+    a = polar_hearing_decode_restarted(hearing, sizeof hearing, limit, received, sizeof received);
+    print_decoded("decode", a);
 }
 
 int main(void)
@@ -62,7 +68,7 @@ int main(void)
     a = polar_resume(description, sizeof description, channel, sizeof channel, NULL, 0, bits, sizeof bits);
     printf("resume: refusal %u\n", POLAR_REFUSAL(a));
     a = polar_decode_restarted(description, sizeof description, channel, sizeof channel, POLAR_LONGEST_CODE + 1, received, sizeof received);
-    print_decoded(a);
+    print_decoded("decode", a);
     hear();
     return 0;
 }

@@ -1,4 +1,5 @@
-/* Rows of document 01, and of requests 2.1, 2.2, 2.4 and 2.6, by each function of the header: each answer in its parts, then the output. */
+/* Rows of document 01, and of requests 2.1, 2.2, 2.4, 2.6 and 2.7, by each function of the header: each answer in its parts, then the
+ * output. */
 #include "polar.h"
 
 #include <inttypes.h>
@@ -87,6 +88,21 @@ static void decode_hearing(const char *name, hearing_decoder *by, uint32_t limit
     print(name, answer, payload, sizeof payload);
 }
 
+static void preview(const char *name, const uint8_t *channel, size_t len, uint32_t limit)
+{
+    uint8_t payload[1] = {0xEE};
+    uint64_t answer = polar_hearing_preview(hearing, sizeof hearing, channel, len, limit, payload, sizeof payload);
+    print(name, answer, payload, sizeof payload);
+}
+
+/* Adds right signs to so many vectors, up to 255. */
+static void fill_hearing(int count)
+{
+    for (int i = count; i < 254; i++)
+        polar_hearing_add(hearing, sizeof hearing, RIGHT, sizeof RIGHT);
+    add_vector("add 255 times", RIGHT, sizeof RIGHT);
+}
+
 static void encode_rows(void)
 {
     encode("encode A0", D, sizeof D, 0xA0);
@@ -154,9 +170,7 @@ static void hearing_rows(hearing_decoder *by)
     decode_hearing("both heard, T = 1", by, 1);
     print("clear", polar_hearing_clear(hearing, sizeof hearing), NULL, 0);
     decode_hearing("cleared, T = 1", by, 1);
-    for (int i = 1; i < 255; i++)
-        polar_hearing_add(hearing, sizeof hearing, RIGHT, sizeof RIGHT);
-    add_vector("add 255 times", RIGHT, sizeof RIGHT);
+    fill_hearing(0);
     add_vector("add once more", RIGHT, sizeof RIGHT);
     open_hearing("mask 80", D_MASK_80, sizeof D_MASK_80);
     decode_hearing("full, T = 1", by, 1);
@@ -164,6 +178,28 @@ static void hearing_rows(hearing_decoder *by)
     print("no bytes", polar_hearing_clear(NULL, 0), NULL, 0);
     memset(hearing, 0, sizeof hearing);
     decode_hearing("damaged", by, 1);
+}
+
+/* One hearing: V, then right signs; filled with right signs. What is tried between them is not kept. */
+static void preview_rows(void)
+{
+    open_hearing("open", D, sizeof D);
+    preview("right signs tried, T = 1", RIGHT, sizeof RIGHT, 1);
+    add_vector("add V", V, sizeof V);
+    preview("right signs tried, T = 1", RIGHT, sizeof RIGHT, 1);
+    preview("V tried, T = 1", V, sizeof V, 1);
+    preview("V tried, T = 2", V, sizeof V, 2);
+    preview("V tried, T = 6", V, sizeof V, 6);
+    preview("32 tried, T = 6", LAST_32, sizeof LAST_32, 6);
+    preview("seven values tried, T = 6", V, 7, 6);
+    decode_hearing("V heard, T = 1", polar_hearing_decode_restarted, 1);
+    add_vector("add right signs", RIGHT, sizeof RIGHT);
+    decode_hearing("both heard, T = 1", polar_hearing_decode_restarted, 1);
+    fill_hearing(2);
+    preview("V tried, T = 6", V, sizeof V, 6);
+    preview("32 tried, T = 6", LAST_32, sizeof LAST_32, 6);
+    memset(hearing, 0, sizeof hearing);
+    preview("damaged, seven values tried, T = 6", V, 7, 6);
 }
 
 int main(void)
@@ -178,5 +214,6 @@ int main(void)
     set_rows(polar_decode_sets_restarted);
     hearing_rows(polar_hearing_decode_full);
     hearing_rows(polar_hearing_decode_restarted);
+    preview_rows();
     return 0;
 }

@@ -1,6 +1,5 @@
 //! States that calls have not left: 40 answers each of them, and nothing is changed.
 
-use host::reference::description::LONGEST_DESCRIPTION;
 use host::reference::hearing::{Hearing, MOST_HEARINGS};
 use host::reference::sizes::{DEEPEST, HEARING_SIZE, LAYERS};
 use host::testing::cab::Cab;
@@ -8,11 +7,7 @@ use host::testing::hearing::{damage, refusal, Call, Tally};
 use host::testing::random::Random;
 use host::testing::samples;
 
-use crate::cabs::{after, of_both_kinds};
-
-/// The places of the count and of the first value in a state.
-const COUNT: usize = LONGEST_DESCRIPTION;
-const VALUES: usize = COUNT + 1;
+use crate::cabs::{after, of_both_kinds, COUNT, VALUES};
 
 /// Makes a call of each export on copies of some bytes. Gives whether they are a state, which is up to
 /// the reference: then calls leave them too.
@@ -87,6 +82,7 @@ fn every_byte_changed() {
     tally.clear.are_all(&[&[0, 40]]);
     tally.full.are_all(&[&[0, 14, 15, 16, 40]]);
     tally.restarted.are_all(&[&[0, 14, 15, 16, 40]]);
+    tally.preview.are_all(&[&[0, 14, 15, 16, 27, 40]]);
 }
 
 /// The bytes that a state of n = 3 uses, and those next to them, changed to each other value. Gives
@@ -181,13 +177,7 @@ fn other_sizes() {
             change_size(&mut random, &cab, &state, &mut tally);
         }
     }
-    for met in [
-        tally.open,
-        tally.add,
-        tally.clear,
-        tally.full,
-        tally.restarted,
-    ] {
+    for met in tally.all() {
         met.are_all(&[&[40]]);
     }
 }
@@ -216,7 +206,7 @@ fn anything() {
         let state = random.bytes(HEARING_SIZE);
         try_each(&mut random, &cab, &state, &mut tally);
     }
-    for met in [tally.add, tally.clear, tally.full, tally.restarted] {
+    for met in &tally.all()[1..] {
         met.are_all(&[&[40]]);
     }
 }

@@ -1,37 +1,12 @@
 //! Decoding of what lists of adds leave.
 
-use host::reference::sizes::{HEARING_SIZE, LAYERS};
+use host::reference::sizes::LAYERS;
 use host::testing::cab::Cab;
-use host::testing::hearing::{check_decoders, refusal, Call, RESTARTED};
+use host::testing::hearing::{check_decoders, refusal, RESTARTED};
 use host::testing::outcomes::Outcomes;
 use host::testing::random::Random;
 
-use crate::cabs::of_both_kinds;
-
-/// The state of a hearing to which these were added.
-fn heard(cab: &Cab, vectors: &[&[u8]]) -> Vec<u8> {
-    let mut state = vec![0; HEARING_SIZE];
-    assert_eq!(cab.open().make(&mut state), 0);
-    for vector in vectors {
-        let number = Call::Add(vector.to_vec()).make(&mut state);
-        assert_eq!(refusal(number), 0);
-    }
-    state
-}
-
-/// A state that some adds, refused ones and clears among them, have left.
-fn left(random: &mut Random, cab: &Cab) -> Vec<u8> {
-    let mut state = heard(cab, &[]);
-    for _ in 0..random.below(8) {
-        let call = match random.below(8) {
-            0 => Call::Clear,
-            1 => cab.wrong_add(random, &[13]),
-            _ => cab.add(random),
-        };
-        call.make(&mut state);
-    }
-    state
-}
+use crate::cabs::{heard, left, of_both_kinds};
 
 /// Full and restarted decoding agree on it, and each is that of the held values.
 #[test]

@@ -1,9 +1,8 @@
 //! Hearings of document 01's code, by hand.
 
-use host::reference::channel::value_byte;
 use host::reference::sizes::HEARING_SIZE;
-use host::testing::hearing::{Call, BOTH, FULL, RESTARTED};
-use host::testing::paper::{D, D_WITH_START, RIGHT, V};
+use host::testing::hearing::{preview, Call, BOTH, FULL, RESTARTED};
+use host::testing::paper::{right, D, D_WITH_START, RIGHT, V};
 
 /// A hearing of a description to which these were added.
 fn heard(d: &[u8], vectors: &[[u8; 8]]) -> Vec<u8> {
@@ -36,6 +35,21 @@ fn two_hearings_of_d() {
     assert_eq!(RESTARTED.run(&twice, 2, &[0xEE]), on_trial_2(32));
 }
 
+/// While V is held, right signs are tried, and V again; V is still held afterwards.
+#[test]
+fn a_second_hearing_of_d_tried() {
+    let held = heard(&D, &[V]);
+    let tried = |vector: &[u8], limit| preview(&held, vector, limit, &[0xEE]);
+    let expected = |number: u64, steps: u64, payload| (number + (steps << 32), vec![payload]);
+    for _ in 0..3 {
+        assert_eq!(tried(&RIGHT, 1), expected(0x100, 24, 0xA0));
+        assert_eq!(tried(&V, 1), expected(0x110, 24, 0xEE));
+        assert_eq!(tried(&V, 2), expected(0x200, 32, 0x00));
+        assert_eq!(tried(&V[..7], 0), expected(12, 0, 0xEE));
+        decoded(&held, 1, 0x110, 0xEE);
+    }
+}
+
 /// Before the first add, and after clearing, zeros are decoded.
 #[test]
 fn nothing_heard() {
@@ -50,8 +64,7 @@ fn nothing_heard() {
 /// before, 9 is left: the signs of RIGHT.
 #[test]
 fn the_order_of_adds() {
-    let strong = |magnitude: i64| RIGHT.map(|byte| value_byte(magnitude * (byte as i8 as i64) / 4));
-    let [plus, minus] = [20, -31].map(strong);
+    let [plus, minus] = [20, -31].map(right);
     decoded(&heard(&D, &[plus, plus, minus]), 1, 0x100, 0x00);
     decoded(&heard(&D, &[plus, minus, plus]), 1, 0x100, 0xA0);
     decoded(&heard(&D, &[minus, plus, plus]), 1, 0x100, 0xA0);

@@ -24,14 +24,16 @@ fn check_met(tally: &Tally) {
     tally.clear.are_all(&[&[0]]);
     tally.full.are_all(&[&[0, 14, 15, 16]]);
     tally.restarted.are_all(&[&[0, 14, 15, 16]]);
-    assert!(tally.first >= 20 && tally.later >= 20, "{tally:?}");
+    tally.preview.are_all(&[&[0, 12, 13, 27, 14, 15, 16]]);
+    tally.decoded.at_least(20);
+    tally.previewed.at_least(20);
 }
 
 /// Filled hearings, and calls of all exports, of both kinds; more of short codes.
 #[test]
 fn lists_of_calls() {
     let mut random = Random::new(1);
-    let mut calls = [0; 5];
+    let mut calls = [0; 6];
     for n in LAYERS {
         let mut tally = Tally::default();
         for round in 0..(400 >> n).max(12) {
@@ -43,11 +45,11 @@ fn lists_of_calls() {
         }
         println!("n = {n}: {tally:?}");
         check_met(&tally);
-        for (sum, of) in calls.iter_mut().zip(tally.calls()) {
-            *sum += of;
+        for (sum, met) in calls.iter_mut().zip(tally.all()) {
+            *sum += met.calls();
         }
     }
-    println!("open, add, clear, decode_full, decode_restarted: {calls:?} calls");
+    println!("open, add, clear, decode_full, decode_restarted, preview: {calls:?} calls");
     assert!(calls.iter().sum::<usize>() >= 50_000, "{calls:?}");
     assert!(calls.iter().all(|&of| of >= 2_000), "{calls:?}");
 }

@@ -1,5 +1,6 @@
-//! The library's hearings, held to the reference on more than 1,400,000 calls: lists of calls on one
-//! state, decoding of what they leave, refusals, damaged states, states that are moved.
+//! The library's hearings in more than 1,800,000 calls, most of them held to the reference: lists of
+//! calls on one state, decoding of what they leave, previews, refusals, damaged states, states that are
+//! moved.
 
 mod cabs;
 mod damaged;
@@ -8,4 +9,5 @@ mod examples;
 mod full;
 mod lists;
 mod moved;
+mod preview;
 mod refusals;

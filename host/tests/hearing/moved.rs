@@ -33,7 +33,7 @@ fn in_one_place() {
     for n in LAYERS {
         let (calls, before) = some_calls(&mut random, n);
         let in_place = lend_output(&before, |state| {
-            let number = |call: &Call| call.make_in_place(state);
+            let number = |call: &Call| call.make_in_place(state).0;
             calls.iter().map(number).collect::<Vec<u64>>()
         });
         assert_eq!(in_place, on_copies(&calls, &before));
@@ -52,7 +52,7 @@ fn at_any_address() {
             let first = index % 17;
             let mut room = [&vec![0xEE; first][..], &state, &[0xEE; 17]].concat();
             let place = first..first + HEARING_SIZE;
-            numbers.push(call.make_in_place(&mut room[place.clone()]));
+            numbers.push(call.make_in_place(&mut room[place.clone()]).0);
             state.copy_from_slice(&room[place]);
         }
         assert_eq!((numbers, state), on_copies(&calls, &before));
@@ -70,8 +70,8 @@ fn two_at_once() {
         let mut states = both.each_ref().map(|(_, before)| before.clone());
         let mut numbers = [vec![], vec![]];
         for calls in one.iter().zip(other) {
-            numbers[0].push(calls.0.make_in_place(&mut states[0]));
-            numbers[1].push(calls.1.make_in_place(&mut states[1]));
+            numbers[0].push(calls.0.make_in_place(&mut states[0]).0);
+            numbers[1].push(calls.1.make_in_place(&mut states[1]).0);
         }
         for ((numbers, state), (calls, before)) in numbers.into_iter().zip(states).zip(&both) {
             assert_eq!((numbers, state), on_copies(calls, before));

@@ -46,22 +46,29 @@ fn refusal_of_clear() {
     met.are_all(&[&[40]]);
 }
 
-/// Without a fault the answer is 16.
 #[test]
 fn pairs_of_decode() {
-    let order = [40, 14, 15];
-    let mut random = Random::new(1);
     for by in BOTH {
-        let refusal = |lent: &Faulty| {
-            let decode = Call::Decode(by, lent.limit, lent.before.clone());
-            refused(&decode, lent)
-        };
-        let mut met = each_pair(&order, refusal);
-        for _ in 0..100 {
-            met.count(refusal(&Faulty::silent(&mut random)));
-        }
-        met.are_all(&[&order, &[16]]);
+        let decode = |lent: &Faulty| Call::Decode(by, lent.limit, lent.before.clone());
+        check_pairs(&[40, 14, 15], decode);
     }
+}
+
+/// Those of the add come before those of decoding.
+#[test]
+fn pairs_of_preview() {
+    check_pairs(&[40, 12, 13, 27, 14, 15], Call::preview);
+}
+
+/// That these come in their order; without a fault the answer is 16.
+fn check_pairs(order: &[usize], call: impl Fn(&Faulty) -> Call) {
+    let mut random = Random::new(1);
+    let refusal = |lent: &Faulty| refused(&call(lent), lent);
+    let mut met = each_pair(order, refusal);
+    for _ in 0..100 {
+        met.count(refusal(&Faulty::silent(&mut random)));
+    }
+    met.are_all(&[order, &[16]]);
 }
 
 /// The index that 13 carries is the first.
@@ -75,8 +82,10 @@ fn values_out_of_range() {
             for place in [first, random.between(first, size - 1)] {
                 channel[place] = samples::value_out_of_range(random);
             }
-            let number = Call::Add(channel).make(&mut state);
-            assert_eq!(number, 13 + ((first as u64) << 8));
+            for call in tried_and_added(random, channel) {
+                let number = call.make(&mut state);
+                assert_eq!(number, 13 + ((first as u64) << 8));
+            }
         }
     });
 }
@@ -88,9 +97,18 @@ fn wrong_lengths() {
         let mut state = Hearing::open(d).expect("a hearing").to_bytes();
         for length in [0, 1, size / 2, size - 1, size + 1, 2 * size, 65_536] {
             let channel = samples::channel(random, length, 31);
-            assert_eq!(Call::Add(channel).make(&mut state), 12);
+            for call in tried_and_added(random, channel) {
+                assert_eq!(call.make(&mut state), 12);
+            }
         }
     });
+}
+
+/// A preview, with any limit and room, and an add.
+fn tried_and_added(random: &mut Random, channel: Vec<u8>) -> [Call; 2] {
+    let [limit, room] = [(); 2].map(|_| random.below(9));
+    let preview = Call::Preview(channel.clone(), limit as u32, random.bytes(room));
+    [preview, Call::Add(channel)]
 }
 
 /// Limits from 1 to K + 1 are allowed, before and after adds.
@@ -110,11 +128,13 @@ fn limits_at_their_edges() {
 fn check_limits(random: &mut Random, cab: &Cab, state: &[u8]) {
     let most = cab.code().information() as u32 + 1;
     for limit in [0, 1, 2, most - 1, most, most + 1, 257, 1 << 16, u32::MAX] {
-        let before = cab.lent(random).before;
-        let is_refused = BOTH.map(|by| {
-            let decode = Call::Decode(by, limit, before.clone());
-            refusal(decode.make(&mut state.to_vec())) == 14
-        });
-        assert_eq!(is_refused, [!(1..=most).contains(&limit); 2], "{limit}");
+        let lent = Faulty {
+            limit,
+            ..cab.lent(random)
+        };
+        for call in &Call::each(&lent)[3..] {
+            let is_refused = refusal(call.make(&mut state.to_vec())) == 14;
+            assert_eq!(is_refused, !(1..=most).contains(&limit), "{call}");
+        }
     }
 }

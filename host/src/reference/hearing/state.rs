@@ -90,13 +90,23 @@ pub fn decode_in(
     Hearing::from_bytes(state)?.decode(restart, limit, output)
 }
 
+/// Writes the packed payload; a refusal writes nothing.
+pub fn preview_in(
+    state: &[u8],
+    channel: &[u8],
+    limit: u32,
+    output: &mut [u8],
+) -> Result<Accepted, Refusal> {
+    Hearing::from_bytes(state)?.preview(channel, limit, output)
+}
+
 #[cfg(test)]
 mod tests {
     use super::*;
     use crate::reference::description::record_with_start;
     use crate::reference::hearing::MOST_HEARINGS;
     use crate::reference::sizes::{DEEPEST, LAYERS, LONGEST};
-    use crate::testing::paper::{D, D_WITH_START, V};
+    use crate::testing::paper::{D, D_WITH_START, RIGHT, V};
     use crate::testing::samples;
 
     const COUNT: usize = LONGEST_DESCRIPTION;
@@ -267,6 +277,19 @@ mod tests {
         });
     }
 
+    /// Right signs would settle V; then they do.
+    #[test]
+    fn a_preview_and_the_add() {
+        let mut state = d_after_v();
+        let [mut tried, mut decoded] = [[0xEE]; 2];
+        let answer = preview_in(&state, &RIGHT, 1, &mut tried);
+        assert_eq!(answer.map(|accepted| accepted.trial), Ok(1));
+        assert_eq!(add_in(&mut state, &RIGHT), Ok(2));
+        let by = Restart::AfterFlip;
+        assert_eq!(decode_in(by, &state, 1, &mut decoded), answer);
+        assert_eq!([tried, decoded], [[0xA0]; 2]);
+    }
+
     /// Before all others, with nothing changed; `open_in` alone takes any bytes.
     #[test]
     fn refusal_40_comes_first() {
@@ -278,6 +301,8 @@ mod tests {
             assert_eq!(clear_in(&mut state), Err(Refusal::Number(40)));
             let decoded = decode_in(Restart::Full, &state, 0, &mut []);
             assert_eq!(decoded, Err(Refusal::Number(40)));
+            let previewed = preview_in(&state, &[0x80; 7], 0, &mut []);
+            assert_eq!(previewed, Err(Refusal::Number(40)));
             assert_eq!(state, before);
         }
         let mut state = short;

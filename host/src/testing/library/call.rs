@@ -52,7 +52,8 @@ pub unsafe fn resume(by: Resume, d: &[u8], channel: &[u8], prefix: &[u8], bits: 
     )
 }
 
-/// Writes the packed payload; the answer is as in `number::decode_number`.
+/// Writes the packed payload; the answer is as in `number::decode_number`. Preview has a state in the
+/// place of the description.
 pub unsafe fn decode(by: Decode, d: &[u8], channel: &[u8], limit: u32, payload: &mut [u8]) -> u64 {
     by(
         d.as_ptr(),

@@ -16,6 +16,15 @@ extern "C" {
         channel_len: usize,
     ) -> u64;
     fn polar_hearing_clear(state: *mut u8, state_len: usize) -> u64;
+    fn polar_hearing_preview(
+        state: *const u8,
+        state_len: usize,
+        channel: *const u8,
+        channel_len: usize,
+        trial_limit: u32,
+        payload: *mut u8,
+        payload_len: usize,
+    ) -> u64;
 }
 
 /// Writes the state of a fresh hearing; the answer is as in `number::hearing_number`.
@@ -31,6 +40,11 @@ pub fn hearing_add(state: &mut [u8], channel: &[u8]) -> u64 {
 /// Clears the state; the answer is as in `number::hearing_number`.
 pub fn hearing_clear(state: &mut [u8]) -> u64 {
     unsafe { call::clear(polar_hearing_clear, state) }
+}
+
+/// Writes the packed payload; the answer is as in `number::decode_number`.
+pub fn hearing_preview(state: &[u8], channel: &[u8], limit: u32, payload: &mut [u8]) -> u64 {
+    unsafe { call::decode(polar_hearing_preview, state, channel, limit, payload) }
 }
 
 /// Declares an export that decodes, and a function that calls it.

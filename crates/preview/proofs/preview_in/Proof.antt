@@ -1,0 +1,47 @@
+-- `preview::preview_in` meets its contract: the definition goes by the code of the state.
+use mathlib.Core.Path.{refl, sym, ap, _∙_}
+use mathlib.Core.List.{List}
+use Prim.Native.Nat.{ℕ}
+use borrow.Author.Needs.{needs}
+use denote.Ref.{now}
+use Rattle.refusal.specs.Judge.{refusedOr}
+use Rattle.code.specs.declared.Description.{Description}
+use Rattle.code.specs.Description.{onDescription}
+use Rattle.run.specs.declared.Decoded.{Decoded}
+use Rattle.state.specs.State.{refusedIn, addedUnder}
+use Rattle.lent.specs.Lent.{stateIn}
+use Rattle.preview.specs.Preview.{thenRestarted}
+use Rattle.preview.proofs.preview_in.Statement.{statement}
+use Rattle.preview.proofs.preview_in.Tie as tie
+
+-- the answer, by the code of the state
+abbrev by : tie.Start → Description → Decoded × List ℕ
+by s a =
+    let x = s .args in
+    let t = stateIn (now (x .buffer)) in
+    thenRestarted (onDescription a (refusedIn t) (λ c. addedUnder c t (now (x .channel)))) (x .limit) (now (x .output))
+
+returns : tie.Need-returns
+returns c =
+    let u = c .before .before in
+    let t = u .before .before in
+    let r = t .before .before .before in
+    (u .preview-under .ensures ∙ sym (ap (by (r .before .before .before .before)) (sym (r .code-in .ensures) ∙ t .before .code .given .1)), refl)
+
+returns-2 : tie.Need-returns-2
+unfolding refusedOr
+returns-2 c =
+    let r = c .before .before .before in
+    (sym (ap (by (r .before .before .before .before)) (sym (r .code-in .ensures) ∙ c .before .x .given .1)), refl)
+
+pub preview-in-spec : {M : Type 1} → statement M
+preview-in-spec =
+    tie.close
+    (tie.spec
+    (λ c κs. search needs)
+    (λ c. search needs)
+    (λ c κs. let t = c .before in sym (t .before .before .before .code-in .ensures) ∙ t .before .code .given .1)
+    (λ c. search needs)
+    (λ c. search needs)
+    returns
+    returns-2)

@@ -1,0 +1,67 @@
+-- Document 02, request 2.7: of two weak hearings the first is held and the second is tried, from the theorems, whose premises are met.
+use mathlib.Core.Path.{_≡_, refl, sym, _∙_, subst}
+use mathlib.Core.List.{List, [], _∷_}
+use Prim.Native.Nat.{ℕ, _≤_}
+use lib.ListN.{length}
+use Rattle.laws.specs.First.{firstWhere}
+use Rattle.refusal.specs.declared.Refusal.the-variants.{Alone, At}
+use Rattle.refusal.specs.declared.Judgement.the-variants.{Fine}
+use Rattle.refusal.specs.Judge.{judge, refusedOr}
+use Rattle.channel.specs.Channel.{channelValue}
+use Rattle.run.specs.declared.Decoded.the-variants.{Accepted, Refused}
+use Rattle.sets.proofs.Examples.{wideD, wideCode, vector}
+use Rattle.hearing.specs.Hearing.{addRefusals}
+use Rattle.state.specs.declared.State.{State}
+use Rattle.state.specs.State.{opened, added}
+use Rattle.lent.specs.Lent.{hearingSize, openedIn}
+use Rattle.repeats.specs.Repeats.{Call, add, clear, after, acceptedIn, bufferAfter}
+use Rattle.preview.specs.Preview.{previewed, previewedIn}
+use Rattle.preview.specs.Claims.{Previews}
+use Rattle.preview.proofs.After.{preview-after, preview-in-after}
+use Rattle.vectors.proofs.Sets.{describes}
+use Rattle.vectors.proofs.Hearing.{firstV, secondV, both-decode}
+
+-- another frame is heard and cleared; then the first hearing
+abbrev pub calls : List Call
+calls = add vector ∷ clear ∷ add firstV ∷ []
+
+abbrev pub heardOnce : State
+heardOnce = after (opened wideD .state) calls
+
+first-accepted : acceptedIn wideCode [] calls ≡ firstV ∷ []
+unfolding firstWhere judge refusedOr channelValue
+first-accepted = refl
+
+previews : (channel : List ℕ) → Previews wideD wideCode heardOnce (firstV ∷ []) channel
+previews channel =
+    subst (λ (vectors : List (List ℕ)). Previews wideD wideCode heardOnce vectors channel) first-accepted (preview-after wideD wideCode calls channel describes)
+
+second-fine : judge (addRefusals wideCode 1 secondV) ≡ Fine
+unfolding firstWhere judge channelValue
+second-fine = refl
+
+-- the second hearing would settle the frame: for every T, whatever byte the output held
+pub second-settles : (T byte : ℕ) → 1 ≤ T → T ≤ 5 → previewed heardOnce secondV T (byte ∷ []) ≡ (Accepted 1 24, 0x80 ∷ [])
+second-settles T byte least most =
+    let held = previews secondV .sums second-fine in
+    previews secondV .decoded second-fine T (byte ∷ []) ∙ sym (held .restarted-is T (byte ∷ []))
+    ∙ both-decode (added heardOnce secondV .state) held T byte least most .1
+
+-- a vector that is too short, and one with a value out of range: nothing is decoded
+pub short-refused : (T : ℕ) (output : List ℕ) → previewed heardOnce (0x01 ∷ []) T output ≡ (Refused (Alone 12), output)
+unfolding judge
+short-refused = previews (0x01 ∷ []) .refused (Alone 12) refl
+
+abbrev pub outsideV : List ℕ
+outsideV = 0x01 ∷ 0x20 ∷ 0 ∷ 0 ∷ 0 ∷ 0 ∷ 0 ∷ 0 ∷ []
+
+pub outside-refused : (T : ℕ) (output : List ℕ) → previewed heardOnce outsideV T output ≡ (Refused (At 13 1), output)
+unfolding firstWhere judge channelValue
+outside-refused = previews outsideV .refused (At 13 1) refl
+
+-- and for C, in any buffer of the right size
+module _ (b : List ℕ) (size : length b ≡ hearingSize) where
+  pub buffer-settles : (T byte : ℕ) → 1 ≤ T → T ≤ 5
+      → previewedIn (bufferAfter (openedIn wideD b .1) calls) secondV T (byte ∷ []) ≡ (Accepted 1 24, 0x80 ∷ [])
+  buffer-settles T byte least most =
+      preview-in-after wideD b wideCode calls secondV T (byte ∷ []) describes size ∙ second-settles T byte least most
