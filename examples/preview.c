@@ -13,7 +13,7 @@ enum { SIZE = 32, REPEATS = 3, TRIALS = 4 };
 /* The code of repeat.c: N = 32, r = 8, polynomial z^8 + z^2 + z + 1, start FF, K = 16, k = 8. */
 static const uint8_t description[] = {0x0E, 0, 4, 0, 5, 8, 0x07, 0, 0xFF, 0, 0x80, 0xE8, 0xE8, 0xFE};
 
-/* What was heard of payload A7's codeword: 4 for bit 0, -4 for bit 1, and noise of standard deviation 5, drawn until none decodes alone. */
+/* What was heard of payload A7's codeword: 4 for bit 0, -4 for bit 1, and noise of standard deviation 5, drawn until four trials fail. */
 static const int8_t first[SIZE] = {
     2, 0, -1, 4, -5, 4, -5, -9, 1, -7, 8, -2, -9, -14, 6, -17, 5, -3, 1, -7, -4, 5, -2, 2, 3, -4, -2, -5, 2, 0, 4, 1};
 

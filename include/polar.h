@@ -2,8 +2,8 @@
  * memset and nothing else.
  *
  * Each function takes buffers as a pointer and a length in bytes, and keeps no pointer. It only reads its inputs, which may overlap each
- * other; input and output must not overlap, and nothing else may write any of them during the call. The state of a hearing is an output
- * where it is no const. A pointer may be NULL where its length is 0. There is no global state and no allocation: all functions are
+ * other; input and output must not overlap, and nothing else may write any of them during the call. The state of a hearing is an input
+ * where it is const, and an output elsewhere. A pointer may be NULL where its length is 0. There is no global state and no allocation: all functions are
  * reentrant and may be called from several threads at once. A call takes at most 8 KiB of stack for encode, 52 KiB for resume, 72 KiB for
  * the decoders, 92 KiB for those by sets, 72 KiB for hearings, and 76 KiB for preview, whatever the code.
  *

@@ -27,7 +27,7 @@ const OPERATIONS: [(&str, &str); 16] = [
 ];
 
 /// What `receive` prints and how it runs, and the statements of the main theorems.
-const DEFINITIONS: [(&str, &str); 17] = [
+const DEFINITIONS: [(&str, &str); 16] = [
     ("records", "printed"),
     ("records", "Run"),
     ("demands", "Demand3"),
@@ -44,7 +44,6 @@ const DEFINITIONS: [(&str, &str); 17] = [
     ("half", "StaysAccepted"),
     ("repeats", "HeldAfter"),
     ("repeats", "BufferAfter"),
-    ("preview", "OnACopy"),
 ];
 
 /// One sitting.

@@ -139,6 +139,7 @@ V tried, T = 2: refusal 0, value 2, steps 32, 00
 V tried, T = 6: refusal 14, value 0, steps 0, ee
 32 tried, T = 6: refusal 13, value 7, steps 0, ee
 seven values tried, T = 6: refusal 12, value 0, steps 0, ee
+nothing tried, T = 6: refusal 12, value 0, steps 0, ee
 V heard, T = 1: refusal 16, value 1, steps 24, ee
 add right signs: refusal 0, value 2, steps 0,
 both heard, T = 1: refusal 0, value 1, steps 24, a0
@@ -146,6 +147,7 @@ add 255 times: refusal 0, value 255, steps 0,
 V tried, T = 6: refusal 27, value 0, steps 0, ee
 32 tried, T = 6: refusal 13, value 7, steps 0, ee
 damaged, seven values tried, T = 6: refusal 40, value 0, steps 0, ee
+nothing lent: refusal 40, value 0, steps 0,
 ";
 
 /// What is printed with fewer steps.

@@ -34,7 +34,6 @@ use Rattle.trial.specs.declared.Restart.{Restart}
 use Rattle.trial.specs.declared.Restart.the-variants.{After}
 use Rattle.trial.specs.Trial.{trialPasses}
 use Rattle.run.specs.declared.Decoded.{Decoded}
-use Rattle.run.specs.declared.Decoded.the-variants as decode
 use Rattle.run.specs.Trials.{trials, Verdict, passed, failed, run, answerOf}
 use Rattle.flip.specs.Decode.{decodingRefusals, planOf, decodedBy, decodedWith}
 use Rattle.demands.proofs.StepBounds.{Bounded, decoded-bounded}
@@ -45,11 +44,12 @@ use Rattle.hearing.specs.Hearing.{fresh, combined, addedTo, addRefusals, isHear
 use Rattle.hearing.proofs.Adding.{count-most, not-full}
 use Rattle.state.specs.declared.State.{State}
 use Rattle.state.specs.declared.Heard.{Heard}
-use Rattle.state.specs.State.{stateOf, noState, descriptionOf, isState, codeOfState, heard, refusedIn, withHearing, opened, added, hearingWith, hearingRestarted}
-use Rattle.state.proofs.States.{codeBy, state-is, is-hearing}
+use Rattle.state.specs.State.{stateOf, noState, descriptionOf, isState, codeOfState, heard, refusedIn, withHearing, opened, hearingWith}
+use Rattle.state.proofs.States.{codeBy, code-most, is-hearing}
+use Rattle.lent.specs.declared.Kept.{Kept}
 use Rattle.lent.specs.declared.Kept.the-variants as keep
-use Rattle.lent.specs.Lent.{hearingSize, bytesOf, stateIn, kept, openedIn, addedIn, clearedIn}
-use Rattle.preview.specs.Preview.{previewedIn}
+use Rattle.lent.specs.Lent.{hearingSize, stateIn, kept, openedIn, addedIn, clearedIn}
+use Rattle.preview.specs.Preview.{thenRestartedIn, previewedIn}
 use Rattle.number.specs.Number.{Parts, parts, refusalParts, encodedParts, resumedParts, decodedParts, keptParts}
 use Rattle.number.specs.Contracts.{Fitting}
 
@@ -207,9 +207,8 @@ module _ (b channel : List ℕ) where
   added-fits =
       on-code (KeptFits b) (refusedIn s) (kept-refused b s) (codeOfState s) (state-fits s)
       (λ c e.
-      let n-most = described (descriptionOf s) c (state-is s c e .0) .coded .n-most in
       let tests = addRefusals c (s .hearing .count) channel in
-      added-under c (is-hearing s c e) (judge tests) refl (judged-reached RefusalFits tests (search (needs, alone, outside-fits c n-most channel))))
+      added-under c (is-hearing s c e) (judge tests) refl (judged-reached RefusalFits tests (search (needs, alone, outside-fits c (code-most s c e) channel))))
 
 pub cleared-fits : (b : List ℕ) → Fits keptParts (clearedIn b)
 cleared-fits b =
@@ -222,15 +221,9 @@ heard-fits restart s limit output =
     (λ c e. decoded-fits restart (descriptionOf s) (combined c (s .hearing)) limit output)
 
 -- a preview: the refusal of the add, or the answer of decoding
-module _ (b channel : List ℕ) (limit : ℕ) (output : List ℕ) where
-  abbrev a : Heard
-  a = added (stateIn b) channel
+previewed-by : (a : Kept × List ℕ) (limit : ℕ) (output : List ℕ) → Fits keptParts a → Fits decodedParts (thenRestartedIn a limit output)
+previewed-by (keep.Done count, copy) limit output f = heard-fits After (stateIn copy) limit output
+previewed-by (keep.Refused x, copy) limit output f = f
 
-  previewed-by : (j : Judgement) → Fits keptParts (refusedOr j (λ x. (keep.Refused x, b)) (keep.Done (a .state .hearing .count), bytesOf (a .state)))
-      → Fits decodedParts (refusedOr j (λ x. (decode.Refused x, output)) (hearingRestarted (a .state) limit output))
-  unfolding refusedOr
-  previewed-by Fine f = heard-fits After (a .state) limit output
-  previewed-by (Refused x) f = f
-
-  pub previewed-fits : Fits decodedParts (previewedIn b channel limit output)
-  previewed-fits = previewed-by (a .judgement) (added-fits b channel)
+pub previewed-fits : (b channel : List ℕ) (limit : ℕ) (output : List ℕ) → Fits decodedParts (previewedIn b channel limit output)
+previewed-fits b channel limit output = previewed-by (addedIn b channel) limit output (added-fits b channel)

@@ -3,7 +3,6 @@ use mathlib.Core.Path.{_≡_, refl, ap, _∙_, subst}
 use mathlib.Core.List.{List, [], _∷_, _++_}
 use Prim.Native.Nat.{ℕ}
 use lib.ListN.{length}
-use Rattle.refusal.specs.declared.Refusal.{Refusal}
 use Rattle.refusal.specs.declared.Judgement.{Judgement}
 use Rattle.refusal.specs.declared.Judgement.the-variants as judgement
 use Rattle.refusal.specs.Judge.{judge, refusedOr}
@@ -17,11 +16,13 @@ use Rattle.hearing.specs.Hearing.{addedTo, addRefusals}
 use Rattle.state.specs.declared.State.{State}
 use Rattle.state.specs.declared.Heard.{Heard}
 use Rattle.state.specs.State.{heard, refusedIn, withHearing, opened, addedUnder, added, hearingRestarted}
-use Rattle.repeats.specs.Repeats.{Call, add, clear, called, after, acceptedIn, Holds}
+use Rattle.lent.specs.Lent.{openedIn}
+use Rattle.repeats.specs.Repeats.{Call, add, clear, called, after, acceptedIn, Holds, bufferAfter}
 use Rattle.repeats.proofs.HeldAfter.{held-after}
 use Rattle.repeats.proofs.Buffer.{buffer-after}
 use Rattle.preview.specs.Preview.{previewed}
 use Rattle.preview.specs.Claims.{Previews, PreviewAfter, PreviewInAfter}
+use Rattle.preview.proofs.Copy.{on-a-copy}
 
 -- one more add, of the state and of what is accepted
 module _ (channel : List ℕ) where
@@ -83,4 +84,4 @@ preview-after = previews
 
 pub preview-in-after : PreviewInAfter
 preview-in-after d b c calls channel limit output code size =
-    ap (λ (t : State). previewed t channel limit output) (buffer-after d b c calls code size)
+    on-a-copy (bufferAfter (openedIn d b .1) calls) channel limit output ∙ ap (λ (t : State). previewed t channel limit output) (buffer-after d b c calls code size)

@@ -1,5 +1,5 @@
 -- Add and then decode on a copy of a buffer: what the add writes there is read back.
-use mathlib.Core.Path.{_≡_, refl, sym, ap}
+use mathlib.Core.Path.{_≡_, refl, ap}
 use mathlib.Core.List.{List}
 use Prim.Native.Nat.{ℕ}
 use Rattle.refusal.specs.declared.Judgement.{Judgement}
@@ -15,17 +15,18 @@ use Rattle.state.specs.declared.Heard.{Heard}
 use Rattle.state.specs.State.{codeOfState, heard, refusedIn, withHearing, addedUnder, hearingRestarted}
 use Rattle.lent.specs.Lent.{stateIn, kept}
 use Rattle.lent.proofs.Bytes.{read-written}
-use Rattle.preview.specs.Preview.{thenRestarted, thenRestartedIn, OnACopy}
+use Rattle.preview.specs.Preview.{thenRestarted, thenRestartedIn}
 use Rattle.preview.specs.Contracts.{MayAdd}
+use Rattle.preview.specs.Claims.{OnACopy}
 use Rattle.preview.proofs.Sums as sums
 
 module _ (b channel : List ℕ) (limit : ℕ) (output : List ℕ) where
   abbrev s : State
   s = stateIn b
 
-  -- what an add answers, and what it leaves in the copy, decode alike
+  -- what an add leaves in the copy, and what it answers, decode alike
   abbrev Alike : Heard → Type 0
-  Alike a = thenRestarted a limit output ≡ thenRestartedIn (kept a b) limit output
+  Alike a = thenRestartedIn (kept a b) limit output ≡ thenRestarted a limit output
 
   judged : (c : Code) → codeOfState s ≡ Coding c → (j : Judgement) → judge (addRefusals c (s .hearing .count) channel) ≡ j
       → Alike (refusedOr j (refusedIn s) (heard Fine (withHearing s (addedTo c (s .hearing) channel))))
@@ -33,7 +34,7 @@ module _ (b channel : List ℕ) (limit : ℕ) (output : List ℕ) where
   judged c e Fine f =
       let may : MayAdd c b channel = record { code-is = e; fine = f } in
       let after : State = withHearing s (addedTo c (s .hearing) channel) in
-      ap (λ (t : State). hearingRestarted t limit output) (sym (read-written after (sums.description-long c b channel may) (sums.sums-long c b channel may)))
+      ap (λ (t : State). hearingRestarted t limit output) (read-written after (sums.description-long c b channel may) (sums.sums-long c b channel may))
   judged c e (Refused x) f = refl
 
   coded : (a : Description) → codeOfState s ≡ a → Alike (onDescription a (refusedIn s) (λ c. addedUnder c s channel))

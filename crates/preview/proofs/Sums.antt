@@ -15,19 +15,18 @@ use Rattle.code.specs.declared.Description.{Description}
 use Rattle.code.specs.declared.Description.the-variants.{Accepted}
 use Rattle.code.specs.Code.{codeLength}
 use Rattle.code.specs.Description.{describe, onDescription}
-use Rattle.code.proofs.Facts.{described}
 use Rattle.run.specs.declared.Decoded.the-variants.{Refused}
 use Rattle.trial.specs.declared.Restart.the-variants.{After}
 use Rattle.flip.specs.Decode.{planOf, decodedWith}
 use Rattle.hearing.specs.declared.Hearing.{Hearing}
-use Rattle.hearing.specs.Padded.{padded, allZero}
+use Rattle.hearing.specs.Padded.{allZero}
 use Rattle.hearing.specs.Hearing.{combined, clippedSums, addedTo, isHearing}
 use Rattle.hearing.specs.Contracts.{AddPre}
 use Rattle.hearing.proofs.Zeros.{and-true, drop-replicate, length-padded, splice-padded}
 use Rattle.hearing.proofs.Adding.{count-most, zeros-after, channel-size, not-full, add-pre, sums-are}
 use Rattle.state.specs.declared.State.{State}
 use Rattle.state.specs.State.{longestDescription, descriptionOf, codeOfState, withHearing, hearingRestarted}
-use Rattle.state.proofs.States.{code-by, state-is, is-hearing}
+use Rattle.state.proofs.States.{code-by, state-is, code-most, is-hearing}
 use Rattle.lent.specs.Lent.{hearingSize, stateIn}
 use Rattle.lent.proofs.Bytes.{state-at}
 use Rattle.lent.proofs.InPlace.{code-size}
@@ -55,7 +54,7 @@ module _ (c : Code) (b channel : List ℕ) (may : MayAdd c b channel) where
   describes = state-is s c (may .code-is) .0
 
   n-most : c .n ≤ deepest
-  n-most = described (descriptionOf s) c describes .coded .n-most
+  n-most = code-most s c (may .code-is)
 
   hears : isHearing c h ≡ true
   hears = is-hearing s c (may .code-is)

@@ -1,4 +1,4 @@
--- What else the theorems of this crate state.
+-- What the theorems of this crate state of its definitions.
 use mathlib.Core.Path.{_≡_}
 use mathlib.Core.List.{List, [], _∷_, _++_}
 use Prim.Native.Nat.{ℕ}
@@ -14,11 +14,15 @@ use Rattle.flip.specs.Decode.{decodedRestarted}
 use Rattle.hearing.specs.Hearing.{combined, addRefusals}
 use Rattle.state.specs.declared.State.{State}
 use Rattle.state.specs.State.{opened, added}
-use Rattle.lent.specs.Lent.{hearingSize, openedIn}
+use Rattle.lent.specs.Lent.{hearingSize, stateIn, openedIn}
 use Rattle.repeats.specs.Repeats.{Call, after, acceptedIn, Holds, bufferAfter}
 use Rattle.preview.specs.Preview.{previewed, previewedIn}
 
--- what a preview of one more vector answers, where the state s, of a code c with description d, holds these vectors
+-- the preview in a buffer, whatever it holds, is that of its state: `on-a-copy`
+abbrev pub OnACopy : Type 0
+OnACopy = (b channel : List ℕ) (limit : ℕ) (output : List ℕ) → previewedIn b channel limit output ≡ previewed (stateIn b) channel limit output
+
+-- what a preview of one more vector answers on a state s, of a code c with description d, `vectors` being those that it holds
 pub record Previews (d : List ℕ) (c : Code) (s : State) (vectors : List (List ℕ)) (channel : List ℕ) : Type 0 where
   -- 12, 13 and 27 are the answer, and the output stays
   pub refused :

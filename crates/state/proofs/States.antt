@@ -1,15 +1,17 @@
 -- What a state says that is not refused as 40.
 use mathlib.Core.Path.{_≡_, refl, ap, _∙_, subst}
 use mathlib.Core.Bool.{Bool, true, false, cond}
-use Prim.Native.Nat.{ℕ}
+use Prim.Native.Nat.{ℕ, _≤_}
 use native.Mathlib.Omega.{arith}
 use lib.ListN.{length, drop}
 use Rattle.refusal.specs.declared.Refusal.the-variants.{Alone}
 use Rattle.refusal.specs.Judge.{judge, refusedOr}
+use Rattle.arrays.specs.Sizes.{deepest}
 use Rattle.code.specs.declared.Code.{Code}
 use Rattle.code.specs.declared.Description.{Description}
 use Rattle.code.specs.declared.Description.the-variants.{Accepted, Refused}
 use Rattle.code.specs.Description.{describeUpTo, describe, onDescription}
+use Rattle.code.proofs.Facts.{described}
 use Rattle.hearing.specs.Padded.{allZero}
 use Rattle.hearing.specs.Hearing.{isHearing}
 use Rattle.hearing.proofs.Zeros.{and-true}
@@ -34,6 +36,9 @@ module _ (s : State) where
       go : (a : Description) → describe (descriptionOf s) ≡ a → codeBy a ≡ Accepted c → (describe (descriptionOf s) ≡ Accepted c) × (isState c s ≡ true)
       go (Accepted c′) e f = at c′ (isState c′ s) e refl f
       go (Refused x) e f = let z : _≡_ {A = ℕ} 0 1 = cc in absurd (omega arith)
+
+  pub code-most : (c : Code) → codeOfState s ≡ Accepted c → c .n ≤ deepest
+  code-most c e = described (descriptionOf s) c (state-is c e .0) .coded .n-most
 
   pub is-hearing : (c : Code) → codeOfState s ≡ Accepted c → isHearing c (s .hearing) ≡ true
   is-hearing c e =

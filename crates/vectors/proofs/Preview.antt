@@ -1,8 +1,8 @@
 -- Document 02, request 2.7: of two weak hearings the first is held and the second is tried, from the theorems, whose premises are met.
-use mathlib.Core.Path.{_≡_, refl, sym, _∙_, subst}
+use mathlib.Core.Path.{_≡_, refl, sym, ap, _∙_, subst}
 use mathlib.Core.List.{List, [], _∷_}
 use Prim.Native.Nat.{ℕ, _≤_}
-use lib.ListN.{length}
+use lib.ListN.{length, replicate}
 use Rattle.laws.specs.First.{firstWhere}
 use Rattle.refusal.specs.declared.Refusal.the-variants.{Alone, At}
 use Rattle.refusal.specs.declared.Judgement.the-variants.{Fine}
@@ -40,7 +40,7 @@ second-fine : judge (addRefusals wideCode 1 secondV) ≡ Fine
 unfolding firstWhere judge channelValue
 second-fine = refl
 
--- the second hearing would settle the frame: for every T, whatever byte the output held
+-- the second hearing would settle the frame: for every T that 14 allows, whatever byte the output held; `neither-decodes` has what each alone gives
 pub second-settles : (T byte : ℕ) → 1 ≤ T → T ≤ 5 → previewed heardOnce secondV T (byte ∷ []) ≡ (Accepted 1 24, 0x80 ∷ [])
 second-settles T byte least most =
     let held = previews secondV .sums second-fine in
@@ -65,3 +65,17 @@ module _ (b : List ℕ) (size : length b ≡ hearingSize) where
       → previewedIn (bufferAfter (openedIn wideD b .1) calls) secondV T (byte ∷ []) ≡ (Accepted 1 24, 0x80 ∷ [])
   buffer-settles T byte least most =
       preview-in-after wideD b wideCode calls secondV T (byte ∷ []) describes size ∙ second-settles T byte least most
+
+-- ---- a full hearing: zeros, 255 times
+
+abbrev pub full : List Call
+full = replicate 255 (add (replicate 8 0))
+
+all-accepted : length (acceptedIn wideCode [] full) ≡ 255
+unfolding firstWhere judge refusedOr channelValue
+all-accepted = refl
+
+pub full-refused : (T : ℕ) (output : List ℕ) → previewed (after (opened wideD .state) full) secondV T output ≡ (Refused (Alone 27), output)
+unfolding firstWhere judge channelValue
+full-refused =
+    preview-after wideD wideCode full secondV describes .refused (Alone 27) (ap (λ (n : ℕ). judge (addRefusals wideCode n secondV)) all-accepted)

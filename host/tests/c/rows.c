@@ -192,6 +192,7 @@ static void preview_rows(void)
     preview("V tried, T = 6", V, sizeof V, 6);
     preview("32 tried, T = 6", LAST_32, sizeof LAST_32, 6);
     preview("seven values tried, T = 6", V, 7, 6);
+    preview("nothing tried, T = 6", NULL, 0, 6);
     decode_hearing("V heard, T = 1", polar_hearing_decode_restarted, 1);
     add_vector("add right signs", RIGHT, sizeof RIGHT);
     decode_hearing("both heard, T = 1", polar_hearing_decode_restarted, 1);
@@ -200,6 +201,7 @@ static void preview_rows(void)
     preview("32 tried, T = 6", LAST_32, sizeof LAST_32, 6);
     memset(hearing, 0, sizeof hearing);
     preview("damaged, seven values tried, T = 6", V, 7, 6);
+    print("nothing lent", polar_hearing_preview(NULL, 0, NULL, 0, 0, NULL, 0), NULL, 0);
 }
 
 int main(void)

@@ -11,3 +11,4 @@ mod lists;
 mod moved;
 mod preview;
 mod refusals;
+mod trials;

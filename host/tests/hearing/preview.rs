@@ -3,6 +3,7 @@
 use std::ops::Range;
 use std::thread;
 
+use host::reference::hearing::MOST_HEARINGS;
 use host::reference::sizes::{HEARING_SIZE, LAYERS};
 use host::testing::cab::Cab;
 use host::testing::faulty::Faulty;
@@ -195,10 +196,16 @@ fn at_once_in_sealed_memory() {
     let mut random = Random::new(5);
     for n in LAYERS {
         for cab in of_both_kinds(&mut random, n, true) {
-            let state = after(&mut random, &cab, 2);
-            let mut tried: Vec<Faulty> = (0..4).map(|_| cab.lent(&mut random)).collect();
-            tried[3].put_fault(&mut random, 13);
-            check_at_once(&state, &tried);
+            let good = [(); 3].map(|_| cab.lent(&mut random));
+            let wrong = [12, 13, 14, 15].map(|fault| {
+                let mut lent = cab.lent(&mut random);
+                lent.put_fault(&mut random, fault);
+                lent
+            });
+            let tried: Vec<Faulty> = good.into_iter().chain(wrong).collect();
+            for adds in [2, MOST_HEARINGS] {
+                check_at_once(&after(&mut random, &cab, adds), &tried);
+            }
         }
     }
 }

@@ -11,7 +11,6 @@ use Rattle.refusal.specs.declared.Judgement.{Judgement}
 use Rattle.refusal.specs.declared.Judgement.the-variants.{Fine}
 use Rattle.refusal.specs.Judge.{judge, refusedOr}
 use Rattle.arrays.specs.Sizes.{deepest}
-use Rattle.code.proofs.Facts.{described}
 use Rattle.hearing.specs.declared.Hearing.{Hearing}
 use Rattle.hearing.specs.Hearing.{addedTo, addRefusals, isHearing}
 use Rattle.hearing.specs.Contracts.{hearingBy}
@@ -19,7 +18,7 @@ use Rattle.hearing.proofs.Adding.{count-most, not-full, add-pre, sums-are}
 use Rattle.state.specs.declared.State.{State}
 use Rattle.state.specs.State.{longestDescription, codeOfState, heard, refusedIn, withHearing}
 use Rattle.state.specs.Contracts.{stateBy}
-use Rattle.state.proofs.States.{state-is, is-hearing}
+use Rattle.state.proofs.States.{code-most, is-hearing}
 use Rattle.lent.specs.declared.Kept.{Kept}
 use Rattle.lent.specs.declared.Kept.the-variants.{Done}
 use Rattle.lent.specs.Lent.{hearingSize, stateIn, kept}
@@ -48,7 +47,7 @@ module _ (s : tie.Start) where
   coded = ap codeOfState (state-parts b size)
 
   n-most : s .args .code .n ≤ deepest
-  n-most = described _ _ (state-is state (s .args .code) (coded ∙ s .pre) .0) .coded .n-most
+  n-most = code-most state (s .args .code) (coded ∙ s .pre)
 
   hears : isHearing (s .args .code) h ≡ true
   hears = is-hearing state (s .args .code) (coded ∙ s .pre)

@@ -1,5 +1,5 @@
 -- `preview::preview_in` meets its contract: the definition goes by the code of the state.
-use mathlib.Core.Path.{refl, sym, ap, _∙_}
+use mathlib.Core.Path.{_≡_, refl, sym, ap, _∙_}
 use mathlib.Core.List.{List}
 use Prim.Native.Nat.{ℕ}
 use borrow.Author.Needs.{needs}
@@ -8,9 +8,10 @@ use Rattle.refusal.specs.Judge.{refusedOr}
 use Rattle.code.specs.declared.Description.{Description}
 use Rattle.code.specs.Description.{onDescription}
 use Rattle.run.specs.declared.Decoded.{Decoded}
-use Rattle.state.specs.State.{refusedIn, addedUnder}
+use Rattle.state.specs.State.{codeOfState, refusedIn, addedUnder}
 use Rattle.lent.specs.Lent.{stateIn}
-use Rattle.preview.specs.Preview.{thenRestarted}
+use Rattle.preview.specs.Preview.{thenRestarted, previewedIn}
+use Rattle.preview.proofs.Copy.{on-a-copy}
 use Rattle.preview.proofs.preview_in.Statement.{statement}
 use Rattle.preview.proofs.preview_in.Tie as tie
 
@@ -21,18 +22,24 @@ by s a =
     let t = stateIn (now (x .buffer)) in
     thenRestarted (onDescription a (refusedIn t) (λ c. addedUnder c t (now (x .channel)))) (x .limit) (now (x .output))
 
+-- the definition is that of the state
+defined : (s : tie.Start) → let x = s .args in previewedIn (now (x .buffer)) (now (x .channel)) (x .limit) (now (x .output)) ≡ by s (codeOfState (stateIn (now (x .buffer))))
+defined s = let x = s .args in on-a-copy (now (x .buffer)) (now (x .channel)) (x .limit) (now (x .output))
+
 returns : tie.Need-returns
 returns c =
     let u = c .before .before in
     let t = u .before .before in
     let r = t .before .before .before in
-    (u .preview-under .ensures ∙ sym (ap (by (r .before .before .before .before)) (sym (r .code-in .ensures) ∙ t .before .code .given .1)), refl)
+    let s = r .before .before .before .before in
+    (u .preview-under .ensures ∙ sym (ap (by s) (sym (r .code-in .ensures) ∙ t .before .code .given .1)) ∙ sym (defined s), refl)
 
 returns-2 : tie.Need-returns-2
 unfolding refusedOr
 returns-2 c =
     let r = c .before .before .before in
-    (sym (ap (by (r .before .before .before .before)) (sym (r .code-in .ensures) ∙ c .before .x .given .1)), refl)
+    let s = r .before .before .before .before in
+    (sym (ap (by s) (sym (r .code-in .ensures) ∙ c .before .x .given .1)) ∙ sym (defined s), refl)
 
 pub preview-in-spec : {M : Type 1} → statement M
 preview-in-spec =

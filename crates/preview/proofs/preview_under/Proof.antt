@@ -10,12 +10,11 @@ use Rattle.refusal.specs.declared.Judgement.{Judgement}
 use Rattle.refusal.specs.declared.Judgement.the-variants.{Fine}
 use Rattle.refusal.specs.Judge.{judge, refusedOr}
 use Rattle.arrays.specs.Sizes.{deepest}
-use Rattle.code.proofs.Facts.{described}
 use Rattle.run.specs.declared.Decoded.{Decoded}
 use Rattle.hearing.specs.Hearing.{addedTo, addRefusals}
 use Rattle.state.specs.declared.State.{State}
 use Rattle.state.specs.State.{heard, refusedIn, withHearing}
-use Rattle.state.proofs.States.{state-is}
+use Rattle.state.proofs.States.{code-most}
 use Rattle.lent.specs.Lent.{hearingSize, stateIn}
 use Rattle.lent.proofs.Bytes.{state-at}
 use Rattle.lent.proofs.InPlace.{code-size}
@@ -31,7 +30,7 @@ module _ (s : tie.Start) where
   size = code-size b (s .args .code) (s .pre)
 
   n-most : s .args .code .n ≤ deepest
-  n-most = described _ _ (state-is (stateIn b) (s .args .code) (s .pre) .0) .coded .n-most
+  n-most = code-most (stateIn b) (s .args .code) (s .pre)
 
   -- the answer, by the judgement
   abbrev by : Judgement → Decoded × List ℕ

@@ -8,18 +8,17 @@ use Rattle.refusal.specs.declared.Judgement.{Judgement}
 use Rattle.refusal.specs.declared.Judgement.the-variants.{Fine}
 use Rattle.refusal.specs.Judge.{refusedOr}
 use Rattle.arrays.specs.Sizes.{deepest}
-use Rattle.code.proofs.Facts.{described}
 use Rattle.hearing.specs.declared.Hearing.{Hearing}
 use Rattle.hearing.specs.Hearing.{addedTo, isHearing}
 use Rattle.state.specs.declared.Heard.{Heard}
 use Rattle.state.specs.State.{heard, refusedIn, withHearing}
-use Rattle.state.proofs.States.{state-is, is-hearing}
+use Rattle.state.proofs.States.{code-most, is-hearing}
 use Rattle.state.proofs.add_under.Statement.{statement}
 use Rattle.state.proofs.add_under.Tie as tie
 
 module _ (s : tie.Start) where
   n-most : s .args .code .n ≤ deepest
-  n-most = described _ _ (state-is (s .args .state) (s .args .code) (s .pre) .0) .coded .n-most
+  n-most = code-most (s .args .state) (s .args .code) (s .pre)
 
   hears : isHearing (s .args .code) (s .args .state .hearing) ≡ true
   hears = is-hearing (s .args .state) (s .args .code) (s .pre)
