@@ -47,7 +47,7 @@ const ALLOWED: [(&str, &str); 14] = [
     ("host/tests/sizes.rs", ""),
     // the largest trial limit where sets may have two indices
     ("crates/sets/", "512"),
-    ("crates/setflip/", "512"),
+    ("crates/sets_decoder/", "512"),
     ("crates/vectors/proofs/Sets.antt", "512"),
     ("crates/vectors/proofs/Half.antt", "512"),
     ("host/src/reference/sets.rs", "LIMITS_OF_SETS: "),
@@ -175,7 +175,7 @@ fn the_largest_n_is_the_same_everywhere() {
 fn what_is_spelt_is_found() {
     let spellings = spellings();
     let found = |path, line: &str| spelt(&spellings, path, line).is_some();
-    let (proof, marked) = ("crates/sc/proofs/A.antt", with_mark(LONGEST, '_'));
+    let (proof, marked) = ("crates/pass/proofs/A.antt", with_mark(LONGEST, '_'));
     for line in [
         format!("length mask ≤ {LONGEST_BYTES}"),
         format!("[0; {marked}]"),

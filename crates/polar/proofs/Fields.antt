@@ -1,7 +1,7 @@
 -- Every answer of every export is read back from its number.
-use Rattle.trial.specs.declared.Restart.the-variants.{Root, Half, After}
-use Rattle.lent.specs.Lent.{stateIn}
-use Rattle.number.proofs.Fields.{number-fields}
+use Rattle.flip_trial.specs.declared.Restart.the-variants.{Root, Half, After}
+use Rattle.hearing_buffer.specs.Lent.{stateIn}
+use Rattle.polar_number.proofs.Fields.{number-fields}
 use Rattle.polar.specs.Claims.{ReadBack}
 use Rattle.polar.proofs.Fitting.{encoded-fits, resumed-fits, decoded-fits, sets-fits}
 use Rattle.polar.proofs.Fitting.{opened-fits, added-fits, cleared-fits, heard-fits, previewed-fits}

@@ -28,30 +28,30 @@ use Rattle.code.proofs.Facts.{described}
 use Rattle.values.specs.Values.{maskRule}
 use Rattle.channel.specs.Channel.{channelValues, firstOutside}
 use Rattle.encoder.specs.Encode.{encodingRefusals, encodedBy, encoded}
-use Rattle.tree.proofs.StepsMost.{steps-most}
-use Rattle.resume.specs.Resume.{firstBad, resumingRefusals, resumedBy, resumed}
-use Rattle.trial.specs.declared.Restart.{Restart}
-use Rattle.trial.specs.declared.Restart.the-variants.{After}
-use Rattle.trial.specs.Trial.{trialPasses}
-use Rattle.run.specs.declared.Decoded.{Decoded}
-use Rattle.run.specs.Trials.{trials, Verdict, passed, failed, run, answerOf}
-use Rattle.flip.specs.Decode.{decodingRefusals, planOf, decodedBy, decodedWith}
-use Rattle.demands.proofs.StepBounds.{Bounded, decoded-bounded}
+use Rattle.pass_tree.proofs.StepsMost.{steps-most}
+use Rattle.pass_resume.specs.Resume.{firstBad, resumingRefusals, resumedBy, resumed}
+use Rattle.flip_trial.specs.declared.Restart.{Restart}
+use Rattle.flip_trial.specs.declared.Restart.the-variants.{After}
+use Rattle.flip_trial.specs.Trial.{trialPasses}
+use Rattle.flip_run.specs.declared.Decoded.{Decoded}
+use Rattle.flip_run.specs.Trials.{trials, Verdict, passed, failed, run, answerOf}
+use Rattle.flip_decoder.specs.Decode.{decodingRefusals, planOf, decodedBy, decodedWith}
+use Rattle.flip_demands.proofs.StepBounds.{Bounded, decoded-bounded}
 use Rattle.sets.specs.Tried.{setTrials}
 use Rattle.sets.specs.DecodeSets.{setRefusals, searchOf, setsBy, setsWith}
-use Rattle.setdemands.proofs.StepBounds.{sets-bounded}
+use Rattle.sets_demands.proofs.StepBounds.{sets-bounded}
 use Rattle.hearing.specs.Hearing.{fresh, combined, addedTo, addRefusals, isHearing}
 use Rattle.hearing.proofs.Adding.{count-most, not-full}
-use Rattle.state.specs.declared.State.{State}
-use Rattle.state.specs.declared.Heard.{Heard}
-use Rattle.state.specs.State.{stateOf, noState, descriptionOf, isState, codeOfState, heard, refusedIn, withHearing, opened, hearingWith}
-use Rattle.state.proofs.States.{codeBy, code-most, is-hearing}
-use Rattle.lent.specs.declared.Kept.{Kept}
-use Rattle.lent.specs.declared.Kept.the-variants as keep
-use Rattle.lent.specs.Lent.{hearingSize, stateIn, kept, openedIn, addedIn, clearedIn}
-use Rattle.preview.specs.Preview.{thenRestartedIn, previewedIn}
-use Rattle.number.specs.Number.{Parts, parts, refusalParts, encodedParts, resumedParts, decodedParts, keptParts}
-use Rattle.number.specs.Contracts.{Fitting}
+use Rattle.hearing_state.specs.declared.State.{State}
+use Rattle.hearing_state.specs.declared.Heard.{Heard}
+use Rattle.hearing_state.specs.State.{stateOf, noState, descriptionOf, isState, codeOfState, heard, refusedIn, withHearing, opened, hearingWith}
+use Rattle.hearing_state.proofs.States.{codeBy, code-most, is-hearing}
+use Rattle.hearing_buffer.specs.declared.Kept.{Kept}
+use Rattle.hearing_buffer.specs.declared.Kept.the-variants as keep
+use Rattle.hearing_buffer.specs.Lent.{hearingSize, stateIn, kept, openedIn, addedIn, clearedIn}
+use Rattle.hearing_preview.specs.Preview.{thenRestartedIn, previewedIn}
+use Rattle.polar_number.specs.Number.{Parts, parts, refusalParts, encodedParts, resumedParts, decodedParts, keptParts}
+use Rattle.polar_number.specs.Contracts.{Fitting}
 
 -- an answer beside the output's bytes
 abbrev pub Fits : {A : Type 0} → (A → Parts) → A × List ℕ → Type 0

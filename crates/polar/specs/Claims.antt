@@ -2,13 +2,13 @@
 use Prim.Native.Nat.{ℕ}
 use mathlib.Core.List.{List}
 use Rattle.encoder.specs.Encode.{encoded}
-use Rattle.resume.specs.Resume.{resumed}
-use Rattle.flip.specs.Decode.{decodedFull, decodedHalf, decodedRestarted}
+use Rattle.pass_resume.specs.Resume.{resumed}
+use Rattle.flip_decoder.specs.Decode.{decodedFull, decodedHalf, decodedRestarted}
 use Rattle.sets.specs.DecodeSets.{setsFull, setsHalf, setsRestarted}
-use Rattle.lent.specs.Lent.{openedIn, addedIn, clearedIn, fullIn, restartedIn}
-use Rattle.preview.specs.Preview.{previewedIn}
-use Rattle.number.specs.Number.{encodedParts, resumedParts, decodedParts, keptParts}
-use Rattle.number.specs.Claims.{Read}
+use Rattle.hearing_buffer.specs.Lent.{openedIn, addedIn, clearedIn, fullIn, restartedIn}
+use Rattle.hearing_preview.specs.Preview.{previewedIn}
+use Rattle.polar_number.specs.Number.{encodedParts, resumedParts, decodedParts, keptParts}
+use Rattle.polar_number.specs.Claims.{Read}
 
 -- the number of every answer of every export gives its parts back: `read-back` of proofs/Fields.antt
 abbrev pub ReadBack : Type 0

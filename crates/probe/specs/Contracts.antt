@@ -17,7 +17,7 @@ use Rattle.code.specs.declared.Description.{Description}
 use Rattle.code.specs.declared.Description.the-variants.{Accepted, Refused}
 use Rattle.quantiser.specs.declared.Quantised.{Quantised}
 use Rattle.quantiser.specs.declared.Quantised.the-variants.{Done, Refused}
-use Rattle.level.specs.Level.{plusZero}
+use Rattle.quantiser_level.specs.Level.{plusZero}
 
 -- a refusal's index, or 0
 abbrev pub indexOf : Refusal → ℕ

@@ -8,9 +8,9 @@ use lib.Ieee.{Float}
 use lib.ListN.{length, getD}
 use Rattle.laws.proofs.Table.{length-table, getD-table}
 use Rattle.channel.specs.Channel.{channelValue, byteOf}
-use Rattle.level.specs.Level.{level}
+use Rattle.quantiser_level.specs.Level.{level}
 use Rattle.channel.proofs.Bytes.{channel-byte}
-use Rattle.level.proofs.Levels.{level-le}
+use Rattle.quantiser_level.proofs.Levels.{level-le}
 use Rattle.quantiser.specs.declared.Summary.{Summary}
 use Rattle.quantiser.specs.declared.Quantised.{Quantised}
 use Rattle.quantiser.specs.declared.Quantised.the-variants.{Done}

@@ -6,7 +6,7 @@ use lib.Ieee.{Float, binary32, ofBits, mul, lt, isNan}
 use Rattle.laws.specs.First.{firstWhere}
 use Rattle.laws.specs.Table.{table}
 use Rattle.refusal.specs.Judge.{judge, refusedOr}
-use Rattle.level.specs.Level.{magnitude, quarters, whole, level, isClipped}
+use Rattle.quantiser_level.specs.Level.{magnitude, quarters, whole, level, isClipped}
 use Rattle.quantiser.specs.declared.Quantised.{Quantised}
 use Rattle.quantiser.specs.declared.Quantised.the-variants.{Done}
 use Rattle.quantiser.specs.Quantise.{larger, peakOf, clippedOf, validScale, quantised}

@@ -12,7 +12,7 @@ use lib.Ieee.{Float, nan, inf, fin, up, down, lt, isNan}
 use lib.Ieee.Fits.{down-pos}
 use lib.Ieee.Positive.{through}
 use Rattle.laws.proofs.Choice.{cond-ind}
-use Rattle.level.specs.Level.{plusZero, magnitude, isClipped}
+use Rattle.quantiser_level.specs.Level.{plusZero, magnitude, isClipped}
 use Rattle.quantiser.specs.Quantise.{larger, peakOf, clippedOf}
 use Rattle.quantiser.specs.Claims.{Under}
 

@@ -6,7 +6,7 @@ use Prim.Native.Nat.{ℕ, _≤_, _<_}
 use lib.Dec.{T}
 use lib.Ieee.{Float, lt, isNan}
 use lib.ListN.{length}
-use Rattle.level.specs.Level.{plusZero, magnitude}
+use Rattle.quantiser_level.specs.Level.{plusZero, magnitude}
 use Rattle.quantiser.specs.declared.Quantised.{Quantised}
 use Rattle.quantiser.specs.declared.Quantised.the-variants.{Done, Refused}
 use Rattle.quantiser.specs.Quantise.{firstNan, validScale}

@@ -10,7 +10,7 @@ use Rattle.laws.specs.Table.{table}
 use Rattle.refusal.specs.declared.Refusal.{Refusal}
 use Rattle.refusal.specs.declared.Refusal.the-variants.{Alone, At}
 use Rattle.refusal.specs.Judge.{differs, judge, refusedOr}
-use Rattle.level.specs.Level.{plusZero, levelOf}
+use Rattle.quantiser_level.specs.Level.{plusZero, levelOf}
 use Rattle.quantiser.specs.declared.Quantised.{Quantised}
 use Rattle.quantiser.specs.declared.Quantised.the-variants.{Done, Refused}
 

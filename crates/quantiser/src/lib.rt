@@ -1,5 +1,5 @@
 // The sample quantiser: samples times a scale, as channel values in quarter units.
-use level::quantise_one;
+use quantiser_level::quantise_one;
 use refusal::Judgement;
 use refusal::Refusal;
 ghost use mathlib.Core.Path.{_≡_};

@@ -2,8 +2,8 @@
 use mathlib.Core.List.{List}
 use Prim.Native.Nat.{ℕ, _≤_, _<_}
 use lib.ListN.{length}
-use Rattle.records.specs.declared.Stream.{Stream}
-use Rattle.records.specs.Contracts.{room, longestRecord, mostTurns}
+use Rattle.receive_stream.specs.declared.Stream.{Stream}
+use Rattle.receive_stream.specs.Contracts.{room, longestRecord, mostTurns}
 
 -- room for the longest record, for the longest description and for what one step prints, in buffers below 64 KiB
 pub record Rooms (longest : ℕ) (bytes held output : List ℕ) : Type 0 where

@@ -3,7 +3,7 @@
 use code::LONGEST;
 use libc::STDIN_FILENO;
 use libc::STDOUT_FILENO;
-use records::Stream;
+use receive_stream::Stream;
 ghost use Rattle.receive.specs.Contracts.{Rooms, Ended};
 
 // The longest record.
@@ -17,7 +17,7 @@ fn receive(bytes: &mut [u8], held: &mut [u8], output: &mut [u8]) -> Stream
     requires { do ⌜ Rooms (← ⟦LONGEST⟧) (now bytes) (now held) (now output) ⌝ }
     ensures { λ s. ⌜ Ended s ⌝ }
 {
-    let mut stream = records::start();
+    let mut stream = receive_stream::start();
     while stream.turns < u64::MAX {
         if stream.wanted == 0 {
             return stream;
@@ -25,7 +25,7 @@ fn receive(bytes: &mut [u8], held: &mut [u8], output: &mut [u8]) -> Stream
         let there = stream.there;
         let end = there + stream.wanted;
         let got = io::read_full(STDIN_FILENO, &mut bytes[there..end]);
-        stream = records::advance(stream, got, bytes, held, output);
+        stream = receive_stream::advance(stream, got, bytes, held, output);
         let ready = stream.ready;
         io::write_all(STDOUT_FILENO, &output[..ready]);
     }

@@ -18,13 +18,13 @@ use Rattle.transform.specs.Transform.{covers, parity, transformed, xors}
 use Rattle.placing.specs.Place.{taken}
 use Rattle.values.specs.Values.{f, g, leftValues, rightValues}
 use Rattle.channel.specs.Channel.{channelValue, channelValues}
-use Rattle.tree.specs.Node.{node}
-use Rattle.order.specs.Order.{magnitude, information, insert, ordered}
-use Rattle.trial.specs.declared.Restart.the-variants.{After}
-use Rattle.trial.specs.Trial.{firstTrial, laterTrial}
-use Rattle.run.specs.declared.Decoded.the-variants.{Accepted, Failed, Refused}
-use Rattle.run.specs.Trials.{flipOrder, run}
-use Rattle.flip.specs.Decode.{decodedBy, decodedWith, decodedRestarted}
+use Rattle.pass_tree.specs.Node.{node}
+use Rattle.flip_order.specs.Order.{magnitude, information, insert, ordered}
+use Rattle.flip_trial.specs.declared.Restart.the-variants.{After}
+use Rattle.flip_trial.specs.Trial.{firstTrial, laterTrial}
+use Rattle.flip_run.specs.declared.Decoded.the-variants.{Accepted, Failed, Refused}
+use Rattle.flip_run.specs.Trials.{flipOrder, run}
+use Rattle.flip_decoder.specs.Decode.{decodedBy, decodedWith, decodedRestarted}
 use Rattle.sets.specs.Candidate.{metricOf, doubtful, extensions, insert as insertSet, insertEach}
 use Rattle.sets.specs.Tried.{leavesOf, tried, flipSets}
 use Rattle.sets.specs.DecodeSets.{searchOf, setsBy, setsWith, setsFull, setsRestarted}

@@ -19,12 +19,12 @@ use Rattle.code.specs.Claims.{WellFormedUnder}
 use Rattle.code.proofs.Operations.{under-exactly}
 use Rattle.channel.specs.Channel.{channelValues, channelRefusals}
 use Rattle.channel.proofs.Judge.{channel-fine, fine-channel}
-use Rattle.trial.specs.Trial.{trialPasses}
-use Rattle.run.specs.declared.Decoded.{Decoded}
-use Rattle.run.specs.declared.Decoded.the-variants.{Refused}
-use Rattle.run.specs.Trials.{Verdict, run, answerOf}
-use Rattle.flip.specs.Claims.{ofRun}
-use Rattle.flip.proofs.WellFormed.{answer-of-run}
+use Rattle.flip_trial.specs.Trial.{trialPasses}
+use Rattle.flip_run.specs.declared.Decoded.{Decoded}
+use Rattle.flip_run.specs.declared.Decoded.the-variants.{Refused}
+use Rattle.flip_run.specs.Trials.{Verdict, run, answerOf}
+use Rattle.flip_decoder.specs.Claims.{ofRun}
+use Rattle.flip_decoder.proofs.WellFormed.{answer-of-run}
 use Rattle.sets.specs.declared.Search.{Search}
 use Rattle.sets.specs.Tried.{setTrials}
 use Rattle.sets.specs.DecodeSets.{mostLimit, searchRefusals, setRefusals, setsBy, setsWith}

@@ -7,7 +7,7 @@ use lib.Dec.{leb, ltb, eqb}
 use lib.IntN.{ℤ}
 use lib.ListN.{take}
 use Rattle.bits.specs.Mask.{maskBit}
-use Rattle.order.specs.Order.{magnitude}
+use Rattle.flip_order.specs.Order.{magnitude}
 
 -- one past the largest index of a set
 abbrev pub pastLargest : List ℕ → ℕ

@@ -13,12 +13,12 @@ use Rattle.code.specs.declared.Code.{Code}
 use Rattle.code.specs.Code.{informationCount}
 use Rattle.code.specs.Description.{maskOf, describeUpTo, onDescription}
 use Rattle.channel.specs.Channel.{channelValues, channelRefusals}
-use Rattle.trial.specs.declared.Restart.{Restart}
-use Rattle.trial.specs.declared.Restart.the-variants.{Root, Half, After}
-use Rattle.trial.specs.Trial.{trialPasses}
-use Rattle.run.specs.declared.Decoded.{Decoded}
-use Rattle.run.specs.declared.Decoded.the-variants.{Refused}
-use Rattle.run.specs.Trials.{run, answerOf}
+use Rattle.flip_trial.specs.declared.Restart.{Restart}
+use Rattle.flip_trial.specs.declared.Restart.the-variants.{Root, Half, After}
+use Rattle.flip_trial.specs.Trial.{trialPasses}
+use Rattle.flip_run.specs.declared.Decoded.{Decoded}
+use Rattle.flip_run.specs.declared.Decoded.the-variants.{Refused}
+use Rattle.flip_run.specs.Trials.{run, answerOf}
 use Rattle.sets.specs.declared.Search.{Search}
 use Rattle.sets.specs.Tried.{setTrials}
 

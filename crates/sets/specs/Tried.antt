@@ -7,9 +7,9 @@ use lib.IntN.{ℤ}
 use lib.ListN.{length, take}
 use Rattle.code.specs.declared.Code.{Code}
 use Rattle.code.specs.Code.{codeLength}
-use Rattle.tree.specs.Node.{Out}
-use Rattle.trial.specs.declared.Restart.{Restart}
-use Rattle.trial.specs.Trial.{firstTrial, restartAt, laterTrial}
+use Rattle.pass_tree.specs.Node.{Out}
+use Rattle.flip_trial.specs.declared.Restart.{Restart}
+use Rattle.flip_trial.specs.Trial.{firstTrial, restartAt, laterTrial}
 use Rattle.sets.specs.declared.Search.{Search}
 use Rattle.sets.specs.Candidate.{Candidate, extensions, insertEach}
 

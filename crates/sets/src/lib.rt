@@ -1,5 +1,5 @@
 // Sets of flipped indices: how a frame is decoded by them. The definitions stand in specs/.
-use trial::Restart;
+use flip_trial::Restart;
 
 // Where later trials resume, w, the most flips of a trial, and how many trials may be made, trial 1 included.
 pub struct Search {

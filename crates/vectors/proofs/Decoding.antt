@@ -15,12 +15,12 @@ use Rattle.transform.specs.Transform.{covers, parity, transformed, xors}
 use Rattle.placing.specs.Place.{taken}
 use Rattle.values.specs.Values.{f, g, leftValues, rightValues}
 use Rattle.channel.specs.Channel.{channelValue, channelValues}
-use Rattle.tree.specs.Node.{node}
-use Rattle.order.specs.Order.{information, insert, ordered}
-use Rattle.run.specs.declared.Decoded.{Decoded}
-use Rattle.run.specs.declared.Decoded.the-variants.{Accepted, Failed, Refused}
-use Rattle.run.specs.Trials.{flipOrder, run}
-use Rattle.flip.specs.Decode.{decodedBy, decodedWith, decodedFull, decodedRestarted}
+use Rattle.pass_tree.specs.Node.{node}
+use Rattle.flip_order.specs.Order.{information, insert, ordered}
+use Rattle.flip_run.specs.declared.Decoded.{Decoded}
+use Rattle.flip_run.specs.declared.Decoded.the-variants.{Accepted, Failed, Refused}
+use Rattle.flip_run.specs.Trials.{flipOrder, run}
+use Rattle.flip_decoder.specs.Decode.{decodedBy, decodedWith, decodedFull, decodedRestarted}
 use Rattle.vectors.proofs.Descriptions.{D, starredCode, starredV}
 
 -- 4, −4, 4, −4, −4, 4, −4, 4

@@ -22,29 +22,29 @@ use Rattle.transform.specs.Transform.{covers, parity, transformed, xors}
 use Rattle.placing.specs.Place.{taken}
 use Rattle.values.specs.Values.{f, g, leftValues, rightValues}
 use Rattle.channel.specs.Channel.{channelValue, channelValues, firstOutside}
-use Rattle.tree.specs.Node.{node}
-use Rattle.tree.specs.Skipped.{skipped}
-use Rattle.order.specs.Order.{information, insert, ordered}
-use Rattle.trial.specs.declared.Restart.{Restart}
-use Rattle.trial.specs.declared.Restart.the-variants.{Root, Half, After}
-use Rattle.trial.specs.Trial.{lowest, resumeAt}
-use Rattle.run.specs.declared.Decoded.{Decoded}
-use Rattle.run.specs.declared.Decoded.the-variants.{Accepted, Failed, Refused}
-use Rattle.run.specs.Trials.{flipOrder, run}
-use Rattle.flip.specs.Decode.{decodedBy, decodedWith, decodedFull, decodedHalf, decodedRestarted}
-use Rattle.demands.specs.Demand3.{skippedOver}
+use Rattle.pass_tree.specs.Node.{node}
+use Rattle.pass_tree.specs.Skipped.{skipped}
+use Rattle.flip_order.specs.Order.{information, insert, ordered}
+use Rattle.flip_trial.specs.declared.Restart.{Restart}
+use Rattle.flip_trial.specs.declared.Restart.the-variants.{Root, Half, After}
+use Rattle.flip_trial.specs.Trial.{lowest, resumeAt}
+use Rattle.flip_run.specs.declared.Decoded.{Decoded}
+use Rattle.flip_run.specs.declared.Decoded.the-variants.{Accepted, Failed, Refused}
+use Rattle.flip_run.specs.Trials.{flipOrder, run}
+use Rattle.flip_decoder.specs.Decode.{decodedBy, decodedWith, decodedFull, decodedHalf, decodedRestarted}
+use Rattle.flip_demands.specs.Demand3.{skippedOver}
 use Rattle.sets.specs.Candidate.{doubtful, extensions, insert as insertSet, insertEach}
 use Rattle.sets.specs.Tried.{tried, flipSets}
 use Rattle.sets.specs.DecodeSets.{mostLimit, searchOf, setsBy, setsWith, setsFull, setsHalf, setsRestarted}
 use Rattle.sets.specs.WellFormed.{WellFormed as WellFormedSets}
 use Rattle.sets.proofs.Examples.{wideD, wideCode}
-use Rattle.setdemands.proofs.Larger.{stays-accepted as sets-stay}
-use Rattle.half.specs.Half.{inSecondHalf, SameAnswer}
-use Rattle.half.specs.Claims.{Sent}
-use Rattle.half.proofs.Half.{three-decode}
-use Rattle.half.proofs.Sets.{three-decode-sets}
-use Rattle.half.proofs.Larger.{stays-accepted}
-use Rattle.half.proofs.Noiseless.{noiseless-half, noiseless-half-sets}
+use Rattle.sets_demands.proofs.Larger.{stays-accepted as sets-stay}
+use Rattle.theorems_half.specs.Half.{inSecondHalf, SameAnswer}
+use Rattle.theorems_half.specs.Claims.{Sent}
+use Rattle.theorems_half.proofs.Half.{three-decode}
+use Rattle.theorems_half.proofs.Sets.{three-decode-sets}
+use Rattle.theorems_half.proofs.Larger.{stays-accepted}
+use Rattle.theorems_half.proofs.Noiseless.{noiseless-half, noiseless-half-sets}
 use Rattle.vectors.proofs.Descriptions.{D, starredD, starredCode}
 use Rattle.vectors.proofs.Encoding.{starred-encoding}
 use Rattle.vectors.proofs.Decoding.{noiselessA0}

@@ -25,27 +25,27 @@ use Rattle.placing.specs.Place.{taken}
 use Rattle.values.specs.Values.{hard, f, g, leftValues, rightValues}
 use Rattle.channel.specs.Channel.{channelValue, channelValues, firstOutside}
 use Rattle.channel.proofs.Outside.{each-inside}
-use Rattle.tree.specs.Node.{node}
-use Rattle.order.specs.Order.{information, insert, ordered}
-use Rattle.run.specs.declared.Decoded.the-variants.{Accepted, Failed}
-use Rattle.run.specs.Trials.{run}
-use Rattle.run.specs.WellFormed.{WellFormed}
-use Rattle.flip.specs.Decode.{decodedBy, decodedWith, decodedFull, decodedRestarted}
-use Rattle.demands.specs.Noiseless.{Received}
-use Rattle.demands.proofs.NoiselessDecoding.{noiseless-decoding}
+use Rattle.pass_tree.specs.Node.{node}
+use Rattle.flip_order.specs.Order.{information, insert, ordered}
+use Rattle.flip_run.specs.declared.Decoded.the-variants.{Accepted, Failed}
+use Rattle.flip_run.specs.Trials.{run}
+use Rattle.flip_run.specs.WellFormed.{WellFormed}
+use Rattle.flip_decoder.specs.Decode.{decodedBy, decodedWith, decodedFull, decodedRestarted}
+use Rattle.flip_demands.specs.Noiseless.{Received}
+use Rattle.flip_demands.proofs.NoiselessDecoding.{noiseless-decoding}
 use Rattle.sets.proofs.Examples.{wideD, wideCode, vector}
 use Rattle.hearing.specs.Hearing.{hearingOf, combined}
 use Rattle.hearing.proofs.Zeros.{and-true, length-padded}
-use Rattle.state.specs.declared.State.{State}
-use Rattle.state.specs.State.{longestDescription, stateOf, descriptionOf, opened, hearingFull, hearingRestarted}
-use Rattle.lent.specs.Lent.{hearingSize, stateIn, openedIn, fullIn, restartedIn}
-use Rattle.repeats.specs.Repeats.{Call, add, clear, after, acceptedIn, Holds, bufferAfter}
-use Rattle.repeats.specs.Claims.{Sized}
-use Rattle.repeats.proofs.Descriptions.{code-of}
-use Rattle.repeats.proofs.Adding.{Inside, each-zero, heard-hearing}
-use Rattle.repeats.proofs.HeldAfter.{held-after}
-use Rattle.repeats.proofs.Left.{left-by-some}
-use Rattle.repeats.proofs.Buffer.{buffer-after}
+use Rattle.hearing_state.specs.declared.State.{State}
+use Rattle.hearing_state.specs.State.{longestDescription, stateOf, descriptionOf, opened, hearingFull, hearingRestarted}
+use Rattle.hearing_buffer.specs.Lent.{hearingSize, stateIn, openedIn, fullIn, restartedIn}
+use Rattle.hearing_demands.specs.Repeats.{Call, add, clear, after, acceptedIn, Holds, bufferAfter}
+use Rattle.hearing_demands.specs.Claims.{Sized}
+use Rattle.hearing_demands.proofs.Descriptions.{code-of}
+use Rattle.hearing_demands.proofs.Adding.{Inside, each-zero, heard-hearing}
+use Rattle.hearing_demands.proofs.HeldAfter.{held-after}
+use Rattle.hearing_demands.proofs.Left.{left-by-some}
+use Rattle.hearing_demands.proofs.Buffer.{buffer-after}
 use Rattle.vectors.proofs.Sets.{describes, encodes, small}
 
 -- 9, 3, −21, 9, 13, 8, −3, −17

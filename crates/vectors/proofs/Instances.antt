@@ -18,17 +18,17 @@ use Rattle.code.specs.declared.Description.the-variants.{Accepted as Coding}
 use Rattle.code.specs.Description.{maskOf, describe}
 use Rattle.values.specs.Values.{hard}
 use Rattle.channel.specs.Channel.{channelValue, channelValues, firstOutside}
-use Rattle.tree.specs.Skipped.{skipped}
-use Rattle.trial.specs.FirstAfter.{FirstAfter}
-use Rattle.run.specs.declared.Decoded.{Decoded}
-use Rattle.run.specs.declared.Decoded.the-variants.{Accepted, Failed}
-use Rattle.run.specs.Trials.{flipOrder}
-use Rattle.run.specs.WellFormed.{WellFormed}
-use Rattle.flip.specs.Decode.{decodedFull, decodedRestarted}
-use Rattle.demands.specs.Demand3.{skippedOver, BothDecode}
-use Rattle.demands.specs.Noiseless.{Received}
-use Rattle.demands.proofs.Demand3.{demand-3}
-use Rattle.demands.proofs.NoiselessDecoding.{noiseless-decoding}
+use Rattle.pass_tree.specs.Skipped.{skipped}
+use Rattle.flip_trial.specs.FirstAfter.{FirstAfter}
+use Rattle.flip_run.specs.declared.Decoded.{Decoded}
+use Rattle.flip_run.specs.declared.Decoded.the-variants.{Accepted, Failed}
+use Rattle.flip_run.specs.Trials.{flipOrder}
+use Rattle.flip_run.specs.WellFormed.{WellFormed}
+use Rattle.flip_decoder.specs.Decode.{decodedFull, decodedRestarted}
+use Rattle.flip_demands.specs.Demand3.{skippedOver, BothDecode}
+use Rattle.flip_demands.specs.Noiseless.{Received}
+use Rattle.flip_demands.proofs.Demand3.{demand-3}
+use Rattle.flip_demands.proofs.NoiselessDecoding.{noiseless-decoding}
 use Rattle.vectors.proofs.Descriptions.{D, starredV, starredCode, starred-descriptions}
 use Rattle.vectors.proofs.Encoding.{starred-encoding}
 use Rattle.vectors.proofs.Decoding.{noiselessA0, starred-decoding}

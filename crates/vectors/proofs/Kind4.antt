@@ -20,21 +20,21 @@ use Rattle.transform.specs.Transform.{covers, parity, transformed, xors}
 use Rattle.placing.specs.Place.{taken}
 use Rattle.values.specs.Values.{f, g, leftValues, rightValues}
 use Rattle.channel.specs.Channel.{channelValue}
-use Rattle.tree.specs.Node.{node}
-use Rattle.order.specs.Order.{information, insert, ordered}
-use Rattle.run.specs.declared.Decoded.the-variants.{Accepted, Failed}
-use Rattle.run.specs.Trials.{run}
-use Rattle.run.specs.WellFormed.{WellFormed}
-use Rattle.flip.specs.Decode.{decodedBy, decodedWith, decodedFull, decodedRestarted}
-use Rattle.demands.specs.Demand3.{BothDecode}
-use Rattle.demands.proofs.Demand3.{demand-3}
-use Rattle.start.specs.Silence.{silence}
-use Rattle.start.proofs.Silence.{silence-fails}
-use Rattle.lines.specs.Text.{text}
-use Rattle.lines.specs.Line.{decimalIn}
-use Rattle.frames.specs.Frame.{decodingLine, channelLine}
-use Rattle.response.specs.Respond.{descriptionResponse, responded}
-use Rattle.records.specs.Stream.{recordsIn, responses, printedFrom, printed}
+use Rattle.pass_tree.specs.Node.{node}
+use Rattle.flip_order.specs.Order.{information, insert, ordered}
+use Rattle.flip_run.specs.declared.Decoded.the-variants.{Accepted, Failed}
+use Rattle.flip_run.specs.Trials.{run}
+use Rattle.flip_run.specs.WellFormed.{WellFormed}
+use Rattle.flip_decoder.specs.Decode.{decodedBy, decodedWith, decodedFull, decodedRestarted}
+use Rattle.flip_demands.specs.Demand3.{BothDecode}
+use Rattle.flip_demands.proofs.Demand3.{demand-3}
+use Rattle.theorems_start.specs.Silence.{silence}
+use Rattle.theorems_start.proofs.Silence.{silence-fails}
+use Rattle.receive_lines.specs.Text.{text}
+use Rattle.receive_lines.specs.Line.{decimalIn}
+use Rattle.receive_frame.specs.Frame.{decodingLine, channelLine}
+use Rattle.receive_record.specs.Respond.{descriptionResponse, responded}
+use Rattle.receive_stream.specs.Stream.{recordsIn, responses, printedFrom, printed}
 use Rattle.vectors.proofs.Descriptions.{D}
 
 -- D as a record of kind 4, with a start value of one byte

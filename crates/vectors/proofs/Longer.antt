@@ -19,12 +19,12 @@ use Rattle.code.specs.Description.{maskOf, describeUpTo, describe}
 use Rattle.transform.specs.Transform.{covers, parity, transformed, xors}
 use Rattle.values.specs.Values.{f, g, leftValues, rightValues, Rule}
 use Rattle.channel.specs.Channel.{channelValue, channelValues, firstOutside}
-use Rattle.tree.specs.Node.{node}
-use Rattle.trial.specs.Trial.{firstTrial}
-use Rattle.longer.specs.Longer.{SameAnswers}
-use Rattle.longer.specs.Claims.{NewAnswer, AnswersAs, SmallValues}
-use Rattle.longer.proofs.Longer.{old-answers, as-10}
-use Rattle.longer.proofs.Small.{small-values}
+use Rattle.pass_tree.specs.Node.{node}
+use Rattle.flip_trial.specs.Trial.{firstTrial}
+use Rattle.theorems_largest.specs.Longer.{SameAnswers}
+use Rattle.theorems_largest.specs.Claims.{NewAnswer, AnswersAs, SmallValues}
+use Rattle.theorems_largest.proofs.Longer.{old-answers, as-10}
+use Rattle.theorems_largest.proofs.Small.{small-values}
 use Rattle.vectors.proofs.Descriptions.{D}
 
 -- D with another n: each of its N / 8 mask bytes is `E8`

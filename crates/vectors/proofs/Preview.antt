@@ -8,16 +8,16 @@ use Rattle.refusal.specs.declared.Refusal.the-variants.{Alone, At}
 use Rattle.refusal.specs.declared.Judgement.the-variants.{Fine}
 use Rattle.refusal.specs.Judge.{judge, refusedOr}
 use Rattle.channel.specs.Channel.{channelValue}
-use Rattle.run.specs.declared.Decoded.the-variants.{Accepted, Refused}
+use Rattle.flip_run.specs.declared.Decoded.the-variants.{Accepted, Refused}
 use Rattle.sets.proofs.Examples.{wideD, wideCode, vector}
 use Rattle.hearing.specs.Hearing.{addRefusals}
-use Rattle.state.specs.declared.State.{State}
-use Rattle.state.specs.State.{opened, added}
-use Rattle.lent.specs.Lent.{hearingSize, openedIn}
-use Rattle.repeats.specs.Repeats.{Call, add, clear, after, acceptedIn, bufferAfter}
-use Rattle.preview.specs.Preview.{previewed, previewedIn}
-use Rattle.preview.specs.Claims.{Previews}
-use Rattle.preview.proofs.After.{preview-after, preview-in-after}
+use Rattle.hearing_state.specs.declared.State.{State}
+use Rattle.hearing_state.specs.State.{opened, added}
+use Rattle.hearing_buffer.specs.Lent.{hearingSize, openedIn}
+use Rattle.hearing_demands.specs.Repeats.{Call, add, clear, after, acceptedIn, bufferAfter}
+use Rattle.hearing_preview.specs.Preview.{previewed, previewedIn}
+use Rattle.hearing_preview.specs.Claims.{Previews}
+use Rattle.hearing_preview.proofs.After.{preview-after, preview-in-after}
 use Rattle.vectors.proofs.Sets.{describes}
 use Rattle.vectors.proofs.Hearing.{firstV, secondV, both-decode}
 

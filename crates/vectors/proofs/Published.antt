@@ -26,10 +26,10 @@ use Rattle.values.specs.Values.{hard}
 use Rattle.channel.specs.Channel.{channelValue, firstOutside}
 use Rattle.encoder.specs.declared.Encoded.the-variants.{Done}
 use Rattle.encoder.specs.Encode.{messageOf, codeword, encodedBy, encoded}
-use Rattle.run.specs.declared.Decoded.the-variants.{Accepted}
-use Rattle.flip.specs.Decode.{decodedFull, decodedRestarted}
-use Rattle.demands.specs.Noiseless.{Received}
-use Rattle.demands.proofs.NoiselessDecoding.{noiseless-decoding}
+use Rattle.flip_run.specs.declared.Decoded.the-variants.{Accepted}
+use Rattle.flip_decoder.specs.Decode.{decodedFull, decodedRestarted}
+use Rattle.flip_demands.specs.Noiseless.{Received}
+use Rattle.flip_demands.proofs.NoiselessDecoding.{noiseless-decoding}
 
 -- kind 4, N = 128, r = 16, the polynomial z^16 + z^12 + z^5 + 1, start FFFF, and the indices from 40 on
 abbrev description : List ℕ

@@ -15,15 +15,15 @@ use Rattle.transform.specs.Transform.{covers, parity, transformed, xors}
 use Rattle.placing.specs.Place.{taken}
 use Rattle.values.specs.Values.{rightValues, leftValues, g, f}
 use Rattle.channel.specs.Channel.{channelValue}
-use Rattle.tree.specs.Node.{node}
-use Rattle.order.specs.Order.{information, insert, ordered}
-use Rattle.run.specs.Trials.{run}
-use Rattle.flip.specs.Decode.{decodedBy, decodedWith}
-use Rattle.lines.specs.Text.{text}
-use Rattle.lines.specs.Line.{decimalIn}
-use Rattle.response.specs.Respond.{descriptionResponse, responded}
-use Rattle.records.specs.Stream.{recordsIn, responses, printedFrom, printed}
-use Rattle.frames.specs.Frame.{decodingLine, channelLine}
+use Rattle.pass_tree.specs.Node.{node}
+use Rattle.flip_order.specs.Order.{information, insert, ordered}
+use Rattle.flip_run.specs.Trials.{run}
+use Rattle.flip_decoder.specs.Decode.{decodedBy, decodedWith}
+use Rattle.receive_lines.specs.Text.{text}
+use Rattle.receive_lines.specs.Line.{decimalIn}
+use Rattle.receive_record.specs.Respond.{descriptionResponse, responded}
+use Rattle.receive_stream.specs.Stream.{recordsIn, responses, printedFrom, printed}
+use Rattle.receive_frame.specs.Frame.{decodingLine, channelLine}
 use Rattle.vectors.proofs.Descriptions.{D, starredV}
 
 -- V as a channel record, with trial limit T

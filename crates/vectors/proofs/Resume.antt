@@ -12,9 +12,9 @@ use Rattle.code.specs.Description.{describeUpTo}
 use Rattle.transform.specs.Transform.{covers, parity, transformed, xors}
 use Rattle.values.specs.Values.{f, g, leftValues, rightValues}
 use Rattle.channel.specs.Channel.{channelValue}
-use Rattle.tree.specs.Node.{node}
-use Rattle.resume.specs.declared.Resumed.the-variants.{Done, Refused}
-use Rattle.resume.specs.Resume.{resumedBy, resumed}
+use Rattle.pass_tree.specs.Node.{node}
+use Rattle.pass_resume.specs.declared.Resumed.the-variants.{Done, Refused}
+use Rattle.pass_resume.specs.Resume.{resumedBy, resumed}
 use Rattle.vectors.proofs.Descriptions.{D, starredV}
 
 -- an output of eight bytes

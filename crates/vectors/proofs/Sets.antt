@@ -25,34 +25,34 @@ use Rattle.values.specs.Values.{hard, f, g}
 use Rattle.channel.specs.Channel.{channelValue, channelValues, firstOutside}
 use Rattle.encoder.specs.declared.Encoded.the-variants.{Done}
 use Rattle.encoder.specs.Encode.{codeword, encodedBy, encoded}
-use Rattle.tree.specs.Skipped.{skipped}
-use Rattle.trial.specs.declared.Restart.the-variants.{Root, After}
-use Rattle.trial.specs.Trial.{lowest, messageIn, trialPasses}
-use Rattle.trial.specs.FirstAfter.{FirstAfter}
-use Rattle.run.specs.declared.Decoded.{Decoded}
-use Rattle.run.specs.declared.Decoded.the-variants.{Accepted, Failed}
-use Rattle.demands.specs.Claims.{bitsOfTrial}
-use Rattle.demands.specs.Demand3.{skippedOver}
-use Rattle.demands.specs.Noiseless.{Received}
-use Rattle.demands.proofs.Trials.{trialsOf}
+use Rattle.pass_tree.specs.Skipped.{skipped}
+use Rattle.flip_trial.specs.declared.Restart.the-variants.{Root, After}
+use Rattle.flip_trial.specs.Trial.{lowest, messageIn, trialPasses}
+use Rattle.flip_trial.specs.FirstAfter.{FirstAfter}
+use Rattle.flip_run.specs.declared.Decoded.{Decoded}
+use Rattle.flip_run.specs.declared.Decoded.the-variants.{Accepted, Failed}
+use Rattle.flip_demands.specs.Claims.{bitsOfTrial}
+use Rattle.flip_demands.specs.Demand3.{skippedOver}
+use Rattle.flip_demands.specs.Noiseless.{Received}
+use Rattle.flip_demands.proofs.Trials.{trialsOf}
 use Rattle.sets.specs.Candidate.{Candidate}
 use Rattle.sets.specs.Tried.{generated, flipSets}
 use Rattle.sets.specs.DecodeSets.{mostLimit, searchOf, setsFull, setsRestarted}
 use Rattle.sets.specs.WellFormed.{WellFormed}
 use Rattle.sets.proofs.Examples.{wideD, wideCode, vector, pairV, equalV, usedUpV, bitsOn, leavesOn, ten, set-examples}
-use Rattle.tried.specs.Claims.{FlipSet, OwnDecisions, insertAll, triedOfAll, LeastFirst, Singles}
-use Rattle.tried.proofs.Kept.{kept-loses-nothing}
-use Rattle.tried.proofs.Sets.{flip-set-each, sets-distinct}
-use Rattle.tried.proofs.Least.{least-first}
-use Rattle.tried.proofs.Same.{same-sets}
-use Rattle.tried.proofs.Own.{own-decisions}
-use Rattle.tried.proofs.Singles.{singles}
-use Rattle.setdemands.specs.SetsDemand3.{BothDecodeSets}
-use Rattle.setdemands.proofs.Answers.{accepts-passing, fails-after-all}
-use Rattle.setdemands.proofs.SetsDemand3.{sets-demand-3}
-use Rattle.setdemands.proofs.SetsNoiseless.{sets-noiseless}
-use Rattle.setdemands.proofs.Larger.{stays-accepted}
-use Rattle.setdemands.proofs.Metrics.{metrics-fit}
+use Rattle.sets_tried.specs.Claims.{FlipSet, OwnDecisions, insertAll, triedOfAll, LeastFirst, Singles}
+use Rattle.sets_tried.proofs.Kept.{kept-loses-nothing}
+use Rattle.sets_tried.proofs.Sets.{flip-set-each, sets-distinct}
+use Rattle.sets_tried.proofs.Least.{least-first}
+use Rattle.sets_tried.proofs.Same.{same-sets}
+use Rattle.sets_tried.proofs.Own.{own-decisions}
+use Rattle.sets_tried.proofs.Singles.{singles}
+use Rattle.sets_demands.specs.SetsDemand3.{BothDecodeSets}
+use Rattle.sets_demands.proofs.Answers.{accepts-passing, fails-after-all}
+use Rattle.sets_demands.proofs.SetsDemand3.{sets-demand-3}
+use Rattle.sets_demands.proofs.SetsNoiseless.{sets-noiseless}
+use Rattle.sets_demands.proofs.Larger.{stays-accepted}
+use Rattle.sets_demands.proofs.Metrics.{metrics-fit}
 
 pub describes : describe wideD ≡ Coding wideCode
 describes = set-examples 0 .described

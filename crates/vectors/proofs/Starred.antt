@@ -1,7 +1,7 @@
 -- The starred rows of document 01, "Vectors at the edges", as one theorem.
 use Prim.Native.Nat.{ℕ}
 use Rattle.crc.proofs.CheckValues.{StarredCheck, lone-one}
-use Rattle.tree.proofs.Steps.{StarredSkipped, skipped-starred}
+use Rattle.pass_tree.proofs.Steps.{StarredSkipped, skipped-starred}
 use Rattle.vectors.proofs.Descriptions.{StarredDescriptions, starred-descriptions}
 use Rattle.vectors.proofs.Encoding.{StarredEncoding, starred-encoding}
 use Rattle.vectors.proofs.Resume.{StarredResume, starred-resume}

@@ -1,7 +1,7 @@
 -- `polar::polar_encode` meets its contract.
 use mathlib.Core.Path.{sym, subst}
 use borrow.Author.Needs.{needs}
-use Rattle.number.specs.Number.{encodedParts}
+use Rattle.polar_number.specs.Number.{encodedParts}
 use Rattle.polar.proofs.Answers.{numbered-answer}
 use Rattle.polar.proofs.Fitting.{Fits, encoded-fits}
 use Rattle.polar.proofs.polar_encode.Statement.{statement}

@@ -2,9 +2,9 @@
 use mathlib.Core.Path.{sym, subst}
 use borrow.Author.Needs.{needs}
 use denote.Ref.{now}
-use Rattle.trial.specs.declared.Restart.the-variants.{After}
-use Rattle.lent.specs.Lent.{stateIn}
-use Rattle.number.specs.Number.{decodedParts}
+use Rattle.flip_trial.specs.declared.Restart.the-variants.{After}
+use Rattle.hearing_buffer.specs.Lent.{stateIn}
+use Rattle.polar_number.specs.Number.{decodedParts}
 use Rattle.polar.proofs.Answers.{numbered-answer}
 use Rattle.polar.proofs.Fitting.{Fits, heard-fits}
 use Rattle.polar.proofs.polar_hearing_decode_restarted.Statement.{statement}

@@ -2,7 +2,7 @@
 use mathlib.Core.Path.{refl, sym, subst}
 use borrow.Author.Needs.{needs}
 use denote.Ref.{now}
-use Rattle.number.specs.Number.{decodedParts}
+use Rattle.polar_number.specs.Number.{decodedParts}
 use Rattle.polar.proofs.Answers.{numbered-answer}
 use Rattle.polar.proofs.Fitting.{Fits, previewed-fits}
 use Rattle.polar.proofs.polar_hearing_preview.Statement.{statement}

@@ -1,7 +1,7 @@
 -- `polar::polar_resume` meets its contract.
 use mathlib.Core.Path.{sym, subst}
 use borrow.Author.Needs.{needs}
-use Rattle.number.specs.Number.{resumedParts}
+use Rattle.polar_number.specs.Number.{resumedParts}
 use Rattle.polar.proofs.Answers.{numbered-answer}
 use Rattle.polar.proofs.Fitting.{Fits, resumed-fits}
 use Rattle.polar.proofs.polar_resume.Statement.{statement}

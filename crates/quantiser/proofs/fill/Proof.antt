@@ -10,8 +10,8 @@ use lib.Dec.{T}
 use lib.Ieee.{Float, isNan, ofBits}
 use lib.ListN.{length}
 use Rattle.laws.proofs.Filling.{Filling, filling-none, filling-more, filling-whole}
-use Rattle.level.specs.declared.Level.{Level}
-use Rattle.level.specs.Level.{levelOf}
+use Rattle.quantiser_level.specs.declared.Level.{Level}
+use Rattle.quantiser_level.specs.Level.{levelOf}
 use Rattle.quantiser.specs.Quantise.{product, bytes, larger, peakOf, clippedOf}
 use Rattle.quantiser.proofs.Numbers.{admitted-number}
 use Rattle.quantiser.proofs.Totals.{clipped-le}

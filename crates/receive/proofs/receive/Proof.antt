@@ -7,9 +7,9 @@ use borrow.Rule.Slice.PartMut.{take-put}
 use denote.Ref.{now}
 use lib.ListN.{length, take}
 use lib.Seq.{length-take-le}
-use Rattle.records.specs.declared.Stream.{Stream}
-use Rattle.records.specs.Contracts.{mostTurns, Between}
-use Rattle.records.proofs.Program.{starts}
+use Rattle.receive_stream.specs.declared.Stream.{Stream}
+use Rattle.receive_stream.specs.Contracts.{mostTurns, Between}
+use Rattle.receive_stream.proofs.Program.{starts}
 use Rattle.receive.proofs.receive.Statement.{statement}
 use Rattle.receive.proofs.receive.Tie as tie
 

@@ -164,7 +164,7 @@ mod tests {
 
     #[test]
     fn whole_modules() {
-        let variants = Place::new("flip", "declared.Decoded.the-variants");
+        let variants = Place::new("flip_decoder", "declared.Decoded.the-variants");
         let line = "use Rattle.flip.specs.declared.Decoded.the-variants as decode";
         let imports = Import::read(line);
         assert_eq!(
@@ -216,7 +216,7 @@ mod tests {
     fn what_is_believed() {
         assert!(Place::new("bits", "Mask").is_believed());
         assert!(!Place::new("bits", "Claims").is_believed());
-        assert!(!Place::new("sc", "Contracts").is_believed());
+        assert!(!Place::new("pass", "Contracts").is_believed());
         assert!(!Place::new("probe", "Mask").is_believed());
     }
 }

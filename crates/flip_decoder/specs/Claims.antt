@@ -1,0 +1,11 @@
+-- What the theorems of this crate state of its definitions.
+use mathlib.Core.Bool.{Bool, true, false}
+use Rattle.flip_run.specs.declared.Decoded.{Decoded}
+use Rattle.flip_run.specs.declared.Decoded.the-variants.{Accepted, Failed, Refused}
+
+-- an answer that a run of trials gives: no refusal before 16. The input of a decoder is well-formed exactly where it gives one:
+-- `well-formed-exactly` of proofs/WellFormed.antt.
+abbrev pub ofRun : Decoded → Bool
+ofRun (Accepted trial steps) = true
+ofRun (Failed made steps) = true
+ofRun (Refused x) = false

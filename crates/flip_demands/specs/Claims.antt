@@ -1,0 +1,87 @@
+-- What the theorems of this crate state of its definitions: what a run of trials ends with, and what two restarts share.
+use mathlib.Core.Path.{_≡_}
+use mathlib.Core.Bool.{Bool, true, false}
+use mathlib.Core.Logic.{_⊎_}
+use mathlib.Core.List.{List, [], _∷_, map}
+use Prim.Native.Nat.{ℕ, zero, suc, _+_, _-_, _*_, _<_, _≤_}
+use lib.IntN.{ℤ}
+use lib.ListN.{length, getD, take}
+use Rattle.code.specs.declared.Code.{Code}
+use Rattle.code.specs.Code.{codeLength}
+use Rattle.code.specs.Description.{maskOf}
+use Rattle.channel.specs.Channel.{channelValues}
+use Rattle.pass_tree.specs.Node.{Out}
+use Rattle.pass_tree.specs.Skipped.{skipped}
+use Rattle.flip_trial.specs.declared.Restart.{Restart}
+use Rattle.flip_trial.specs.Trial.{restartAt}
+use Rattle.flip_run.specs.declared.Decoded.the-variants.{Accepted, Failed}
+use Rattle.flip_run.specs.Trials.{flipOrder, Verdict, passed, failed}
+use Rattle.flip_decoder.specs.Decode.{planOf, decodedWith}
+
+-- the bits of each trial, and those of trial t, from 1
+abbrev pub bitsOfEach : List Out → List (List ℕ)
+bitsOfEach os = map (λ o. o .bits) os
+
+abbrev pub bitsOfTrial : List Out → ℕ → List ℕ
+bitsOfTrial os zero = []
+bitsOfTrial os (suc t) = getD (bitsOfEach os) t []
+
+-- the steps of all trials
+abbrev pub stepsOf : List Out → ℕ
+stepsOf [] = 0
+stepsOf (o ∷ os) = o .work .steps + stepsOf os
+
+-- `trial` passes with these bits, every trial before it failed, and the steps are those of the trials made
+pub record PassedAt (ok : List ℕ → Bool) (os : List Out) (trial steps : ℕ) (bits : List ℕ) : Type 0 where
+  pub least : 1 ≤ trial
+  pub most : trial ≤ length os
+  pub bits-are : bits ≡ bitsOfTrial os trial
+  pub passes : ok bits ≡ true
+  pub earlier : (t : ℕ) → 1 ≤ t → t < trial → ok (bitsOfTrial os t) ≡ false
+  pub steps-are : steps ≡ stepsOf (take trial os)
+
+-- every trial is made and failed
+pub record AllFailed (ok : List ℕ → Bool) (os : List Out) (made steps : ℕ) : Type 0 where
+  pub all : made ≡ length os
+  pub each : (t : ℕ) → 1 ≤ t → t ≤ length os → ok (bitsOfTrial os t) ≡ false
+  pub steps-are : steps ≡ stepsOf os
+
+-- what a verdict on the trials says of them: `run-ends` of proofs/Run.antt proves it of `run`
+abbrev pub Ends : (List ℕ → Bool) → List Out → Verdict → Type 0
+Ends ok os (passed trial steps bits) = PassedAt ok os trial steps bits
+Ends ok os (failed made steps) = AllFailed ok os made steps
+
+-- two verdicts that agree but for the steps: `run-same` of proofs/Run.antt
+abbrev pub SameButSteps : Verdict → Verdict → Type 0
+SameButSteps (passed trial steps bits) (passed trial′ steps′ bits′) = (trial ≡ trial′) × (bits ≡ bits′)
+SameButSteps (failed made steps) (failed made′ steps′) = made ≡ made′
+SameButSteps (passed trial steps bits) (failed made steps′) = ⊥
+SameButSteps (failed made steps) (passed trial steps′ bits) = ⊥
+
+-- the flipped indices of the trials made after the first
+abbrev pub flippedIn : List ℕ → Code → List ℤ → ℕ → List ℕ
+flippedIn mask c v made = take (made - 1) (flipOrder mask c v)
+
+-- the steps that a restart saves, over flipped indices
+abbrev pub skippedBy : Restart → List ℕ → Code → List ℕ → ℕ
+skippedBy restart mask c [] = 0
+skippedBy restart mask c (i ∷ is) = skipped (c .n) (restartAt restart mask (codeLength c) i) + skippedBy restart mask c is
+
+-- What the decoders of two restarts give under d, each with its own output. `made` trials are made; `steps` and `steps′` are what each
+-- reports. `compare` of proofs/Compare.antt proves it.
+pub record Compare (a b : Restart) (d : List ℕ) (c : Code) (channel : List ℕ) (limit : ℕ) (output output′ : List ℕ) : Type 0 where
+  pub made : ℕ
+  pub steps : ℕ
+  pub steps′ : ℕ
+  pub most : made ≤ limit
+  -- the same trial number, with the same payload in each buffer, or refusal 16 with the same T, and each buffer as it was
+  pub answers :
+      ((payload : List ℕ)
+      × (decodedWith (planOf a limit) d channel output ≡ (Accepted made steps, payload))
+      × (decodedWith (planOf b limit) d channel output′ ≡ (Accepted made steps′, payload)))
+      ⊎ ((made ≡ limit)
+      × (decodedWith (planOf a limit) d channel output ≡ (Failed made steps, output))
+      × (decodedWith (planOf b limit) d channel output′ ≡ (Failed made steps′, output′)))
+  -- each reports trials made × n × N steps, without exactly those that its restarts skip
+  pub counted : steps + skippedBy a (maskOf d) c (flippedIn (maskOf d) c (channelValues channel) made) ≡ made * c .n * codeLength c
+  pub counted′ : steps′ + skippedBy b (maskOf d) c (flippedIn (maskOf d) c (channelValues channel) made) ≡ made * c .n * codeLength c

@@ -1,0 +1,50 @@
+-- Demand 3, about the definitions that the promises of both decoders cite. `demand-3` of proofs/Demand3.antt proves it.
+use mathlib.Core.Path.{_≡_}
+use mathlib.Core.Logic.{_⊎_}
+use mathlib.Core.List.{List, [], _∷_, Forall₂}
+use Prim.Native.Nat.{ℕ, _+_, _-_, _*_}
+use lib.ListN.{take}
+use Rattle.code.specs.declared.Code.{Code}
+use Rattle.code.specs.declared.Description.the-variants.{Accepted as Coding}
+use Rattle.code.specs.Code.{codeLength}
+use Rattle.code.specs.Description.{maskOf, describe}
+use Rattle.channel.specs.Channel.{channelValues}
+use Rattle.pass_tree.specs.Skipped.{skipped}
+use Rattle.flip_trial.specs.FirstAfter.{FirstAfter}
+use Rattle.flip_run.specs.declared.Decoded.the-variants.{Accepted, Failed}
+use Rattle.flip_run.specs.Trials.{flipOrder}
+use Rattle.flip_run.specs.WellFormed.{WellFormed}
+use Rattle.flip_decoder.specs.Decode.{decodedFull, decodedRestarted}
+
+-- the sum, over some q, of q − (q mod 2^j) for every j from 0 to n − 1
+abbrev pub skippedOver : ℕ → List ℕ → ℕ
+skippedOver n [] = 0
+skippedOver n (q ∷ qs) = skipped n q + skippedOver n qs
+
+-- What both decoders give under d, each with its own output. `made` trials are made; `full` and `restarted` are the steps that each reports.
+pub record BothDecode (d : List ℕ) (c : Code) (channel : List ℕ) (limit : ℕ) (output output′ : List ℕ) : Type 0 where
+  pub made : ℕ
+  pub full : ℕ
+  pub restarted : ℕ
+  -- the same trial number, with the same payload in each buffer, or refusal 16 with the same T, and each buffer as it was
+  pub answers :
+      ((payload : List ℕ)
+      × (decodedFull d channel limit output ≡ (Accepted made full, payload))
+      × (decodedRestarted d channel limit output′ ≡ (Accepted made restarted, payload)))
+      ⊎ ((made ≡ limit)
+      × (decodedFull d channel limit output ≡ (Failed made full, output))
+      × (decodedRestarted d channel limit output′ ≡ (Failed made restarted, output′)))
+  -- full decoding reports exactly trials made × n × N steps
+  pub full-steps : full ≡ made * c .n * codeLength c
+  -- that exceeds the restarted report by exactly the sum, over every trial made after the first, of q − (q mod 2^j) for every j from 0 to n − 1
+  pub qs : List ℕ
+  pub exceeds : full ≡ restarted + skippedOver (c .n) qs
+  -- there q is the first information index after that trial's flipped one, or N if none
+  pub q-is : Forall₂ (FirstAfter (maskOf d) (codeLength c)) (take (made - 1) (flipOrder (maskOf d) c (channelValues channel))) qs
+
+-- any code, any trial limit and any channel values, all well-formed, each decoder with an output buffer of the right size
+abbrev pub Demand3 : Type 0
+Demand3 =
+    (d : List ℕ) (c : Code) (channel : List ℕ) (limit : ℕ) (output output′ : List ℕ)
+    → describe d ≡ Coding c → WellFormed c channel limit output → WellFormed c channel limit output′
+    → BothDecode d c channel limit output output′

@@ -1,0 +1,43 @@
+-- Document 01, "Flip decoding, full and restarted": the trials of a run, and the first that passes. Document 000, section II-C: the
+-- trial limit counts trial 1.
+use mathlib.Core.Bool.{Bool, cond}
+use mathlib.Core.List.{List, [], _∷_, map}
+use Prim.Native.Nat.{ℕ, _+_, _-_}
+use lib.IntN.{ℤ}
+use lib.ListN.{take}
+use Rattle.bits.specs.Packing.{packed}
+use Rattle.code.specs.declared.Code.{Code}
+use Rattle.code.specs.Code.{codeLength}
+use Rattle.pass_tree.specs.Node.{Out}
+use Rattle.flip_order.specs.Order.{information, ordered}
+use Rattle.flip_trial.specs.Trial.{firstTrial, laterTrial, messageIn}
+use Rattle.flip_run.specs.declared.Plan.{Plan}
+use Rattle.flip_run.specs.declared.Decoded.{Decoded}
+use Rattle.flip_run.specs.declared.Decoded.the-variants.{Accepted, Failed}
+
+-- the order of flipped indices: trial t, from 2, flips the one at place t - 1
+abbrev pub flipOrder : List ℕ → Code → List ℤ → List ℕ
+flipOrder mask c v = ordered (firstTrial mask c v .leaves) (information mask (codeLength c))
+
+-- the trials up to the limit; each after the first flips one index
+abbrev pub trials : Plan → List ℕ → Code → List ℤ → List Out
+trials plan mask c v =
+    firstTrial mask c v ∷ map (λ i. laterTrial (plan .restart) mask c v (i ∷ [])) (take (plan .limit - 1) (flipOrder mask c v))
+
+-- what a run ends with: the first trial that passes, or all trials made, with the steps of all trials made
+pub data Verdict : Type 0 where
+  passed : (trial steps : ℕ) (bits : List ℕ) → Verdict
+  failed : (made steps : ℕ) → Verdict
+
+-- the trials in order, after `made` trials with `steps` steps have failed
+unfoldable pub run : (List ℕ → Bool) → ℕ → ℕ → List Out → Verdict
+run ok made steps [] = failed made steps
+run ok made steps (o ∷ os) =
+    let made′ = made + 1 in
+    let steps′ = steps + o .work .steps in
+    cond (ok (o .bits)) (passed made′ steps′ (o .bits)) (run ok made′ steps′ os)
+
+-- acceptance writes the packed payload; refusal 16 carries the trials made and writes nothing
+abbrev pub answerOf : List ℕ → Code → List ℕ → Verdict → Decoded × List ℕ
+answerOf mask c output (passed trial steps bits) = (Accepted trial steps, packed (take (c .k) (messageIn mask c bits)))
+answerOf mask c output (failed made steps) = (Failed made steps, output)

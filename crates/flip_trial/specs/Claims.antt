@@ -1,0 +1,28 @@
+-- What the theorems of this crate state of its definitions.
+use mathlib.Core.Path.{_≡_}
+use mathlib.Core.Bool.{cond}
+use mathlib.Core.List.{List}
+use Prim.Native.Nat.{ℕ, _-_, _<_, _≤_}
+use lib.Dec.{ltb}
+use lib.IntN.{ℤ, pos}
+use lib.ListN.{length, getD}
+use Rattle.bits.specs.Mask.{maskBit}
+use Rattle.pass_tree.specs.Node.{Out}
+use Rattle.flip_trial.specs.Trial.{lowest}
+
+-- indices that a trial can flip: at least one, ascending, all of them information indices below `size`
+pub record Flips (mask : List ℕ) (size : ℕ) (is : List ℕ) : Type 0 where
+  pub some : 0 < length is
+  pub below : (a : ℕ) → a < length is → getD is a 0 < size
+  pub information : (a : ℕ) → a < length is → maskBit mask (getD is a 0) ≡ 1
+  pub ascending : (a b : ℕ) → a < b → b < length is → getD is a 0 < getD is b 0
+
+-- where a trial with these flips may resume: at its lowest flipped index or below, or past it while only frozen indices lie between.
+-- `restartable` of proofs/Restartable.antt says that every restart does.
+pub record Restartable (mask : List ℕ) (size : ℕ) (is : List ℕ) (q : ℕ) : Type 0 where
+  pub most : q ≤ size
+  pub between : (j : ℕ) → lowest is < j → j < q → maskBit mask j ≡ 0
+
+-- the leaf value at index j of the later trial o, which resumes at q: below q it is trial 1's. `same-leaf` of proofs/Agree.antt
+abbrev pub leafAt : ℕ → Out → Out → ℕ → ℤ
+leafAt q first o j = cond (ltb j q) (getD (first .leaves) j (pos 0)) (getD (o .leaves) (j - q) (pos 0))

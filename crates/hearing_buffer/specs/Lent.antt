@@ -1,0 +1,55 @@
+-- Document 02, request 2.6, for C: a state in a buffer that the caller lends. How its bytes are laid out is this codec's own choice: the
+-- description with the zeros that follow it, the count, and the values with the zeros that follow them.
+use mathlib.Core.Bool.{cond}
+use mathlib.Core.List.{List, _∷_, _++_}
+use Prim.Native.Nat.{ℕ, _+_, _^_}
+use lib.Dec.{eqb}
+use lib.ListN.{length, getD, take, drop}
+use Rattle.refusal.specs.declared.Refusal.the-variants.{Alone}
+use Rattle.refusal.specs.Judge.{refusedOr}
+use Rattle.arrays.specs.Sizes.{deepest}
+use Rattle.flip_run.specs.declared.Decoded.{Decoded}
+use Rattle.hearing_state.specs.declared.State.{State}
+use Rattle.hearing_state.specs.declared.Heard.{Heard}
+use Rattle.hearing_state.specs.State.{longestDescription, noState, opened, added, cleared, hearingFull, hearingRestarted}
+use Rattle.hearing_buffer.specs.declared.Kept.{Kept}
+use Rattle.hearing_buffer.specs.declared.Kept.the-variants.{Done, Refused}
+
+-- the size of a buffer: description, count, values
+abbrev pub hearingSize : ℕ
+hearingSize = longestDescription + (1 + 2 ^ deepest)
+
+-- the bytes of a state, and the state of so many bytes
+abbrev pub bytesOf : State → List ℕ
+bytesOf s = s .description ++ (s .hearing .count ∷ s .hearing .values)
+
+abbrev pub stateAt : List ℕ → State
+stateAt b = record {
+  description = take longestDescription b;
+  hearing = record { values = drop (1 + longestDescription) b; count = getD b longestDescription 0 };
+}
+
+-- the state in a buffer, and none in a buffer of another size
+abbrev pub stateIn : List ℕ → State
+stateIn b = cond (eqb (length b) hearingSize) (stateAt b) noState
+
+-- what a call answers, with the count of hearings, and what the buffer holds afterwards: a refused call changes nothing
+abbrev pub kept : Heard → List ℕ → Kept × List ℕ
+kept a b = refusedOr (a .judgement) (λ x. (Refused x, b)) (Done (a .state .hearing .count), bytesOf (a .state))
+
+-- open, whatever a buffer of the right size holds; add; clear
+abbrev pub openedIn : List ℕ → List ℕ → Kept × List ℕ
+openedIn d b = cond (eqb (length b) hearingSize) (kept (opened d) b) (Refused (Alone 40), b)
+
+abbrev pub addedIn : List ℕ → List ℕ → Kept × List ℕ
+addedIn b channel = kept (added (stateIn b) channel) b
+
+abbrev pub clearedIn : List ℕ → Kept × List ℕ
+clearedIn b = kept (cleared (stateIn b)) b
+
+-- decode: the state is only read
+abbrev pub fullIn : List ℕ → ℕ → List ℕ → Decoded × List ℕ
+fullIn b limit output = hearingFull (stateIn b) limit output
+
+abbrev pub restartedIn : List ℕ → ℕ → List ℕ → Decoded × List ℕ
+restartedIn b limit output = hearingRestarted (stateIn b) limit output

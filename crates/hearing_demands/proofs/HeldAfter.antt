@@ -1,0 +1,148 @@
+-- What a hearing holds after any list of adds and clears.
+use mathlib.Core.Path.{_≡_, refl, sym, ap, _∙_, subst}
+use mathlib.Core.Bool.{true}
+use mathlib.Core.List.{List, [], _∷_, _++_, map}
+use Prim.Native.Nat.{ℕ, _+_, _^_, _≤_, _<_}
+use native.Mathlib.Omega.{arith}
+use lib.IntN.{ℤ, pos, _+ℤ_}
+use lib.ListN.{length, getD, replicate, length-append}
+use Rattle.laws.specs.Table.{table}
+use Rattle.refusal.specs.declared.Refusal.{Refusal}
+use Rattle.refusal.specs.declared.Judgement.{Judgement}
+use Rattle.refusal.specs.declared.Judgement.the-variants.{Fine, Refused}
+use Rattle.refusal.specs.Judge.{judge, refusedOr}
+use Rattle.refusal.proofs.Judge.{refused-fine, refused-by}
+use Rattle.arrays.specs.Sizes.{deepest}
+use Rattle.arrays.proofs.Sizes.{fits}
+use Rattle.bits.specs.Packing.{bytesFor}
+use Rattle.code.specs.declared.Code.{Code}
+use Rattle.code.specs.declared.Description.the-variants.{Accepted as Coding}
+use Rattle.code.specs.Code.{codeLength, informationCount}
+use Rattle.code.specs.Description.{describe}
+use Rattle.code.proofs.Facts.{described}
+use Rattle.channel.specs.Channel.{clip, channelValues, firstOutside}
+use Rattle.flip_trial.specs.declared.Restart.the-variants.{Root, After}
+use Rattle.flip_run.specs.WellFormed.{WellFormed}
+use Rattle.flip_decoder.specs.Decode.{planOf}
+use Rattle.flip_demands.proofs.Demand3.{demand-3}
+use Rattle.hearing.specs.declared.Hearing.{Hearing}
+use Rattle.hearing.specs.Hearing.{hearingOf, combined, fresh, clippedSums, addRefusals, isHearing}
+use Rattle.hearing.proofs.Adding.{not-full}
+use Rattle.hearing_state.specs.declared.State.{State}
+use Rattle.hearing_state.specs.declared.Heard.{Heard}
+use Rattle.hearing_state.specs.State.{stateOf, heard, refusedIn, addedUnder, added, cleared}
+use Rattle.hearing_demands.specs.Repeats.{Call, add, clear, after, acceptedIn, foldOfSums, Holds, HeldAfter}
+use Rattle.hearing_demands.proofs.Descriptions.{opened-is, description-of, code-of, on-state, heard-is}
+use Rattle.hearing_demands.proofs.Adding.{Inside, none-outside, zeros-inside, sums-inside, zeros-values, sums-values}
+use Rattle.hearing_demands.proofs.Adding.{fresh-is, combined-is, added-to, zeros-hearing, heard-hearing}
+
+-- the last vector apart
+fold-snoc : (size : ℕ) (sums : List ℤ) (vectors : List (List ℕ)) (channel : List ℕ)
+    → foldOfSums size sums (map channelValues (vectors ++ (channel ∷ [])))
+    ≡ table (λ i. clip (getD (foldOfSums size sums (map channelValues vectors)) i (pos 0) +ℤ getD (channelValues channel) i (pos 0))) size
+fold-snoc size sums [] channel = refl
+fold-snoc size sums (v ∷ vectors) channel = fold-snoc size _ vectors channel
+
+module _ (d : List ℕ) (c : Code) (code : describe d ≡ Coding c) where
+  abbrev N : ℕ
+  N = codeLength c
+
+  pub room : N ≤ 2 ^ deepest
+  room = fits (described d c code .coded .n-most)
+
+  -- ---- adds
+
+  module _ (v : List ℕ) (w : Inside N v) (count : ℕ) (is : isHearing c (hearingOf v count) ≡ true) (channel : List ℕ) where
+    abbrev s : State
+    s = stateOf d (hearingOf v count)
+
+    under : added s channel .state ≡ addedUnder c s channel .state
+    under = ap (λ (a : Heard). a .state) (on-state d c code (hearingOf v count) is (refusedIn s) (λ c. addedUnder c s channel))
+
+    pub added-fine : judge (addRefusals c count channel) ≡ Fine → added s channel .state ≡ stateOf d (hearingOf (clippedSums N v channel) (count + 1))
+    added-fine e = under ∙ ap (λ (a : Heard). a .state) (refused-fine (refusedIn s) _ _ e) ∙ ap (stateOf d) (added-to c v w count channel)
+
+    added-refused : (x : Refusal) → judge (addRefusals c count channel) ≡ Refused x → added s channel .state ≡ s
+    added-refused x e = under ∙ ap (λ (a : Heard). a .state) (refused-by (refusedIn s) _ _ x e)
+
+  -- ---- the invariant of a list of calls
+
+  pub record Invariant (s : State) (vectors : List (List ℕ)) : Type 0 where
+    pub values : List ℕ
+    pub state-is : s ≡ stateOf d (hearingOf values (length vectors))
+    pub inside : Inside N values
+    pub hearing : isHearing c (hearingOf values (length vectors)) ≡ true
+    pub most : length vectors ≤ 255
+    pub values-are : channelValues values ≡ foldOfSums N (replicate N (pos 0)) (map channelValues vectors)
+
+  pub kept-fresh : {s : State} → s ≡ stateOf d fresh → Invariant s []
+  kept-fresh e = record {
+    values = replicate N 0;
+    state-is = e ∙ ap (stateOf d) (fresh-is room);
+    inside = zeros-inside N;
+    hearing = zeros-hearing c room 0 (omega arith);
+    most = omega arith;
+    values-are = zeros-values N;
+  }
+
+  module _ (s : State) (vectors : List (List ℕ)) (k : Invariant s vectors) where
+    abbrev h : Hearing
+    h = hearingOf (k .values) (length vectors)
+
+    pub kept-clear : Invariant (cleared s .state) []
+    kept-clear =
+        kept-fresh (ap (λ (t : State). cleared t .state) (k .state-is)
+        ∙ ap (λ (a : Heard). a .state) (on-state d c code h (k .hearing) (refusedIn (stateOf d h)) (λ _. heard Fine (stateOf d fresh))))
+
+    pub kept-add : (channel : List ℕ) (j : Judgement) → judge (addRefusals c (length vectors) channel) ≡ j
+        → Invariant (added s channel .state) (refusedOr j (λ _. vectors) (vectors ++ (channel ∷ [])))
+    unfolding refusedOr
+    kept-add channel Fine e =
+        let sums : List ℕ = clippedSums N (k .values) channel in
+        let w : Inside N sums = sums-inside N (k .values) channel in
+        let full : length vectors < 255 = not-full c (length vectors) channel e (k .most) in
+        let more : length vectors + 1 ≡ length (vectors ++ (channel ∷ [])) = sym (length-append vectors (channel ∷ [])) in
+        record {
+          values = sums;
+          state-is = ap (λ (t : State). added t channel .state) (k .state-is)
+              ∙ added-fine (k .values) (k .inside) (length vectors) (k .hearing) channel e ∙ ap (λ (n : ℕ). stateOf d (hearingOf sums n)) more;
+          inside = w;
+          hearing = subst (λ (n : ℕ). isHearing c (hearingOf sums n) ≡ true) more (heard-hearing c sums w (length vectors) full);
+          most = omega (arith, full);
+          values-are = sums-values N (k .values) channel
+              ∙ ap (λ (vs : List ℤ). table (λ i. clip (getD vs i (pos 0) +ℤ getD (channelValues channel) i (pos 0))) N) (k .values-are)
+              ∙ sym (fold-snoc N (replicate N (pos 0)) vectors channel);
+        }
+    kept-add channel (Refused x) e =
+        let same : added s channel .state ≡ s = ap (λ (t : State). added t channel .state) (k .state-is)
+        ∙ added-refused (k .values) (k .inside) (length vectors) (k .hearing) channel x e ∙ sym (k .state-is) in
+        subst (λ (t : State). Invariant t vectors) (sym same) k
+
+    holds : Holds d c s vectors
+    holds =
+        let same : combined c h ≡ k .values = combined-is c (k .values) (k .inside) (length vectors) in
+        let long : length (combined c h) ≡ N = ap length same ∙ k .inside .size-is in
+        let range : firstOutside (combined c h) ≡ N = ap firstOutside same ∙ none-outside (k .inside) in
+        let K : ℕ = informationCount c in
+        let well : (limit : ℕ) (o : List ℕ) → 1 ≤ limit → limit ≤ K + 1 → length o ≡ bytesFor (c .k) → WellFormed c (combined c h) limit o =
+        λ limit o l m e. record { channel-size = long; in-range = range ∙ sym long; limit-least = l; limit-most = m; output-size = e } in
+        subst (λ (t : State). Holds d c t vectors) (sym (k .state-is)) (record {
+          description-is = description-of d c code h;
+          code-is = code-of d c code h (k .hearing);
+          count-is = refl;
+          count-most = k .most;
+          values-are = ap channelValues same ∙ k .values-are;
+          size-is = long;
+          in-range = range;
+          full-is = λ limit. heard-is d c code h (k .hearing) (planOf Root limit);
+          restarted-is = λ limit. heard-is d c code h (k .hearing) (planOf After limit);
+          agree = λ limit o o′ l m e e′. demand-3 d c (combined c h) limit o o′ code (well limit o l m e) (well limit o′ l m e′);
+        })
+
+  held : (s : State) (vectors : List (List ℕ)) (calls : List Call) → Invariant s vectors → Holds d c (after s calls) (acceptedIn c vectors calls)
+  held s vectors [] k = holds s vectors k
+  held s vectors (add channel ∷ calls) k = held _ _ calls (kept-add s vectors k channel (judge (addRefusals c (length vectors) channel)) refl)
+  held s vectors (clear ∷ calls) k = held _ _ calls (kept-clear s vectors k)
+
+pub held-after : HeldAfter
+held-after d c calls code = held d c code _ [] calls (kept-fresh d c code (ap (λ (a : Heard). a .state) (opened-is d c code)))

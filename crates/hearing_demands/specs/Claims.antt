@@ -1,0 +1,34 @@
+-- What else the theorems of this crate state.
+use mathlib.Core.Path.{_≡_}
+use mathlib.Core.List.{List}
+use Prim.Native.Nat.{ℕ, _<_, _^_}
+use lib.ListN.{length, getD}
+use Rattle.refusal.specs.declared.Refusal.{Refusal}
+use Rattle.refusal.specs.declared.Judgement.the-variants.{Refused}
+use Rattle.arrays.specs.Sizes.{deepest}
+use Rattle.code.specs.declared.Code.{Code}
+use Rattle.code.specs.declared.Description.the-variants.{Accepted as Coding}
+use Rattle.hearing_state.specs.declared.State.{State}
+use Rattle.hearing_state.specs.State.{longestDescription, descriptionOf, codeOfState, opened}
+use Rattle.hearing_buffer.specs.Lent.{hearingSize, bytesOf, stateIn}
+use Rattle.hearing_demands.specs.Repeats.{Call, called, after}
+
+-- a refused call changes nothing: `refused-keeps`
+abbrev pub RefusedKeeps : Type 0
+RefusedKeeps = (s : State) (call : Call) (x : Refusal) → called s call .judgement ≡ Refused x → called s call .state ≡ s
+
+-- a state as its types have it: the sizes of its arrays, and values that are bytes
+pub record Sized (s : State) : Type 0 where
+  pub description-size : length (s .description) ≡ longestDescription
+  pub values-size : length (s .hearing .values) ≡ 2 ^ deepest
+  pub bytes : (i : ℕ) → getD (s .hearing .values) i 0 < 256
+
+-- Refusal 40 is for what no list of calls leaves: a state that is not refused is left by some adds, from a fresh hearing of its description,
+-- `left-by-some`; and so are bytes of which it is the state, `bytes-left`. That what calls leave is not refused is `Holds .code-is`.
+abbrev pub LeftBySome : Type 0
+LeftBySome = (s : State) (c : Code) → Sized s → codeOfState s ≡ Coding c → (calls : List Call) × (after (opened (descriptionOf s) .state) calls ≡ s)
+
+abbrev pub BytesLeft : Type 0
+BytesLeft =
+    (b : List ℕ) (c : Code) → length b ≡ hearingSize → ((i : ℕ) → getD b i 0 < 256) → codeOfState (stateIn b) ≡ Coding c
+    → (calls : List Call) × (bytesOf (after (opened (descriptionOf (stateIn b)) .state) calls) ≡ b)

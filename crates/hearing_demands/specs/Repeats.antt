@@ -1,0 +1,89 @@
+-- Document 02, request 2.6: what a hearing holds, "whatever list of adds preceded it". `held-after` of proofs/HeldAfter.antt proves it for
+-- every list of adds and clears from a fresh hearing.
+use mathlib.Core.Path.{_≡_}
+use mathlib.Core.List.{List, [], _∷_, _++_, map}
+use Prim.Native.Nat.{ℕ, _+_, _≤_}
+use lib.IntN.{ℤ, pos, _+ℤ_}
+use lib.ListN.{length, getD, replicate}
+use Rattle.laws.specs.Table.{table}
+use Rattle.refusal.specs.Judge.{judge, refusedOr}
+use Rattle.bits.specs.Packing.{bytesFor}
+use Rattle.code.specs.declared.Code.{Code}
+use Rattle.code.specs.declared.Description.the-variants.{Accepted as Coding}
+use Rattle.code.specs.Code.{codeLength, informationCount}
+use Rattle.code.specs.Description.{describe}
+use Rattle.channel.specs.Channel.{clip, channelValues, firstOutside}
+use Rattle.flip_decoder.specs.Decode.{decodedFull, decodedRestarted}
+use Rattle.flip_demands.specs.Demand3.{BothDecode}
+use Rattle.hearing.specs.Hearing.{combined, addRefusals}
+use Rattle.hearing_state.specs.declared.State.{State}
+use Rattle.hearing_state.specs.declared.Heard.{Heard}
+use Rattle.hearing_state.specs.State.{descriptionOf, codeOfState, opened, added, cleared, hearingFull, hearingRestarted}
+use Rattle.hearing_buffer.specs.Lent.{hearingSize, stateIn, openedIn, addedIn, clearedIn}
+
+-- a call that may change a state
+pub data Call : Type 0 where
+  add : List ℕ → Call
+  clear : Call
+
+abbrev pub called : State → Call → Heard
+called s (add channel) = added s channel
+called s clear = cleared s
+
+-- the state that a list of calls leaves
+abbrev pub after : State → List Call → State
+after s [] = s
+after s (call ∷ calls) = after (called s call .state) calls
+
+-- the vectors accepted since the last clear, `vectors` being those before the calls: 12, 13 and 27 do not apply to them
+abbrev pub acceptedIn : Code → List (List ℕ) → List Call → List (List ℕ)
+acceptedIn c vectors [] = vectors
+acceptedIn c vectors (add channel ∷ calls) =
+    acceptedIn c (refusedOr (judge (addRefusals c (length vectors) channel)) (λ x. vectors) (vectors ++ (channel ∷ []))) calls
+acceptedIn c vectors (clear ∷ calls) = acceptedIn c [] calls
+
+-- the fold of clipped sums, in whole numbers: each vector is added value by value, and each sum clipped to −31..31
+abbrev pub foldOfSums : ℕ → List ℤ → List (List ℤ) → List ℤ
+foldOfSums size sums [] = sums
+foldOfSums size sums (v ∷ vs) = foldOfSums size (table (λ i. clip (getD sums i (pos 0) +ℤ getD v i (pos 0))) size) vs
+
+-- the state s, of a code c with description d, holds these vectors
+pub record Holds (d : List ℕ) (c : Code) (s : State) (vectors : List (List ℕ)) : Type 0 where
+  -- it is a state of that code: no later call is refused as 40
+  pub description-is : descriptionOf s ≡ d
+  pub code-is : codeOfState s ≡ Coding c
+  -- the count is their number
+  pub count-is : s .hearing .count ≡ length vectors
+  pub count-most : length vectors ≤ 255
+  -- the held values are the fold of clipped sums, and well-formed
+  pub values-are : channelValues (combined c (s .hearing)) ≡ foldOfSums (codeLength c) (replicate (codeLength c) (pos 0)) (map channelValues vectors)
+  pub size-is : length (combined c (s .hearing)) ≡ codeLength c
+  pub in-range : firstOutside (combined c (s .hearing)) ≡ codeLength c
+  -- decoding is that of the held values
+  pub full-is : (limit : ℕ) (output : List ℕ) → hearingFull s limit output ≡ decodedFull d (combined c (s .hearing)) limit output
+  pub restarted-is : (limit : ℕ) (output : List ℕ) → hearingRestarted s limit output ≡ decodedRestarted d (combined c (s .hearing)) limit output
+  -- "Restart and full decoding must agree on the combined vector": demand 3, with every T and every output buffer that the code allows
+  pub agree :
+      (limit : ℕ) (output output′ : List ℕ)
+      → 1 ≤ limit → limit ≤ informationCount c + 1 → length output ≡ bytesFor (c .k) → length output′ ≡ bytesFor (c .k)
+      → BothDecode d c (combined c (s .hearing)) limit output output′
+
+-- any code, and any list of adds and clears from a fresh hearing
+abbrev pub HeldAfter : Type 0
+HeldAfter = (d : List ℕ) (c : Code) (calls : List Call) → describe d ≡ Coding c → Holds d c (after (opened d .state) calls) (acceptedIn c [] calls)
+
+-- for C: what a call leaves in a buffer, and what a list of calls does
+abbrev pub calledIn : List ℕ → Call → List ℕ
+calledIn b (add channel) = addedIn b channel .1
+calledIn b clear = clearedIn b .1
+
+abbrev pub bufferAfter : List ℕ → List Call → List ℕ
+bufferAfter b [] = b
+bufferAfter b (call ∷ calls) = bufferAfter (calledIn b call) calls
+
+-- In any buffer of the right size in which a hearing is opened, any list of adds and clears leaves the state that it leaves in Rattle, so that
+-- `HeldAfter` says what it holds: `buffer-after` of proofs/Buffer.antt.
+abbrev pub BufferAfter : Type 0
+BufferAfter =
+    (d b : List ℕ) (c : Code) (calls : List Call)
+    → describe d ≡ Coding c → length b ≡ hearingSize → stateIn (bufferAfter (openedIn d b .1) calls) ≡ after (opened d .state) calls

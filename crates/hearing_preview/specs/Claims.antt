@@ -1,0 +1,48 @@
+-- What the theorems of this crate state of its definitions.
+use mathlib.Core.Path.{_≡_}
+use mathlib.Core.List.{List, [], _∷_, _++_}
+use Prim.Native.Nat.{ℕ}
+use lib.ListN.{length}
+use Rattle.refusal.specs.declared.Refusal.{Refusal}
+use Rattle.refusal.specs.declared.Judgement.the-variants as judgement
+use Rattle.refusal.specs.Judge.{judge}
+use Rattle.code.specs.declared.Code.{Code}
+use Rattle.code.specs.declared.Description.the-variants.{Accepted as Coding}
+use Rattle.code.specs.Description.{describe}
+use Rattle.flip_run.specs.declared.Decoded.the-variants.{Refused}
+use Rattle.flip_decoder.specs.Decode.{decodedRestarted}
+use Rattle.hearing.specs.Hearing.{combined, addRefusals}
+use Rattle.hearing_state.specs.declared.State.{State}
+use Rattle.hearing_state.specs.State.{opened, added}
+use Rattle.hearing_buffer.specs.Lent.{hearingSize, stateIn, openedIn}
+use Rattle.hearing_demands.specs.Repeats.{Call, after, acceptedIn, Holds, bufferAfter}
+use Rattle.hearing_preview.specs.Preview.{previewed, previewedIn}
+
+-- the preview in a buffer, whatever it holds, is that of its state: `on-a-copy`
+abbrev pub OnACopy : Type 0
+OnACopy = (b channel : List ℕ) (limit : ℕ) (output : List ℕ) → previewedIn b channel limit output ≡ previewed (stateIn b) channel limit output
+
+-- what a preview of one more vector answers on a state s, of a code c with description d, `vectors` being those that it holds
+pub record Previews (d : List ℕ) (c : Code) (s : State) (vectors : List (List ℕ)) (channel : List ℕ) : Type 0 where
+  -- 12, 13 and 27 are the answer, and the output stays
+  pub refused :
+      (x : Refusal) → judge (addRefusals c (length vectors) channel) ≡ judgement.Refused x
+      → (limit : ℕ) (output : List ℕ) → previewed s channel limit output ≡ (Refused x, output)
+  -- otherwise it is that of restarted decoding of the sums: those that a state holds which holds this vector too
+  pub decoded :
+      judge (addRefusals c (length vectors) channel) ≡ judgement.Fine
+      → (limit : ℕ) (output : List ℕ) → previewed s channel limit output ≡ decodedRestarted d (combined c (added s channel .state .hearing)) limit output
+  pub sums : judge (addRefusals c (length vectors) channel) ≡ judgement.Fine → Holds d c (added s channel .state) (vectors ++ (channel ∷ []))
+
+-- any code, and any list of adds and clears from a fresh hearing: `preview-after`
+abbrev pub PreviewAfter : Type 0
+PreviewAfter =
+    (d : List ℕ) (c : Code) (calls : List Call) (channel : List ℕ)
+    → describe d ≡ Coding c → Previews d c (after (opened d .state) calls) (acceptedIn c [] calls) channel
+
+-- and for C, in any buffer of the right size, the answer is that in Rattle: `preview-in-after`
+abbrev pub PreviewInAfter : Type 0
+PreviewInAfter =
+    (d b : List ℕ) (c : Code) (calls : List Call) (channel : List ℕ) (limit : ℕ) (output : List ℕ)
+    → describe d ≡ Coding c → length b ≡ hearingSize
+    → previewedIn (bufferAfter (openedIn d b .1) calls) channel limit output ≡ previewed (after (opened d .state) calls) channel limit output

@@ -1,0 +1,71 @@
+// A vector that is tried before it is kept: an add, and restarted decoding of what it leaves, on a copy of the state.
+use arrays::SIZE;
+use code::Code;
+use code::Description;
+use code::LONGEST;
+use flip_run::Decoded;
+use flip_run::Plan;
+use flip_trial::Restart;
+use hearing_buffer::VALUES_AT;
+use hearing_state::State;
+use refusal::Judgement;
+ghost use mathlib.Core.Path.{_≡_};
+ghost use Rattle.hearing.specs.Hearing.{addedTo};
+ghost use Rattle.hearing_state.specs.State.{codeOfState, withHearing, addedUnder, hearingRestarted};
+ghost use Rattle.hearing_buffer.specs.Lent.{stateIn};
+ghost use Rattle.hearing_preview.specs.Preview.{thenRestarted, previewed, previewedIn};
+ghost use Rattle.hearing_preview.specs.Contracts.{MayAdd};
+
+// Previews an add to a state by value, which is a copy.
+pub fn preview(state: State, channel: &[u8], limit: u32, output: &mut [u8]) -> Decoded
+    ensures { λ a. ⌜ (a, now (output .exit)) ≡ previewed state (now (channel .entry)) limit (now (output .entry)) ⌝ }
+{
+    let heard = hearing_state::add(state, channel);
+    let judgement = heard.judgement;
+    match judgement {
+        Judgement::Fine => hearing_state::decode_restarted(heard.state, limit, output),
+        Judgement::Refused(x) => Decoded::Refused(x),
+    }
+}
+
+// Decodes the sums of the values in a buffer and a vector, which are made in a copy of the values.
+fn decode_sums(code: Code, buffer: &[u8], channel: &[u8], limit: u32, output: &mut [u8]) -> Decoded
+    requires { ⌜ MayAdd code (now buffer) (now channel) ⌝ }
+    ensures { λ a. ⌜ (a, now (output .exit)) ≡ hearingRestarted (withHearing (stateIn (now (buffer .entry))) (addedTo code (stateIn (now (buffer .entry)) .hearing) (now (channel .entry)))) limit (now (output .entry)) ⌝ }
+{
+    let restarted = Plan {
+        restart: Restart::After,
+        limit,
+    };
+    let mut values = [0u8; SIZE];
+    arrays::copy(buffer, VALUES_AT, &mut values, 0, channel.len());
+    hearing::add_values(&mut values, channel);
+    hearing_state::decode_values(restarted, code, &buffer[..LONGEST], &values, output)
+}
+
+// Previews an add under the code of the state.
+fn preview_under(
+    code: Code,
+    buffer: &[u8],
+    channel: &[u8],
+    limit: u32,
+    output: &mut [u8],
+) -> Decoded
+    requires { ⌜ codeOfState (stateIn (now buffer)) ≡ Description.Accepted code ⌝ }
+    ensures { λ a. ⌜ (a, now (output .exit)) ≡ thenRestarted (addedUnder code (stateIn (now (buffer .entry))) (now (channel .entry))) limit (now (output .entry)) ⌝ }
+{
+    match hearing::judge_add(code, buffer[LONGEST], channel) {
+        Judgement::Fine => decode_sums(code, buffer, channel, limit, output),
+        Judgement::Refused(x) => Decoded::Refused(x),
+    }
+}
+
+// Previews an add to the hearing in a buffer, which is only read and holds afterwards what it held.
+pub fn preview_in(buffer: &[u8], channel: &[u8], limit: u32, output: &mut [u8]) -> Decoded
+    ensures { λ a. ⌜ ((a, now (output .exit)) ≡ previewedIn (now (buffer .entry)) (now (channel .entry)) limit (now (output .entry))) × (now (buffer .exit) ≡ now (buffer .entry)) ⌝ }
+{
+    match hearing_buffer::code_in(buffer) {
+        Description::Accepted(code) => preview_under(code, buffer, channel, limit, output),
+        Description::Refused(x) => Decoded::Refused(x),
+    }
+}

@@ -1,0 +1,28 @@
+-- What only contracts below the public operations cite. Nothing here need be believed.
+use mathlib.Core.Path.{_≡_}
+use mathlib.Core.List.{List}
+use Prim.Native.Nat.{ℕ, _^_, _≤_}
+use lib.ListN.{length}
+use Rattle.arrays.specs.Sizes.{deepest}
+use Rattle.code.specs.declared.Code.{Code}
+use Rattle.code.specs.declared.Description.the-variants.{Accepted}
+use Rattle.code.specs.Code.{codeLength}
+use Rattle.code.specs.Description.{describe}
+use Rattle.hearing.specs.Contracts.{hearingBy}
+use Rattle.hearing_state.specs.declared.State.{State}
+use Rattle.hearing_state.specs.State.{longestDescription, recordIn}
+
+-- a state by its arrays and its count
+abbrev pub stateBy : List ℕ → ℕ → List ℕ → State
+stateBy description count values = record { description = description; hearing = hearingBy count values }
+
+-- such arrays
+pub record StatePre (description values : List ℕ) : Type 0 where
+  pub description-size : length description ≡ longestDescription
+  pub values-size : length values ≡ 2 ^ deepest
+
+-- a description at the beginning of some bytes, and values for its code
+pub record DecodePre (c : Code) (bytes values : List ℕ) : Type 0 where
+  pub field : 2 ≤ length bytes
+  pub describes : describe (recordIn bytes) ≡ Accepted c
+  pub room : codeLength c ≤ length values

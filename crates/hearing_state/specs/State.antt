@@ -1,0 +1,96 @@
+-- Document 02, request 2.6: what is kept from one call to the next, the description of a code and its hearing, and the operations on it.
+use mathlib.Core.Bool.{Bool, _&&_, cond}
+use mathlib.Core.List.{List, []}
+use Prim.Native.Nat.{ℕ, _+_, _/_, _^_}
+use lib.ListN.{length, take, drop}
+use Rattle.refusal.specs.declared.Refusal.{Refusal}
+use Rattle.refusal.specs.declared.Refusal.the-variants.{Alone}
+use Rattle.refusal.specs.declared.Judgement.{Judgement}
+use Rattle.refusal.specs.declared.Judgement.the-variants as judgement
+use Rattle.refusal.specs.Judge.{judge, refusedOr}
+use Rattle.arrays.specs.Sizes.{deepest}
+use Rattle.code.specs.declared.Code.{Code}
+use Rattle.code.specs.declared.Description.{Description}
+use Rattle.code.specs.declared.Description.the-variants.{Accepted, Refused}
+use Rattle.code.specs.Description.{word, describe, onDescription}
+use Rattle.flip_trial.specs.declared.Restart.the-variants.{Root, After}
+use Rattle.flip_run.specs.declared.Plan.{Plan}
+use Rattle.flip_run.specs.declared.Decoded.{Decoded}
+use Rattle.flip_run.specs.declared.Decoded.the-variants as decode
+use Rattle.flip_decoder.specs.Decode.{planOf, decodedWith}
+use Rattle.hearing.specs.declared.Hearing.{Hearing}
+use Rattle.hearing.specs.Padded.{padded, allZero}
+use Rattle.hearing.specs.Hearing.{fresh, combined, addedTo, addRefusals, isHearing}
+use Rattle.hearing_state.specs.declared.State.{State}
+use Rattle.hearing_state.specs.declared.Heard.{Heard}
+
+-- the longest description: 10 bytes of fields, and N/8 of mask
+abbrev pub longestDescription : ℕ
+longestDescription = 10 + 2 ^ deepest / 8
+
+-- a state by its description, which zeros follow, and its hearing
+abbrev pub stateOf : List ℕ → Hearing → State
+stateOf d h = record { description = padded longestDescription d; hearing = h }
+
+-- no state: it has no description, so that every call refuses it as 40
+abbrev pub noState : State
+noState = stateOf [] fresh
+
+-- the record at the beginning of some bytes: as many as its length field says, or all where there are fewer
+abbrev pub recordIn : List ℕ → List ℕ
+recordIn bytes = take (word bytes 0) bytes
+
+-- the description that a state holds
+abbrev pub descriptionOf : State → List ℕ
+descriptionOf s = recordIn (s .description)
+
+-- whether some calls leave such a state: zeros follow its description, and its hearing is one under its code c
+abbrev pub isState : Code → State → Bool
+isState c s = allZero (drop (length (descriptionOf s)) (s .description)) && isHearing c (s .hearing)
+
+-- the code of a state, or refusal 40, this codec's own: no list of calls leaves such a state
+abbrev pub codeOfState : State → Description
+codeOfState s =
+    onDescription (describe (descriptionOf s)) (λ x. Refused (Alone 40)) (λ c. cond (isState c s) (Accepted c) (Refused (Alone 40)))
+
+-- what an operation answers, and the state afterwards
+abbrev pub heard : Judgement → State → Heard
+heard j s = record { judgement = j; state = s }
+
+-- a refused call changes nothing
+abbrev pub refusedIn : State → Refusal → Heard
+refusedIn s x = heard (judgement.Refused x) s
+
+-- what a state becomes with another hearing
+abbrev pub withHearing : State → Hearing → State
+withHearing s h = record { description = s .description; hearing = h }
+
+-- open: a fresh hearing for a code; the refusals of its description come first
+abbrev pub opened : List ℕ → Heard
+opened d = onDescription (describe d) (refusedIn noState) (λ c. heard judgement.Fine (stateOf d fresh))
+
+-- add under a code: 12, 13 and 27, then the sums
+abbrev pub addedUnder : Code → State → List ℕ → Heard
+addedUnder c s channel =
+    refusedOr (judge (addRefusals c (s .hearing .count) channel)) (refusedIn s)
+    (heard judgement.Fine (withHearing s (addedTo c (s .hearing) channel)))
+
+-- add: refusal 40 first
+abbrev pub added : State → List ℕ → Heard
+added s channel = onDescription (codeOfState s) (refusedIn s) (λ c. addedUnder c s channel)
+
+-- clear: "Clearing returns zeros and count 0."
+abbrev pub cleared : State → Heard
+cleared s = onDescription (codeOfState s) (refusedIn s) (λ c. heard judgement.Fine (withHearing s fresh))
+
+-- "decoding uses the held values": the decoder's answer to the held description and values
+abbrev pub hearingWith : Plan → State → List ℕ → Decoded × List ℕ
+hearingWith plan s output =
+    onDescription (codeOfState s) (λ x. (decode.Refused x, output))
+    (λ c. decodedWith plan (descriptionOf s) (combined c (s .hearing)) output)
+
+abbrev pub hearingFull : State → ℕ → List ℕ → Decoded × List ℕ
+hearingFull s limit output = hearingWith (planOf Root limit) s output
+
+abbrev pub hearingRestarted : State → ℕ → List ℕ → Decoded × List ℕ
+hearingRestarted s limit output = hearingWith (planOf After limit) s output

@@ -1,9 +1,0 @@
--- What only contracts below the public operations cite. Nothing here need be believed.
-use Prim.Native.Nat.{_^_, _<_}
-use Rattle.number.specs.Number.{Parts}
-
--- each has room in its place
-pub record Fitting (p : Parts) : Type 0 where
-  pub refusal-fits : p .refusal < 2 ^ 8
-  pub value-fits : p .value < 2 ^ 24
-  pub steps-fits : p .steps < 2 ^ 32

@@ -1,0 +1,168 @@
+// Resume: one decoding pass whose first bits are given.
+use arrays::MIDDLE;
+use arrays::MIDDLE_SIZE;
+use arrays::SHORT;
+use arrays::SHORT_SIZE;
+use arrays::SIZE;
+use code::Code;
+use code::Description;
+use pass_tree::Work;
+use refusal::Judgement;
+use refusal::Refusal;
+ghost use mathlib.Core.Path.{_≡_};
+ghost use Prim.Native.Nat.{_*_, _≤_};
+ghost use lib.ListN.{length};
+ghost use Rattle.refusal.specs.Judge.{judge};
+ghost use Rattle.code.specs.Code.{codeLength};
+ghost use Rattle.code.specs.Claims.{Coded};
+ghost use Rattle.pass_ends.specs.Contracts.{ValueRooms};
+ghost use Rattle.pass_resume.specs.Resume.{badBit, firstBad, resumePass, prefixRefusals, resumingRefusals, resumedBy, resumed};
+ghost use Rattle.pass_resume.specs.Contracts.{ResumePre};
+
+// What resume answers: the steps made, or the refusal.
+pub enum Resumed {
+    Done { steps: u32 },
+    Refused(Refusal),
+}
+
+// Whether a prefix byte is other than 0 or 1, or a 1 at a frozen index, which the mask does not mark.
+fn is_bad(byte: u8, marked: u8) -> bool
+    ensures { λ b. ⌜ b ≡ badBit byte marked ⌝ }
+{
+    1 < byte || byte == 1 && marked == 0
+}
+
+// The first index of such a byte, or the prefix's length.
+fn first_bad(mask: &[u8], prefix: &[u8]) -> usize
+    requires { ⌜ length (now prefix) ≤ 8 * length (now mask) ⌝ }
+    ensures { λ r. ⌜ r ≡ firstBad (now (mask .entry)) (now (prefix .entry)) ⌝ }
+{
+    let mut i = 0;
+    while i < prefix.len() {
+        if is_bad(prefix[i], bits::mask_bit(mask, i)) {
+            return i;
+        }
+        i += 1;
+    }
+    i
+}
+
+// The pass of an accepted call; the arrays of values are as long as the code, or longer.
+fn resume_with(
+    mask: &[u8],
+    code: Code,
+    channel: &[u8],
+    prefix: &[u8],
+    work: &mut [i32],
+    leaves: &mut [i32],
+    output: &mut [u8],
+) -> Work
+    requires { do ⌜ ResumePre (now mask) code (now channel) (now prefix) (now output) × ValueRooms (← ⟦SIZE⟧) (codeLength code) (now leaves) (now work) ⌝ }
+    ensures { λ done. ⌜ (done ≡ resumePass (now (mask .entry)) code (now (channel .entry)) (now (prefix .entry)) .work) × (now (output .exit) ≡ resumePass (now (mask .entry)) code (now (channel .entry)) (now (prefix .entry)) .bits) ⌝ }
+{
+    let mut rules = [0u8; SIZE];
+    let mut bits = [0u8; SIZE];
+    let mut sums = [0u8; SIZE];
+    pass::rules_from(mask, &mut rules);
+    arrays::copy(prefix, 0, &mut bits, 0, prefix.len());
+    let done = pass::pass(
+        code,
+        prefix.len(),
+        channel,
+        &rules,
+        work,
+        &mut bits,
+        &mut sums,
+        leaves,
+    );
+    arrays::copy(&bits, 0, output, 0, channel.len());
+    done
+}
+
+// The same: fills the arrays of values, by the length of the code.
+fn resume_pass(mask: &[u8], code: Code, channel: &[u8], prefix: &[u8], output: &mut [u8]) -> Work
+    requires { ⌜ ResumePre (now mask) code (now channel) (now prefix) (now output) ⌝ }
+    ensures { λ done. ⌜ (done ≡ resumePass (now (mask .entry)) code (now (channel .entry)) (now (prefix .entry)) .work) × (now (output .exit) ≡ resumePass (now (mask .entry)) code (now (channel .entry)) (now (prefix .entry)) .bits) ⌝ }
+{
+    if code.n <= SHORT {
+        let mut work = [0i32; SHORT_SIZE];
+        let mut leaves = [0i32; SHORT_SIZE];
+        return resume_with(mask, code, channel, prefix, &mut work, &mut leaves, output);
+    }
+    if code.n <= MIDDLE {
+        let mut work = [0i32; MIDDLE_SIZE];
+        let mut leaves = [0i32; MIDDLE_SIZE];
+        return resume_with(mask, code, channel, prefix, &mut work, &mut leaves, output);
+    }
+    let mut work = [0i32; SIZE];
+    let mut leaves = [0i32; SIZE];
+    resume_with(mask, code, channel, prefix, &mut work, &mut leaves, output)
+}
+
+// Refusals 17 to 19.
+fn judge_prefix(mask: &[u8], code: Code, prefix: &[u8], output: &[u8]) -> Judgement
+    requires { ⌜ Coded (now mask) code ⌝ }
+    ensures { λ j. ⌜ j ≡ judge (prefixRefusals (now (mask .entry)) code (now (prefix .entry)) (now (output .entry))) ⌝ }
+{
+    let size = 1usize << code.n;
+    if size < prefix.len() {
+        return Judgement::Refused(Refusal::Alone(17));
+    }
+    let index = first_bad(mask, prefix);
+    if index < prefix.len() {
+        return Judgement::Refused(Refusal::At { refusal: 18, index });
+    }
+    if output.len() != size {
+        return Judgement::Refused(Refusal::Alone(19));
+    }
+    Judgement::Fine
+}
+
+// Refusals 12, 13 and 17 to 19.
+fn judge_resuming(
+    mask: &[u8],
+    code: Code,
+    channel: &[u8],
+    prefix: &[u8],
+    output: &[u8],
+) -> Judgement
+    requires { ⌜ Coded (now mask) code ⌝ }
+    ensures { λ j. ⌜ j ≡ judge (resumingRefusals (now (mask .entry)) code (now (channel .entry)) (now (prefix .entry)) (now (output .entry))) ⌝ }
+{
+    match channel::judge_channel(code, channel) {
+        Judgement::Fine => judge_prefix(mask, code, prefix, output),
+        Judgement::Refused(x) => Judgement::Refused(x),
+    }
+}
+
+// Resumes under a code.
+pub fn resume_by(
+    mask: &[u8],
+    code: Code,
+    channel: &[u8],
+    prefix: &[u8],
+    output: &mut [u8],
+) -> Resumed
+    requires { ⌜ Coded (now mask) code ⌝ }
+    ensures { λ r. ⌜ (r, now (output .exit)) ≡ resumedBy (now (mask .entry)) code (now (channel .entry)) (now (prefix .entry)) (now (output .entry)) ⌝ }
+{
+    match judge_resuming(mask, code, channel, prefix, output) {
+        Judgement::Fine => {
+            let done = resume_pass(mask, code, channel, prefix, output);
+            Resumed::Done { steps: done.steps }
+        }
+        Judgement::Refused(x) => Resumed::Refused(x),
+    }
+}
+
+// All N bits of a pass whose first bits are the prefix, one a byte.
+pub fn resume(description: &[u8], channel: &[u8], prefix: &[u8], output: &mut [u8]) -> Resumed
+    ensures { λ r. ⌜ (r, now (output .exit)) ≡ resumed (now (description .entry)) (now (channel .entry)) (now (prefix .entry)) (now (output .entry)) ⌝ }
+{
+    match code::read_description(description) {
+        Description::Accepted(code) => {
+            resume_by(code::mask_of(description), code, channel, prefix, output)
+        }
+        Description::Refused(x) => Resumed::Refused(x),
+    }
+}

@@ -1,0 +1,25 @@
+-- What the theorems of this crate state of its definitions.
+use Prim.Native.Nat.{ℕ, _%_, _^_, _/_, _<_}
+use mathlib.Core.Path.{_≡_}
+use Rattle.polar_number.specs.Number.{Parts, number}
+
+-- bits 0-7, 8-31 and 32-63 of a number, as POLAR_REFUSAL, POLAR_VALUE and POLAR_STEPS of include/polar.h take them
+abbrev pub refusalIn : ℕ → ℕ
+refusalIn x = x % 2 ^ 8
+
+abbrev pub valueIn : ℕ → ℕ
+valueIn x = x / 2 ^ 8 % 2 ^ 24
+
+abbrev pub stepsIn : ℕ → ℕ
+stepsIn x = x / 2 ^ 32
+
+-- x is a 64-bit number with these parts
+pub record Fields (p : Parts) (x : ℕ) : Type 0 where
+  pub fits : x < 2 ^ 64
+  pub refusal-is : refusalIn x ≡ p .refusal
+  pub value-is : valueIn x ≡ p .value
+  pub steps-is : stepsIn x ≡ p .steps
+
+-- the number of these parts gives them back
+abbrev pub Read : Parts → Type 0
+Read p = Fields p (number p)

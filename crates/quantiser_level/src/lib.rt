@@ -1,0 +1,85 @@
+// One sample as a channel value in quarter units.
+ghost use mathlib.Core.Path.{_≡_};
+ghost use mathlib.Core.Bool.{not};
+ghost use Prim.Native.Nat.{_<_, min, max};
+ghost use lib.Dec.{T};
+ghost use lib.Ieee.{binary32, mul, isNan};
+ghost use Rattle.channel.specs.Channel.{byteOf};
+ghost use Rattle.quantiser_level.specs.Level.{magnitude, nearest, quarters, level, levelOf};
+
+// What becomes of one sample: its byte, 1 where its product is clipped or else 0, and its product's magnitude.
+pub struct Level {
+    pub byte: u8,
+    pub clipped: usize,
+    pub magnitude: f32,
+}
+
+// A magnitude's bits, no further down than the last float below 1/8 and no further up than the last below 8.
+fn clamped(bits: u32) -> u32
+    ensures { λ r. ⌜ r ≡ max 0x3dff_ffff (min 0x40ff_ffff bits) ⌝ }
+{
+    if bits < 0x3dff_ffff {
+        return 0x3dff_ffff;
+    }
+    if 0x40ff_ffff < bits {
+        return 0x40ff_ffff;
+    }
+    bits
+}
+
+// The whole number nearest to v / 2^25, halves up.
+fn rounded(v: u32) -> u32
+    requires { ⌜ v < 0x4000_0000 ⌝ }
+    ensures { λ n. ⌜ n ≡ nearest v 0x200_0000 ⌝ }
+{
+    (v + 0x100_0000) >> 25
+}
+
+// The whole number nearest to 4|p|, or 32 where it is larger. The significand is shifted so that 4|p| has 25 bits of fraction; what is
+// below 1/8 gives 0, and what is 8 or more gives 32.
+fn nearest_quarters(p: f32) -> u32
+    requires { ⌜ T (not (isNan p)) ⌝ }
+    ensures { λ n. ⌜ n ≡ min 32 (quarters p) ⌝ }
+{
+    let bits = clamped(f32::to_bits(p) % 0x8000_0000);
+    let significand = 0x80_0000 + bits % 0x80_0000;
+    rounded(significand << (bits / 0x80_0000 - 123))
+}
+
+// The output byte, n being the whole number nearest to 4|p|, or 32 where it is larger. 32, which stands for all that is clipped,
+// becomes 31.
+fn level_byte(p: f32, n: u32) -> u8
+    requires { ⌜ n ≡ min 32 (quarters p) ⌝ }
+    ensures { λ b. ⌜ b ≡ byteOf (level p) ⌝ }
+{
+    let clipped = n - n / 32;
+    if p < 0.0 {
+        ((256 - clipped) % 256) as u8
+    } else {
+        clipped as u8
+    }
+}
+
+// p without its sign: the sign bit cleared.
+fn absolute(p: f32) -> f32
+    requires { ⌜ T (not (isNan p)) ⌝ }
+    ensures { λ r. ⌜ r ≡ magnitude p ⌝ }
+{
+    f32::from_bits(f32::to_bits(p) % 0x8000_0000)
+}
+
+// What becomes of the sample y. The product is a number where the scale is valid and y is a number.
+pub fn quantise_one(scale: f32, y: f32) -> Level
+    requires { ⌜ T (not (isNan (mul binary32 scale y))) ⌝ }
+    ensures { λ l. ⌜ l ≡ levelOf (mul binary32 scale y) ⌝ }
+{
+    let p = scale * y;
+    let n = nearest_quarters(p);
+    let byte = level_byte(p, n);
+    let magnitude = absolute(p);
+    Level {
+        byte,
+        clipped: (n / 32) as usize,
+        magnitude,
+    }
+}

@@ -1,0 +1,116 @@
+-- What only contracts below the public operations cite. Nothing here need be believed.
+use mathlib.Core.Path.{_≡_}
+use mathlib.Core.Bool.{cond}
+use mathlib.Core.List.{List, [], _++_}
+use Prim.Native.Nat.{ℕ, _+_, _-_, _*_, _≤_, _<_}
+use lib.Dec.{ltb, eqb}
+use lib.ListN.{length, take}
+use Rattle.code.specs.Description.{word}
+use Rattle.receive_lines.specs.Contracts.{longestLine}
+use Rattle.receive_record.specs.Respond.{responded}
+use Rattle.receive_stream.specs.declared.Ahead.{Ahead}
+use Rattle.receive_stream.specs.declared.Ahead.the-variants.{Whole, Missing, Short}
+use Rattle.receive_stream.specs.declared.Stream.{Stream}
+use Rattle.receive_stream.specs.Stream.{printedFrom}
+
+-- room for what one step prints: a record's line, or `cut` and `end`
+abbrev pub room : ℕ
+room = 2 * longestLine
+
+-- the length of a record is a word
+abbrev pub longestRecord : ℕ
+longestRecord = 65535
+
+-- turns are counted by a u64
+abbrev pub mostTurns : ℕ
+mostTurns = 18446744073709551615
+
+-- a stream of which nothing has been read
+abbrev pub starting : Stream
+starting = record { there = 0; wanted = 4; held = 0; count = 0; turns = 0; waiting = 0; ready = 0 }
+
+-- what the bytes of a record that are there say
+abbrev pub aheadOf : List ℕ → Ahead
+aheadOf bytes =
+    cond (ltb (length bytes) 4) (Missing (4 - length bytes))
+    (cond (ltb (word bytes 0) 4) Short (cond (ltb (length bytes) (word bytes 0)) (Missing (word bytes 0 - length bytes)) Whole))
+
+-- what is missing has room in the longest record
+abbrev pub Fits : List ℕ → Ahead → Type 0
+Fits bytes Whole = Unit
+Fits bytes (Missing n) = length bytes + n ≤ longestRecord
+Fits bytes Short = Unit
+
+-- how much is written of what waits in an output of `size` bytes: all or nothing, and what is left leaves room
+pub record ReadyPost (waiting size ready : ℕ) : Type 0 where
+  pub most : ready ≤ waiting
+  pub splits : (output : List ℕ) → take ready output ++ take (waiting - ready) output ≡ take waiting output
+  pub leaves : room ≤ size → waiting - ready + room ≤ size
+
+-- what `respond_to` asks
+pub record RespondToPre (longest : ℕ) (s : Stream) (bytes held output : List ℕ) : Type 0 where
+  pub header : 4 ≤ length bytes
+  pub held-most : s .held ≤ length held
+  pub held-room : longest ≤ length held
+  pub output-room : s .waiting + room ≤ length output
+  pub counts : s .count ≤ s .turns
+  pub turns-most : s .turns < mostTurns
+
+-- what it answers: the record's line behind what waited, and what is held, in the buffers as they are afterwards
+pub record RespondToPost (s : Stream) (bytes held output held′ output′ : List ℕ) (s′ : Stream) : Type 0 where
+  pub there-is : s′ .there ≡ 0
+  pub wanted-is : s′ .wanted ≡ 4
+  pub count-is : s′ .count ≡ s .count + 1
+  pub turns-is : s′ .turns ≡ s .turns + 1
+  pub held-most : s′ .held ≤ length held′
+  pub held-is : take (s′ .held) held′ ≡ responded (take (s .held) held) bytes .1
+  pub ready-most : s′ .ready ≤ length output′
+  pub output-room : s′ .waiting + room ≤ length output′
+  pub lines-are : take (s′ .ready) output′ ++ take (s′ .waiting) output′ ≡ take (s .waiting) output ++ responded (take (s .held) held) bytes .0
+
+-- the stream is over: `text` is written behind what waited
+pub record EndPost (s : Stream) (text output output′ : List ℕ) (s′ : Stream) : Type 0 where
+  pub there-is : s′ .there ≡ 0
+  pub wanted-is : s′ .wanted ≡ 0
+  pub held-is : s′ .held ≡ s .held
+  pub count-is : s′ .count ≡ s .count
+  pub turns-is : s′ .turns ≡ s .turns + 1
+  pub waiting-is : s′ .waiting ≡ 0
+  pub same-size : length output′ ≡ length output
+  pub ready-most : s′ .ready ≤ length output′
+  pub lines-are : take (s′ .ready) output′ ≡ take (s .waiting) output ++ text
+
+-- between two reads: `partial` is there of a record
+pub record Between (s : Stream) (partial held output : List ℕ) : Type 0 where
+  pub there-is : length partial ≡ s .there
+  pub wanted-is : 0 < s .wanted → aheadOf partial ≡ Missing (s .wanted)
+  pub wanted-fits : s .there + s .wanted ≤ longestRecord
+  pub held-most : s .held ≤ length held
+  pub counts : s .count ≤ s .turns
+  pub output-room : s .waiting + room ≤ length output
+
+-- what is yet to be printed where `partial` is there of a record and `rest` is not read
+abbrev pub yetPrinted : Stream → List ℕ → List ℕ → List ℕ → List ℕ → List ℕ
+yetPrinted s partial held output rest = take (s .waiting) output ++ printedFrom (take (s .held) held) (s .count) (partial ++ rest)
+
+-- text, or nothing where the stream is over
+abbrev pub unlessOver : Stream → List ℕ → List ℕ
+unlessOver s text = cond (eqb (s .wanted) 0) [] text
+
+-- what `advance` asks: `got` bytes have been read behind those that were there
+pub record AdvancePre (longest : ℕ) (s : Stream) (got : ℕ) (bytes held output : List ℕ) : Type 0 where
+  pub between : Between s (take (s .there) bytes) held output
+  pub going : 0 < s .wanted
+  pub got-most : got ≤ s .wanted
+  pub bytes-room : s .there + got ≤ length bytes
+  pub held-room : longest ≤ length held
+  pub turns-most : s .turns < mostTurns
+
+-- What it answers. Where no byte was read the stream is over. Whatever `rest` of the input is not read, and none is left where no byte was
+-- read: what was yet to be printed is what is written now, and then what is yet to be printed, which is nothing where the stream is over.
+pub record AdvancePost (s : Stream) (got : ℕ) (bytes held output held′ output′ : List ℕ) (s′ : Stream) : Type 0 where
+  pub between : Between s′ (take (s′ .there) bytes) held′ output′
+  pub ready-most : s′ .ready ≤ length output′
+  pub turns-is : s′ .turns ≡ s .turns + 1
+  pub ends : got ≡ 0 → s′ .wanted ≡ 0
+  pub prints : (rest : List ℕ) → (got ≡ 0 → rest ≡ []) → yetPrinted s (take (s .there + got) bytes) held output rest ≡ take (s′ .ready) output′ ++ unlessOver s′ (yetPrinted s′ (take (s′ .there) bytes) held′ output′ rest)

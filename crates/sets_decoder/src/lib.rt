@@ -1,0 +1,151 @@
+// Decoding by sets of flipped indices: full, by half restart, and restarted.
+use code::Code;
+use code::Description;
+use flip_run::Decoded;
+use flip_trial::Restart;
+use refusal::Judgement;
+use refusal::Refusal;
+use sets::Search;
+ghost use mathlib.Core.Path.{_≡_};
+ghost use Prim.Native.Nat.{_≤_};
+ghost use Rattle.refusal.specs.Judge.{outside, judge};
+ghost use Rattle.arrays.specs.Sizes.{deepest};
+ghost use Rattle.arrays.specs.Claims.{longest};
+ghost use Rattle.code.specs.Code.{informationCount};
+ghost use Rattle.code.specs.Claims.{Coded};
+ghost use Rattle.sets.specs.DecodeSets.{mostLimit, searchRefusals, setRefusals, setsBy, setsWith, setsFull, setsHalf, setsRestarted};
+
+// The largest trial limit where a set may have more than one index.
+const MOST_TRIALS: usize = 512;
+
+// The largest trial limit.
+fn most_limit(w: u32, code: Code) -> usize
+    requires { ⌜ informationCount code ≤ longest ⌝ }
+    ensures { λ r. ⌜ r ≡ mostLimit w code ⌝ }
+{
+    if w == 1 {
+        code.k + code.r as usize + 1
+    } else {
+        MOST_TRIALS
+    }
+}
+
+// Whether a set may have no index, or more than three.
+fn is_bad_count(w: u32) -> bool
+    ensures { λ b. ⌜ b ≡ outside w 1 3 ⌝ }
+{
+    w < 1 || 3 < w
+}
+
+// Whether the trial limit is outside its range.
+fn is_bad_limit(search: Search, code: Code) -> bool
+    requires { ⌜ informationCount code ≤ longest ⌝ }
+    ensures { λ b. ⌜ b ≡ outside (search .limit) 1 (mostLimit (search .w) code) ⌝ }
+{
+    search.limit < 1 || most_limit(search.w, code) < search.limit as usize
+}
+
+// Refusals 26, 14 and 15.
+fn judge_search(search: Search, code: Code, output: &[u8]) -> Judgement
+    requires { ⌜ informationCount code ≤ longest ⌝ }
+    ensures { λ j. ⌜ j ≡ judge (searchRefusals search code (now (output .entry))) ⌝ }
+{
+    if is_bad_count(search.w) {
+        return Judgement::Refused(Refusal::Alone(26));
+    }
+    if is_bad_limit(search, code) {
+        return Judgement::Refused(Refusal::Alone(14));
+    }
+    if output.len() != bits::bytes_for(code.k) {
+        return Judgement::Refused(Refusal::Alone(15));
+    }
+    Judgement::Fine
+}
+
+// Refusals 12, 13, 26, 14 and 15.
+fn judge_sets(search: Search, code: Code, channel: &[u8], output: &[u8]) -> Judgement
+    requires { ⌜ (code .n ≤ deepest) × (informationCount code ≤ longest) ⌝ }
+    ensures { λ j. ⌜ j ≡ judge (setRefusals search code (now (channel .entry)) (now (output .entry))) ⌝ }
+{
+    match channel::judge_channel(code, channel) {
+        Judgement::Fine => judge_search(search, code, output),
+        Judgement::Refused(x) => Judgement::Refused(x),
+    }
+}
+
+// Decodes under a code.
+fn decode_by(search: Search, mask: &[u8], code: Code, channel: &[u8], output: &mut [u8]) -> Decoded
+    requires { ⌜ Coded (now mask) code ⌝ }
+    ensures { λ a. ⌜ (a, now (output .exit)) ≡ setsBy search (now (mask .entry)) code (now (channel .entry)) (now (output .entry)) ⌝ }
+{
+    match judge_sets(search, code, channel, output) {
+        Judgement::Fine => sets_run::decode_in(search, mask, code, channel, output),
+        Judgement::Refused(x) => Decoded::Refused(x),
+    }
+}
+
+// Decodes a channel's values into the packed payload.
+fn decode(search: Search, description: &[u8], channel: &[u8], output: &mut [u8]) -> Decoded
+    ensures { λ a. ⌜ (a, now (output .exit)) ≡ setsWith search (now (description .entry)) (now (channel .entry)) (now (output .entry)) ⌝ }
+{
+    match code::read_description(description) {
+        Description::Accepted(code) => {
+            decode_by(search, code::mask_of(description), code, channel, output)
+        }
+        Description::Refused(x) => Decoded::Refused(x),
+    }
+}
+
+// Decodes with each later trial repeated from the root.
+pub fn decode_sets_full(
+    description: &[u8],
+    channel: &[u8],
+    w: u32,
+    limit: u32,
+    output: &mut [u8],
+) -> Decoded
+    ensures { λ a. ⌜ (a, now (output .exit)) ≡ setsFull (now (description .entry)) (now (channel .entry)) w limit (now (output .entry)) ⌝ }
+{
+    let full = Search {
+        restart: Restart::Root,
+        w,
+        limit,
+    };
+    decode(full, description, channel, output)
+}
+
+// Decodes with each later trial resumed at N/2 where the lowest index of its set is N/2 or above, otherwise at 0.
+pub fn decode_sets_half(
+    description: &[u8],
+    channel: &[u8],
+    w: u32,
+    limit: u32,
+    output: &mut [u8],
+) -> Decoded
+    ensures { λ a. ⌜ (a, now (output .exit)) ≡ setsHalf (now (description .entry)) (now (channel .entry)) w limit (now (output .entry)) ⌝ }
+{
+    let half = Search {
+        restart: Restart::Half,
+        w,
+        limit,
+    };
+    decode(half, description, channel, output)
+}
+
+// Decodes with each later trial resumed past the lowest index of its set.
+pub fn decode_sets_restarted(
+    description: &[u8],
+    channel: &[u8],
+    w: u32,
+    limit: u32,
+    output: &mut [u8],
+) -> Decoded
+    ensures { λ a. ⌜ (a, now (output .exit)) ≡ setsRestarted (now (description .entry)) (now (channel .entry)) w limit (now (output .entry)) ⌝ }
+{
+    let restarted = Search {
+        restart: Restart::After,
+        w,
+        limit,
+    };
+    decode(restarted, description, channel, output)
+}

@@ -1,0 +1,97 @@
+-- Keeping only as many untried sets as trials remain loses nothing: the sets tried are those of a search that keeps all of them. So a
+-- larger limit tries the same sets first.
+use mathlib.Core.Path.{_≡_, refl, sym, ap, _∙_}
+use mathlib.Core.Bool.{Bool, true, false, cond}
+use mathlib.Core.List.{List, [], _∷_}
+use Prim.Native.Nat.{ℕ, zero, suc, _+_, _-_, _≤_}
+use native.Mathlib.Omega.{arith}
+use lib.IntN.{ℤ}
+use lib.ListN.{length, take}
+use lib.Seq.{take-nil, take-all, take-take}
+use Rattle.code.specs.declared.Code.{Code}
+use Rattle.flip_trial.specs.declared.Restart.{Restart}
+use Rattle.sets.specs.declared.Search.{Search}
+use Rattle.sets.specs.Candidate.{Candidate, before, insert, insertEach}
+use Rattle.sets.specs.Tried.{generated, tried, flipSets}
+use Rattle.sets.specs.DecodeSets.{searchOf}
+use Rattle.sets_tried.specs.Claims.{insertAll, triedOfAll}
+
+-- ---- keeping the first m
+
+take-cons : (m : ℕ) (y : Candidate) (ys : List Candidate) → take m (y ∷ take m ys) ≡ take m (y ∷ ys)
+take-cons zero y ys = refl
+take-cons (suc m) y ys = ap (λ (zs : List Candidate). y ∷ zs) (take-take m (suc m) ys (omega arith))
+
+-- what stands past the first m does not come among them
+pub take-insert : (m : ℕ) (x : Candidate) (ys : List Candidate) → take m (insert x (take m ys)) ≡ take m (insert x ys)
+unfolding insert
+take-insert zero x ys = refl
+take-insert (suc m) x [] = refl
+take-insert (suc m) x (y ∷ ys) = go (before x y) (take-insert m x ys)
+  where
+    go : (t : Bool) → take m (insert x (take m ys)) ≡ take m (insert x ys) → take (suc m) (cond t (x ∷ y ∷ take m ys) (y ∷ insert x (take m ys))) ≡ take (suc m) (cond t (x ∷ y ∷ ys) (y ∷ insert x ys))
+    go true e = ap (λ (zs : List Candidate). x ∷ zs) (take-cons m y ys)
+    go false e = ap (λ (zs : List Candidate). y ∷ zs) e
+
+pub insert-each-take : (m : ℕ) (xs ys : List Candidate) → insertEach m xs (take m ys) ≡ take m (insertAll xs ys)
+unfolding insertEach insertAll
+insert-each-take m [] ys = refl
+insert-each-take m (x ∷ xs) ys = ap (insertEach m xs) (take-insert m x ys) ∙ insert-each-take m xs (insert x ys)
+
+-- with room for all of them, all are kept
+pub insert-each-all : (xs ys : List Candidate) → insertEach (length ys + length (insertAll xs ys)) xs ys ≡ insertAll xs ys
+insert-each-all xs ys =
+    let m : ℕ = length ys + length (insertAll xs ys) in
+    ap (insertEach m xs) (sym (take-all m ys (omega arith))) ∙ insert-each-take m xs ys ∙ take-all m (insertAll xs ys) (omega arith)
+
+module _ (generate : List ℕ → List Candidate) where
+  pub tried-take : (m : ℕ) (xs : List Candidate) → tried generate m (take m xs) ≡ triedOfAll generate m xs
+  unfolding tried triedOfAll
+  tried-take zero xs = refl
+  tried-take (suc m) [] = refl
+  tried-take (suc m) (x ∷ xs) =
+      ap (λ (is : List (List ℕ)). x .flips ∷ is)
+      (ap (tried generate m) (insert-each-take m (generate (x .flips)) xs) ∙ tried-take m (insertAll (generate (x .flips)) xs))
+
+  -- ---- the search that keeps all, by how many trials remain
+
+  take-tried : (m n : ℕ) (xs : List Candidate) → m ≤ n → triedOfAll generate m xs ≡ take m (triedOfAll generate n xs)
+  unfolding triedOfAll
+  take-tried zero n xs l = refl
+  take-tried (suc m) zero xs l = absurd (omega arith)
+  take-tried (suc m) (suc n) [] l = refl
+  take-tried (suc m) (suc n) (x ∷ xs) l =
+      ap (λ (is : List (List ℕ)). x .flips ∷ is) (take-tried m n (insertAll (generate (x .flips)) xs) (omega arith))
+
+  length-tried : (m : ℕ) (xs : List Candidate) → length (triedOfAll generate m xs) ≤ m
+  unfolding triedOfAll
+  length-tried zero xs = omega arith
+  length-tried (suc m) [] = omega arith
+  length-tried (suc m) (x ∷ xs) = omega (arith, length-tried m (insertAll (generate (x .flips)) xs))
+
+-- ---- the sets of a search
+
+pub kept-loses-nothing : (s : Search) (mask : List ℕ) (c : Code) (v : List ℤ) → flipSets s mask c v ≡ triedOfAll (generated s mask c v) (s .limit - 1) (insertAll (generated s mask c v []) [])
+kept-loses-nothing s mask c v =
+    let m : ℕ = s .limit - 1 in
+    let first : List Candidate = generated s mask c v [] in
+    ap (tried (generated s mask c v) m) (ap (insertEach m first) (sym (take-nil m)) ∙ insert-each-take m first [])
+    ∙ tried-take (generated s mask c v) m (insertAll first [])
+
+-- at most one set for each trial after the first
+pub length-sets : (s : Search) (mask : List ℕ) (c : Code) (v : List ℤ) → length (flipSets s mask c v) ≤ s .limit - 1
+length-sets s mask c v =
+    omega (arith, ap length (kept-loses-nothing s mask c v), length-tried (generated s mask c v) (s .limit - 1) (insertAll (generated s mask c v []) []))
+
+module _ (restart : Restart) (w limit limit′ : ℕ) (mask : List ℕ) (c : Code) (v : List ℤ) (l : limit ≤ limit′) where
+  abbrev generate : List ℕ → List Candidate
+  generate = generated (searchOf restart w limit) mask c v
+
+  abbrev first : List Candidate
+  first = insertAll (generate []) []
+
+  -- a larger limit tries the same sets first
+  pub take-sets : flipSets (searchOf restart w limit) mask c v ≡ take (limit - 1) (flipSets (searchOf restart w limit′) mask c v)
+  take-sets =
+      kept-loses-nothing (searchOf restart w limit) mask c v ∙ take-tried generate (limit - 1) (limit′ - 1) first (omega arith)
+      ∙ ap (take (limit - 1)) (sym (kept-loses-nothing (searchOf restart w limit′) mask c v))

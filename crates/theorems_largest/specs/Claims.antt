@@ -1,0 +1,48 @@
+-- What the theorems of this crate state besides: which answers a larger n changes, the operations with n up to `deepest`, and the bound on
+-- the values of a pass.
+use mathlib.Core.Path.{_≡_}
+use mathlib.Core.List.{List, List·Memᴰ}
+use Prim.Native.Nat.{ℕ, _<_, _≤_}
+use lib.IntN.{ℤ}
+use lib.ListN.{getD}
+use Rattle.refusal.specs.declared.Refusal.the-variants.{Alone}
+use Rattle.arrays.specs.Sizes.{deepest}
+use Rattle.code.specs.declared.Code.{Code}
+use Rattle.code.specs.declared.Description.the-variants.{Refused}
+use Rattle.code.specs.Description.{describeUpTo, describe}
+use Rattle.values.specs.Values.{Rule}
+use Rattle.values.specs.Claims.{Within}
+use Rattle.encoder.specs.Encode.{encodedUpTo, encoded}
+use Rattle.pass_tree.specs.Node.{node}
+use Rattle.pass_tree.specs.Claims.{most, worked}
+use Rattle.pass_resume.specs.Resume.{resumedUpTo, resumed}
+use Rattle.flip_trial.specs.declared.Restart.the-variants.{Root, Half, After}
+use Rattle.flip_decoder.specs.Decode.{decodedUpTo, planOf, decodedFull, decodedHalf, decodedRestarted}
+use Rattle.sets.specs.DecodeSets.{setsUpTo, searchOf, setsFull, setsHalf, setsRestarted}
+
+-- Bytes whose answer a larger n changes: they are refused as 4 with n up to `small`, and not with n up to `large`, and their n lies between.
+-- `answers` of proofs/Longer.antt: all bytes have the same answers, or are these.
+pub record NewAnswer (small large : ℕ) (d : List ℕ) : Type 0 where
+  pub refused : describeUpTo small d ≡ Refused (Alone 4)
+  pub above : small < getD d 4 0
+  pub most : getD d 4 0 ≤ large
+  pub other : describeUpTo large d ≡ Refused (Alone 4) → ⊥
+
+-- Every operation answers d as it does with n up to `largest`. `as-accepted` of proofs/Longer.antt: so it is where that accepts d; `as-10` is
+-- document 01's n.
+pub record AnswersAs (largest : ℕ) (d : List ℕ) : Type 0 where
+  pub description : describe d ≡ describeUpTo largest d
+  pub encode : (payload output : List ℕ) → encoded d payload output ≡ encodedUpTo largest d payload output
+  pub resume : (channel prefix output : List ℕ) → resumed d channel prefix output ≡ resumedUpTo largest d channel prefix output
+  pub full : (channel : List ℕ) (limit : ℕ) (output : List ℕ) → decodedFull d channel limit output ≡ decodedUpTo largest (planOf Root limit) d channel output
+  pub half : (channel : List ℕ) (limit : ℕ) (output : List ℕ) → decodedHalf d channel limit output ≡ decodedUpTo largest (planOf Half limit) d channel output
+  pub restarted : (channel : List ℕ) (limit : ℕ) (output : List ℕ) → decodedRestarted d channel limit output ≡ decodedUpTo largest (planOf After limit) d channel output
+  pub sets-full : (channel : List ℕ) (w limit : ℕ) (output : List ℕ) → setsFull d channel w limit output ≡ setsUpTo largest (searchOf Root w limit) d channel output
+  pub sets-half : (channel : List ℕ) (w limit : ℕ) (output : List ℕ) → setsHalf d channel w limit output ≡ setsUpTo largest (searchOf Half w limit) d channel output
+  pub sets-restarted : (channel : List ℕ) (w limit : ℕ) (output : List ℕ) → setsRestarted d channel w limit output ≡ setsUpTo largest (searchOf After w limit) d channel output
+
+-- "The inner bound is 31 · 2^n at a leaf, up to 126,976": no magnitude at a leaf exceeds that, nor one at layer s what `most` allows there at the
+-- largest n. `small-values` of proofs/Small.antt: so it is in every pass under a description, resumed or not and by any rules.
+pub record SmallValues (c : Code) (p : List ℕ) (rule : ℕ → Rule) (v : List ℤ) : Type 0 where
+  pub leaves : Within 126976 (node (c .n) p rule v .leaves)
+  pub layers : (x : ℕ × List ℤ) → List·Memᴰ x (worked (c .n) p rule v) → Within (most deepest (x .0)) (x .1)

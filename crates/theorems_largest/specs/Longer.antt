@@ -1,0 +1,28 @@
+-- Document 02, request 2.3: "Old descriptions must decode to what they did, with equal step reports." `old-answers` of proofs/Longer.antt
+-- proves it of any two largest n.
+use mathlib.Core.Path.{_≡_}
+use mathlib.Core.List.{List}
+use Prim.Native.Nat.{ℕ, _≤_}
+use Rattle.refusal.specs.declared.Refusal.the-variants.{Alone}
+use Rattle.code.specs.declared.Description.the-variants.{Refused}
+use Rattle.code.specs.Description.{describeUpTo}
+use Rattle.encoder.specs.Encode.{encodedUpTo}
+use Rattle.pass_resume.specs.Resume.{resumedUpTo}
+use Rattle.flip_run.specs.declared.Plan.{Plan}
+use Rattle.flip_decoder.specs.Decode.{decodedUpTo}
+use Rattle.sets.specs.declared.Search.{Search}
+use Rattle.sets.specs.DecodeSets.{setsUpTo}
+
+-- Every operation gives the bytes d the same whole answer, output and steps included, with n up to `small` and with n up to `large`. Full and
+-- restarted decoding are a plan each, and by sets a search each.
+pub record SameAnswers (small large : ℕ) (d : List ℕ) : Type 0 where
+  pub description : describeUpTo small d ≡ describeUpTo large d
+  pub encoding : (payload output : List ℕ) → encodedUpTo small d payload output ≡ encodedUpTo large d payload output
+  pub resuming : (channel prefix output : List ℕ) → resumedUpTo small d channel prefix output ≡ resumedUpTo large d channel prefix output
+  pub decoding : (plan : Plan) (channel output : List ℕ) → decodedUpTo small plan d channel output ≡ decodedUpTo large plan d channel output
+  pub decoding-sets : (s : Search) (channel output : List ℕ) → setsUpTo small s d channel output ≡ setsUpTo large s d channel output
+
+-- So it is with all bytes but those that are refused as 4 with n up to `small`. Document 01's largest n is 10, and the operations are those with
+-- `deepest`, 12.
+abbrev pub OldAnswers : Type 0
+OldAnswers = (small large : ℕ) (d : List ℕ) → small ≤ large → (describeUpTo small d ≡ Refused (Alone 4) → ⊥) → SameAnswers small large d
