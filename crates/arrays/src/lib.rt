@@ -19,16 +19,8 @@ pub type ByteArray = [u8; SIZE];
 // A working array of bits, one a byte.
 pub type BitArray = ByteArray;
 
-// The largest n of a short code, and as many bits as it has. Arrays of values are made for short, middle or all codes: a frame of 32 bits takes
-// less time to decode than arrays of SIZE values to fill.
-pub const SHORT: u32 = 7;
-
-pub const SHORT_SIZE: usize = 1 << SHORT;
-
-// The same for a code of middle length.
-pub const MIDDLE: u32 = 10;
-
-pub const MIDDLE_SIZE: usize = 1 << MIDDLE;
+// A working array of values: below the root, those of the node at layer s stand from index 2^s on.
+pub type ValueArray = [i32; SIZE];
 
 // The rule of each index: 0 frozen, 1 the usual decision, 3 its opposite.
 pub type RuleArray = [u8; SIZE];

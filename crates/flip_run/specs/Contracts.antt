@@ -3,21 +3,24 @@ use mathlib.Core.Path.{_≡_}
 use mathlib.Core.List.{List, _∷_}
 use Prim.Native.Nat.{ℕ, _*_, _≤_}
 use lib.IntN.{ℤ}
-use lib.ListN.{length}
+use lib.ListN.{length, take}
+use Rattle.bits.specs.Claims.{Bits}
+use Rattle.bits.specs.Packing.{packed}
 use Rattle.code.specs.declared.Code.{Code}
 use Rattle.code.specs.Code.{codeLength}
 use Rattle.code.specs.Claims.{Coded}
-use Rattle.channel.specs.Channel.{channelValues}
+use Rattle.channel.specs.Channel.{channelValues, firstOutside}
 use Rattle.pass_tree.specs.Node.{Out}
 use Rattle.pass_ends.specs.Contracts.{Arrays, Whole}
 use Rattle.flip_order.specs.Contracts.{Keyed}
-use Rattle.flip_trial.specs.Trial.{firstTrial, trialPasses}
+use Rattle.flip_trial.specs.Trial.{firstTrial, trialPasses, messageIn}
 use Rattle.flip_trial.specs.Contracts.{PlainRules, FirstBits, FirstLeaves}
 use Rattle.flip_run.specs.declared.Plan.{Plan}
 use Rattle.flip_run.specs.declared.Decoded.{Decoded}
-use Rattle.flip_run.specs.declared.Begun.{Begun}
-use Rattle.flip_run.specs.declared.Begun.the-variants.{Passed, Failed}
-use Rattle.flip_run.specs.Trials.{trials, run, answerOf}
+use Rattle.flip_run.specs.declared.Decoded.the-variants as Decoded
+use Rattle.flip_run.specs.declared.Ended.{Ended}
+use Rattle.flip_run.specs.declared.Ended.the-variants.{Passed, Failed}
+use Rattle.flip_run.specs.Trials.{Verdict, passed, failed, trials, run, answerOf}
 use Rattle.flip_run.specs.WellFormed.{WellFormed}
 
 -- what holds past all refusals before 16
@@ -25,11 +28,11 @@ pub record RunPre (plan : Plan) (mask : List ℕ) (c : Code) (channel output : L
   pub coded : Coded mask c
   pub well-formed : WellFormed c channel (plan .limit) output
 
--- arrays of bytes of `room` entries, and arrays of `wide` values
-pub record RoomsPre (room wide : ℕ) (c : Code) (rules : List ℕ) (a : Arrays) : Type 0 where
-  pub rules-whole : length rules ≡ room
-  pub fits : codeLength c ≤ wide
-  pub whole : Whole room wide a
+-- a code, and channel values for it, each within its range
+pub record FramePre (mask : List ℕ) (c : Code) (channel : List ℕ) : Type 0 where
+  pub coded : Coded mask c
+  pub channel-size : length channel ≡ codeLength c
+  pub in-range : firstOutside channel ≡ length channel
 
 -- once trial 1 failed, in `start` steps: its bits, the rules of a plain pass, and how a run goes on
 pub record LaterTrialsPre (room : ℕ) (mask : List ℕ) (c : Code) (channel : List ℕ) (start : ℕ) (first rules : List ℕ) : Type 0 where
@@ -38,18 +41,38 @@ pub record LaterTrialsPre (room : ℕ) (mask : List ℕ) (c : Code) (channel : L
   pub plain : PlainRules room mask c rules
   pub goes-on : (later : List Out) → run (trialPasses mask c) 0 0 (firstTrial mask c (channelValues channel) ∷ later) ≡ run (trialPasses mask c) 1 start later
 
--- how trial 1 ended: it passed, and the answer is that of a run, whatever later trials it has; or it failed, and the output is as it was
-abbrev pub BeginPost : ℕ → ℕ → List ℕ → Code → List ℕ → List ℕ → List ℕ → Arrays → List ℕ → Begun → Type 0
-BeginPost room wide mask c channel output rules a output′ (Passed answer) =
-    (later : List Out) → (answer, output′) ≡ answerOf mask c output (run (trialPasses mask c) 0 0 (firstTrial mask c (channelValues channel) ∷ later))
-BeginPost room wide mask c channel output rules a output′ (Failed start) =
-    LaterTrialsPre room mask c channel start (a .bits) rules × FirstLeaves wide mask c channel (a .leaves) × Whole room wide a × (output′ ≡ output)
+-- the bits of a message, if a trial passed
+abbrev pub PassedBits : Ended → List ℕ → Type 0
+PassedBits (Passed trial steps) bits = Bits bits
+PassedBits (Failed made steps) bits = Unit {0}
+
+-- the answer to a run that ended so, with the message of the trial that passed
+abbrev pub answered : ℕ → Ended → List ℕ → List ℕ → Decoded × List ℕ
+answered k (Passed trial steps) message output = (Decoded.Accepted trial steps, packed (take k message))
+answered k (Failed made steps) message output = (Decoded.Failed made steps, output)
+
+-- a run ended with its verdict; if a trial passed, `message` begins with its payload
+abbrev pub Ran : List ℕ → Code → Verdict → Ended → List ℕ → Type 0
+Ran mask c (passed trial steps bits) e message = (e ≡ Passed trial steps) × (take (c .k) message ≡ take (c .k) (messageIn mask c bits)) × Bits (take (c .k) message)
+Ran mask c (failed made steps) e message = e ≡ Failed made steps
+
+-- how trial 1 ended: it passed, and so a run ended, whatever later trials it has; or it failed
+abbrev pub BeginPost : ℕ → List ℕ → Code → List ℕ → List ℕ → Arrays → Ended → Type 0
+BeginPost room mask c channel rules a (Passed trial steps) =
+    ((later : List Out) → Ran mask c (run (trialPasses mask c) 0 0 (firstTrial mask c (channelValues channel) ∷ later)) (Passed trial steps) (a .sums))
+    × (length (a .sums) ≡ room)
+BeginPost room mask c channel rules a (Failed made start) =
+    (made ≡ 1) × LaterTrialsPre room mask c channel start (a .bits) rules × FirstLeaves room mask c channel (a .leaves) × Whole room a
 
 -- the keys of trial 1's leaf values
 abbrev pub FirstKeys : List ℕ → Code → List ℕ → List ℤ → Type 0
 FirstKeys mask c channel keys = Keyed mask (codeLength c) (firstTrial mask c (channelValues channel) .leaves) keys
 
+-- how the run of a plan ends
+abbrev pub verdictBy : Plan → List ℕ → Code → List ℕ → Verdict
+verdictBy plan mask c channel = run (trialPasses mask c) 0 0 (trials plan mask c (channelValues channel))
+
 -- the answer past all refusals before 16, and the output's final bytes
 abbrev pub answerBy : Plan → List ℕ → Code → List ℕ → List ℕ → Decoded × List ℕ
 answerBy plan mask c channel output =
-    answerOf mask c output (run (trialPasses mask c) 0 0 (trials plan mask c (channelValues channel)))
+    answerOf mask c output (verdictBy plan mask c channel)

@@ -42,14 +42,13 @@ trialBy q first rules c v is =
     node (c .n) (forcedPrefix (take (codeLength c) first) (lowest is) q) (λ j. cond (member j is) opposite (ruleAt rules j)) v
 
 -- a channel of the code's length, and the arrays of a pass
-pub record TrialPre (room wide : ℕ) (c : Code) (channel rules : List ℕ) (a : Arrays) : Type 0 where
+pub record TrialPre (room : ℕ) (c : Code) (channel rules : List ℕ) (a : Arrays) : Type 0 where
   pub n-least : 1 ≤ c .n
   pub n-most : c .n ≤ deepest
   pub long : length channel ≡ codeLength c
   pub small : Within 31 (channelValues channel)
   pub rules-whole : length rules ≡ room
-  pub fits : codeLength c ≤ wide
-  pub whole : Whole room wide a
+  pub whole : Whole room a
 
 -- indices below N to flip, at least one; where to resume; and bits to begin with
 pub record LaterTrialPre (room : ℕ) (c : Code) (q : ℕ) (is first : List ℕ) : Type 0 where
@@ -65,24 +64,24 @@ pub record FirstBits (room : ℕ) (mask : List ℕ) (c : Code) (channel first : 
   pub whole : length first ≡ room
 
 -- a trial's bits, its leaf values from q on, and its work
-pub record TrialPost (room wide : ℕ) (c : Code) (q : ℕ) (o : Out) (a′ : Arrays) (done : Work) : Type 0 where
+pub record TrialPost (room : ℕ) (c : Code) (q : ℕ) (o : Out) (a′ : Arrays) (done : Work) : Type 0 where
   pub bits : take (codeLength c) (a′ .bits) ≡ o .bits
   pub leaves : segment (a′ .leaves) q (length (o .leaves)) ≡ o .leaves
   pub work : done ≡ o .work
-  pub whole : Whole room wide a′
+  pub whole : Whole room a′
 
 -- the leaf values of trial 1
-pub record FirstLeaves (wide : ℕ) (mask : List ℕ) (c : Code) (channel : List ℕ) (leaves : List ℤ) : Type 0 where
+pub record FirstLeaves (room : ℕ) (mask : List ℕ) (c : Code) (channel : List ℕ) (leaves : List ℤ) : Type 0 where
   pub values : take (codeLength c) leaves ≡ firstTrial mask c (channelValues channel) .leaves
-  pub whole : length leaves ≡ wide
+  pub whole : length leaves ≡ room
 
 -- trial 1 is made: the rules of a plain pass, the trial's bits and leaf values, and its work
-pub record FirstTrialPost (room wide : ℕ) (mask : List ℕ) (c : Code) (channel rules : List ℕ) (a′ : Arrays) (done : Work) : Type 0 where
+pub record FirstTrialPost (room : ℕ) (mask : List ℕ) (c : Code) (channel rules : List ℕ) (a′ : Arrays) (done : Work) : Type 0 where
   pub plain : PlainRules room mask c rules
   pub bits : FirstBits room mask c channel (a′ .bits)
-  pub leaves : FirstLeaves wide mask c channel (a′ .leaves)
+  pub leaves : FirstLeaves room mask c channel (a′ .leaves)
   pub work : done ≡ firstTrial mask c (channelValues channel) .work
-  pub whole : Whole room wide a′
+  pub whole : Whole room a′
 
 -- the first information index among j, …, j + m - 1, or j + m
 abbrev pub firstFrom : List ℕ → ℕ → ℕ → ℕ

@@ -2,10 +2,10 @@
 use arrays::BitArray;
 use arrays::RuleArray;
 use arrays::SIZE;
+use arrays::ValueArray;
 use code::Code;
 use pass_tree::Work;
 ghost use mathlib.Core.Path.{_≡_};
-ghost use mathlib.Core.List.{[], _∷_};
 ghost use Prim.Native.Nat.{_+_, _-_, _*_, _≤_, _<_};
 ghost use lib.ListN.{length, take, getD, replicate};
 ghost use Rattle.laws.specs.Contracts.{splice};
@@ -14,9 +14,8 @@ ghost use Rattle.code.specs.Claims.{Coded};
 ghost use Rattle.channel.specs.Channel.{channelValues};
 ghost use Rattle.pass_ends.specs.Contracts.{arrays};
 ghost use Rattle.pass.specs.Contracts.{PassPre};
-ghost use Rattle.flip_trial.specs.Trial.{lowest, halfAt, restartAt, forcedPrefix, laterTrial, messageIn, trialPasses};
-ghost use Rattle.flip_trial.specs.Contracts.{firstFrom, Below, setAll, trialBy, PlainRules, TrialPre, LaterTrialPre, FirstBits, TrialPost, FirstTrialPost};
-ghost use Rattle.flip_trial.specs.Claims.{Flips};
+ghost use Rattle.flip_trial.specs.Trial.{halfAt, restartAt, forcedPrefix, messageIn, trialPasses};
+ghost use Rattle.flip_trial.specs.Contracts.{firstFrom, Below, setAll, trialBy, TrialPre, LaterTrialPre, TrialPost, FirstTrialPost};
 
 // The rule of a flipped index: the opposite decision.
 const OPPOSITE: u8 = 3;
@@ -24,11 +23,13 @@ const OPPOSITE: u8 = 3;
 // The rule of any other information index.
 const USUAL: u8 = 1;
 
-// Where later trials resume: at the root; at N/2 where their lowest flipped index is N/2 or above, otherwise at the root; or past that
-// flipped index.
+// Where later trials resume.
 pub enum Restart {
+    // At index 0.
     Root,
+    // At N/2 if the lowest flipped index is at least N/2, else at index 0.
     Half,
+    // At the first information index after the lowest flipped one.
     After,
 }
 
@@ -81,7 +82,12 @@ fn clear_bits(at: usize, count: usize, bits: &mut BitArray)
 
 // How a trial whose lowest flipped index is i begins, up to q.
 fn put_prefix(i: usize, q: usize, first: &BitArray, bits: &mut BitArray)
-    requires { do ⌜ (i < (← ⟦SIZE⟧)) × (q ≤ (← ⟦SIZE⟧)) × (getD (now first) i 0 < 2) × (length (now first) ≡ (← ⟦SIZE⟧)) × (length (now bits) ≡ (← ⟦SIZE⟧)) ⌝ }
+    requires { do
+      ⌜ (i < (← ⟦SIZE⟧))
+          × (q ≤ (← ⟦SIZE⟧))
+          × (getD (now first) i 0 < 2)
+          × (length (now first) ≡ (← ⟦SIZE⟧))
+          × (length (now bits) ≡ (← ⟦SIZE⟧)) ⌝ }
     ensures { λ _. ⌜ now (bits .exit) ≡ splice (now (bits .entry)) 0 (forcedPrefix (now (first .entry)) i q) ⌝ }
 {
     if q <= i {
@@ -107,20 +113,26 @@ fn set_rules(rule: u8, flips: &[usize], rules: &mut RuleArray)
 }
 
 // A later trial that flips some indices, given in ascending order, and resumes at q. Afterwards each of them has the usual rule.
-fn later_trial(
+pub fn later_trial(
     code: Code,
     q: usize,
     flips: &[usize],
     channel: &[u8],
     first: &BitArray,
     rules: &mut RuleArray,
-    work: &mut [i32],
+    work: &mut ValueArray,
     bits: &mut BitArray,
     sums: &mut BitArray,
-    leaves: &mut [i32],
+    leaves: &mut ValueArray,
 ) -> Work
-    requires { do ⌜ TrialPre (← ⟦SIZE⟧) (length (now work)) code (now channel) (now rules) (arrays (now work) (now bits) (now sums) (now leaves)) × LaterTrialPre (← ⟦SIZE⟧) code q (now flips) (now first) ⌝ }
-    ensures { λ done. do ⌜ TrialPost (← ⟦SIZE⟧ .entry) (length (now (work .entry))) code q (trialBy q (now (first .entry)) (now (rules .entry)) code (channelValues (now (channel .entry))) (now (flips .entry))) (arrays (now (work .exit)) (now (bits .exit)) (now (sums .exit)) (now (leaves .exit))) done × (now (rules .exit) ≡ setAll (now (rules .entry)) (now (flips .entry)) 1) ⌝ }
+    requires { do
+      ⌜ TrialPre (← ⟦SIZE⟧) code (now channel) (now rules) (arrays (now work) (now bits) (now sums) (now leaves))
+          × LaterTrialPre (← ⟦SIZE⟧) code q (now flips) (now first) ⌝ }
+    ensures { λ done. do
+      ⌜ TrialPost (← ⟦SIZE⟧ .entry) code q
+          (trialBy q (now (first .entry)) (now (rules .entry)) code (channelValues (now (channel .entry))) (now (flips .entry)))
+          (arrays (now (work .exit)) (now (bits .exit)) (now (sums .exit)) (now (leaves .exit))) done
+          × (now (rules .exit) ≡ setAll (now (rules .entry)) (now (flips .entry)) 1) ⌝ }
 {
     put_prefix(flips[0], q, first, bits);
     set_rules(OPPOSITE, flips, rules);
@@ -129,84 +141,24 @@ fn later_trial(
     done
 }
 
-// A later trial that flips a set of indices, given in ascending order.
-pub fn set_trial(
-    restart: Restart,
-    mask: &[u8],
-    code: Code,
-    flips: &[usize],
-    channel: &[u8],
-    first: &BitArray,
-    rules: &mut RuleArray,
-    work: &mut [i32],
-    bits: &mut BitArray,
-    sums: &mut BitArray,
-    leaves: &mut [i32],
-) -> Work
-    requires { do ⌜ TrialPre (← ⟦SIZE⟧) (length (now work)) code (now channel) (now rules) (arrays (now work) (now bits) (now sums) (now leaves)) × Coded (now mask) code × Flips (now mask) (codeLength code) (now flips) × PlainRules (← ⟦SIZE⟧) (now mask) code (now rules) × FirstBits (← ⟦SIZE⟧) (now mask) code (now channel) (now first) ⌝ }
-    ensures { λ done. do ⌜ TrialPost (← ⟦SIZE⟧ .entry) (length (now (work .entry))) code (restartAt restart (now (mask .entry)) (codeLength code) (lowest (now (flips .entry)))) (laterTrial restart (now (mask .entry)) code (channelValues (now (channel .entry))) (now (flips .entry))) (arrays (now (work .exit)) (now (bits .exit)) (now (sums .exit)) (now (leaves .exit))) done × PlainRules (← ⟦SIZE⟧ .entry) (now (mask .entry)) code (now (rules .exit)) ⌝ }
-{
-    let q = restart_index(restart, mask, flips[0]);
-    later_trial(
-        code,
-        q,
-        flips,
-        channel,
-        first,
-        rules,
-        work,
-        bits,
-        sums,
-        leaves,
-    )
-}
-
-// A later trial that flips one index.
-pub fn flip_trial(
-    restart: Restart,
-    mask: &[u8],
-    code: Code,
-    i: usize,
-    channel: &[u8],
-    first: &BitArray,
-    rules: &mut RuleArray,
-    work: &mut [i32],
-    bits: &mut BitArray,
-    sums: &mut BitArray,
-    leaves: &mut [i32],
-) -> Work
-    requires { do ⌜ TrialPre (← ⟦SIZE⟧) (length (now work)) code (now channel) (now rules) (arrays (now work) (now bits) (now sums) (now leaves)) × Coded (now mask) code × Flips (now mask) (codeLength code) (i ∷ []) × PlainRules (← ⟦SIZE⟧) (now mask) code (now rules) × FirstBits (← ⟦SIZE⟧) (now mask) code (now channel) (now first) ⌝ }
-    ensures { λ done. do ⌜ TrialPost (← ⟦SIZE⟧ .entry) (length (now (work .entry))) code (restartAt restart (now (mask .entry)) (codeLength code) i) (laterTrial restart (now (mask .entry)) code (channelValues (now (channel .entry))) (i ∷ [])) (arrays (now (work .exit)) (now (bits .exit)) (now (sums .exit)) (now (leaves .exit))) done × PlainRules (← ⟦SIZE⟧ .entry) (now (mask .entry)) code (now (rules .exit)) ⌝ }
-{
-    let flips = [i; 1];
-    set_trial(
-        restart,
-        mask,
-        code,
-        &flips,
-        channel,
-        first,
-        rules,
-        work,
-        bits,
-        sums,
-        leaves,
-    )
-}
-
 // Trial 1, a plain pass: its bits and leaf values stay in `first` and `values`.
 pub fn first_trial(
     mask: &[u8],
     code: Code,
     channel: &[u8],
     first: &mut BitArray,
-    values: &mut [i32],
+    values: &mut ValueArray,
     rules: &mut RuleArray,
-    work: &mut [i32],
+    work: &mut ValueArray,
     sums: &mut BitArray,
 ) -> Work
-    requires { do ⌜ PassPre (← ⟦SIZE⟧) (length (now work)) code 0 (now channel) (arrays (now work) (now first) (now sums) (now values)) × (8 * length (now mask) ≡ codeLength code) × (length (now rules) ≡ (← ⟦SIZE⟧)) ⌝ }
-    ensures { λ done. do ⌜ FirstTrialPost (← ⟦SIZE⟧ .entry) (length (now (work .entry))) (now (mask .entry)) code (now (channel .entry)) (now (rules .exit)) (arrays (now (work .exit)) (now (first .exit)) (now (sums .exit)) (now (values .exit))) done ⌝ }
+    requires { do
+      ⌜ PassPre (← ⟦SIZE⟧) code 0 (now channel) (arrays (now work) (now first) (now sums) (now values))
+          × (8 * length (now mask) ≡ codeLength code)
+          × (length (now rules) ≡ (← ⟦SIZE⟧)) ⌝ }
+    ensures { λ done. do
+      ⌜ FirstTrialPost (← ⟦SIZE⟧ .entry) (now (mask .entry)) code (now (channel .entry)) (now (rules .exit))
+          (arrays (now (work .exit)) (now (first .exit)) (now (sums .exit)) (now (values .exit))) done ⌝ }
 {
     pass::rules_from(mask, rules);
     pass::pass(code, 0, channel, rules, work, first, sums, values)
@@ -214,8 +166,12 @@ pub fn first_trial(
 
 // Takes a trial's message out of its bits, and says whether its payload has the check that follows it.
 pub fn trial_passes(mask: &[u8], code: Code, bits: &BitArray, message: &mut [u8]) -> bool
-    requires { ⌜ Coded (now mask) code × (codeLength code ≤ length (now bits)) × (codeLength code ≤ length (now message)) ⌝ }
-    ensures { λ ok. ⌜ (ok ≡ trialPasses (now (mask .entry)) code (take (codeLength code) (now (bits .entry)))) × (take (informationCount code) (now (message .exit)) ≡ messageIn (now (mask .entry)) code (take (codeLength code) (now (bits .entry)))) ⌝ }
+    requires { ⌜ Coded (now mask) code
+        × (codeLength code ≤ length (now bits))
+        × (codeLength code ≤ length (now message)) ⌝ }
+    ensures { λ ok. ⌜ (ok ≡ trialPasses (now (mask .entry)) code (take (codeLength code) (now (bits .entry))))
+        × (take (informationCount code) (now (message .exit))
+        ≡ messageIn (now (mask .entry)) code (take (codeLength code) (now (bits .entry)))) ⌝ }
 {
     placing::take_out(mask, bits, message);
     let size = code.k + code.r as usize;

@@ -27,13 +27,13 @@ module _ {room layer size base q : ℕ} {a : Arrays} {v : List ℤ} (rules : Lis
   own = segment (a .bits) base size
 
   long : length own ≡ size
-  long = length-segment (a .bits) base size (omega (arith, p .fits, p .whole .within, p .whole .bits))
+  long = length-segment (a .bits) base size (omega (arith, p .fits, p .whole .bits))
 
   all : forcedBits (a .bits) base size q ≡ own
   all = take-all (q - base) own (omega (arith, long))
 
   pub forced-bits : BitsAt room (a .bits) base size
-  forced-bits = record { whole = p .whole .bits; fits = omega (arith, p .fits, p .whole .within); bits = subst Bits all (p .bits) }
+  forced-bits = record { whole = p .whole .bits; fits = p .fits; bits = subst Bits all (p .bits) }
 
   forced-is : nodeOf layer size base q rules (a .bits) v ≡ forced layer own
   forced-is =
@@ -48,7 +48,7 @@ module _ {room layer size base q : ℕ} {a : Arrays} {v : List ℤ} (rules : Lis
               subst (λ (o : Out). PlacedSums o base at (resultsOf a) (results (a .bits) sums (a .leaves)) (workOf [])) (sym forced-is)
               (record {
                 placed = record {
-                  bits = sym (splice-segment (a .bits) base size (omega (arith, p .fits, p .whole .within, p .whole .bits)));
+                  bits = sym (splice-segment (a .bits) base size (omega (arith, p .fits, p .whole .bits)));
                   leaves = sym (splice-nil (a .leaves) at);
                   work = refl;
                 };
@@ -56,6 +56,7 @@ module _ {room layer size base q : ℕ} {a : Arrays} {v : List ℤ} (rules : Lis
               });
         };
         kept = refl;
+        whole = refl;
       }
 
 -- ---- by value
@@ -78,4 +79,5 @@ by-value {layer} {k} {size} {m} {base} {q} {rules} {a} {v} {x} {r} {done} el es 
       (subst₂ (λ (i j : ℕ). NodePlaced i j base base rules v (resultsOf a) r done) (sym el) (sym es)
       (subst (λ (u : List ℤ). NodePlaced k m base base rules u (resultsOf a) r done) (sym ev) y));
   kept = refl;
+  whole = refl;
 }

@@ -7,8 +7,7 @@ use native.Mathlib.Omega.{arith}
 use borrow.Author.Tests.{lt-leb}
 use lib.Dec.{leb}
 use lib.IntN.{ℤ}
-use lib.ListN.{length, take, drop, length-drop}
-use lib.Pow.{pow-pos}
+use lib.ListN.{length, take, drop}
 use Rattle.laws.specs.Contracts.{splice, segment}
 use Rattle.laws.proofs.Segment.{drop-past, segment-splice}
 use Rattle.arrays.specs.Sizes.{deepest}
@@ -30,22 +29,14 @@ use Rattle.pass_tree.proofs.Bounds.{most-below}
 use Rattle.pass_tree.proofs.StepsMost.{steps-of, left-most}
 use Rattle.pass_halves.specs.Contracts.{ValuesPost, ValuesPre, nodeValues, addable}
 use Rattle.pass_halves.proofs.Layers.{computed-whole, computed-kept}
-use Rattle.pass_ends.specs.Contracts.{Sized, Arrays, arrays, resultsOf, Whole, forcedBits, nodeOf, Placed}
+use Rattle.pass_ends.specs.Contracts.{Arrays, arrays, resultsOf, Whole, forcedBits, nodeOf, Placed}
 use Rattle.pass_ends.proofs.Halves as by-halves
-use Rattle.pass.specs.Contracts.{NodePre, BelowPre, NodePost}
-
--- the arrays of results, with an array of inner values that is as long as the leaf values
-whole-of : {room wide : ℕ} {a : Arrays} → Sized room wide (resultsOf a) → length (a .work) ≡ wide → Whole room wide a
-whole-of z e = record { work = e; bits = z .bits; sums = z .sums; leaves = z .leaves; within = z .within }
-
--- the same by its own length, as contracts say it
-whole-own : {room wide : ℕ} {a : Arrays} → Sized room wide (resultsOf a) → length (a .work) ≡ wide → Whole room (length (a .work)) a
-whole-own {room} {a = a} z e = subst (λ (k : ℕ). Whole room k a) (sym e) (whole-of z e)
+use Rattle.pass.specs.Contracts.{NodePre, NodePost}
 
 -- ---- two halves
 
 module _ {room layer size n h base q : ℕ} {a : Arrays} {v : List ℤ} (rules : List ℕ) (d : Halving layer size n h) (p : NodePre room layer size base q a v) (more : q < base + size) where
-  split : by-halves.Split room (length (a .work)) layer size n h base q (resultsOf a)
+  split : by-halves.Split room layer size n h base q (resultsOf a)
   split = record {
     halving = d;
     fits = p .fits;
@@ -56,7 +47,7 @@ module _ {room layer size n h base q : ℕ} {a : Arrays} {v : List ℤ} (rules :
   abbrev F : List ℕ
   F = forcedBits (a .bits) base size q
 
-  half : h + h ≤ length (a .work)
+  half : h + h ≤ room
   half = omega (arith, d .two, p .fits)
 
   deep : n ≤ deepest
@@ -65,61 +56,48 @@ module _ {room layer size n h base q : ℕ} {a : Arrays} {v : List ℤ} (rules :
   twice : most deepest n ≡ most deepest layer + most deepest layer
   twice = most-below deepest n (omega (arith, d .below, p .deep)) ∙ ap (λ (k : ℕ). most deepest k + most deepest k) (sym (d .below))
 
-  -- where the values from h on are kept, and there are some, the length is kept too
-  kept-long : (w w′ : List ℤ) → h + h ≤ length w → drop h w′ ≡ drop h w → length w′ ≡ length w
-  kept-long w w′ fits e = omega (arith, d .pow, pow-pos n, length-drop h w, length-drop h w′, ap length e)
-
-  -- a half, by its number of values as the caller has it and as the layer says it
-  at-power : {b : ℕ} {x : Arrays} → BelowPre room n h b q x → BelowPre room n (2 ^ n) b q x
-  at-power {b} {x} = subst (λ (s : ℕ). BelowPre room n s b q x) (d .pow)
-
-  at-half : {b : ℕ} {x x′ : Arrays} {done : Work} → NodePost n (2 ^ n) b q rules (segment (x .work) (2 ^ n) (2 ^ n)) x x′ done → NodePost n h b q rules (segment (x .work) h h) x x′ done
-  at-half {b} {x} {x′} {done} = subst (λ (s : ℕ). NodePost n s b q rules (segment (x .work) s s) x x′ done) (sym (d .pow))
-
   -- after the left values
   module _ {w₁ : List ℤ} {done₁ : Work} (c₁ : ValuesPost (computedUnless (leb (base + h) q) (leftValues h v)) h (a .work) w₁ done₁) where
     abbrev a₁ : Arrays
     a₁ = arrays w₁ (a .bits) (a .sums) (a .leaves)
 
-    long₁ : length w₁ ≡ length (a .work)
-    long₁ = computed-whole c₁ (left-most (leb (base + h) q) h v) half
+    room-left : h + h ≤ length (a .work)
+    room-left = omega (arith, half, p .whole .work)
 
     left-own : q < base + h → segment w₁ h h ≡ leftValues h v
     left-own l =
         let e : leb (base + h) q ≡ false = lt-leb (base + h) q l in
         ap (λ (w : List ℤ). segment w h h) (c₁ .stored)
         ∙ ap (λ (t : Bool). segment (splice (a .work) h (computedUnless t (leftValues h v))) h h) e
-        ∙ segment-splice (a .work) h (leftValues h v) h (length-left h v) half
+        ∙ segment-splice (a .work) h (leftValues h v) h (length-left h v) room-left
 
-    double₁ : h + h ≤ length w₁
-    double₁ = omega (arith, half, long₁)
-
-    pub left-at : BelowPre room n (2 ^ n) base q a₁
-    left-at = at-power (record {
-      node = record {
-        pow = d .pow;
-        deep = deep;
-        fits = omega (arith, d .two, p .fits, long₁);
-        whole = whole-own (by-halves.sized-of (p .whole)) long₁;
-        bits = subst Bits (sym (by-halves.left-forced rules v split)) (bits-take h F (p .bits));
-        small = λ l. subst (Within (most deepest n)) (sym (left-own l)) (within-left h (within-more (omega (arith, twice)) (p .small more)));
+    pub left-at : NodePre room n h base q a₁ (segment w₁ h h)
+    left-at = record {
+      pow = d .pow;
+      deep = deep;
+      fits = omega (arith, d .two, p .fits);
+      whole = record {
+        work = computed-whole c₁ (left-most (leb (base + h) q) h v) room-left ∙ p .whole .work;
+        bits = p .whole .bits;
+        sums = p .whole .sums;
+        leaves = p .whole .leaves;
       };
-      double = double₁;
-    })
+      bits = subst Bits (sym (by-halves.left-forced rules v split)) (bits-take h F (p .bits));
+      small = λ l. subst (Within (most deepest n)) (sym (left-own l)) (within-left h (within-more (omega (arith, twice)) (p .small more)));
+    }
 
     -- after the left node
-    module _ {a₂ : Arrays} {done₂ : Work} (e₂ : NodePost n (2 ^ n) base q rules (segment w₁ (2 ^ n) (2 ^ n)) a₁ a₂ done₂) where
-      c₂ : NodePost n h base q rules (segment w₁ h h) a₁ a₂ done₂
-      c₂ = at-half e₂
-
-      pub whole₂ : Whole room (length (a .work)) a₂
-      whole₂ = whole-of (by-halves.sized₁ rules v split left-own (c₂ .node)) (kept-long w₁ (a₂ .work) double₁ (c₂ .kept) ∙ long₁)
+    module _ {a₂ : Arrays} {done₂ : Work} (c₂ : NodePost n h base q rules (segment w₁ h h) a₁ a₂ done₂) where
+      pub whole₂ : Whole room a₂
+      whole₂ =
+          let z = by-halves.sized₁ rules v split left-own (c₂ .node) in
+          record { work = c₂ .whole ∙ left-at .whole .work; bits = z .bits; sums = z .sums; leaves = z .leaves }
 
       -- the node's own values are as they were
       pub own-kept : drop (h + h) (a₂ .work) ≡ drop (h + h) (a .work)
       own-kept =
           drop-past w₁ (a₂ .work) h (h + h) (omega arith) (c₂ .kept)
-          ∙ computed-kept c₁ (left-most (leb (base + h) q) h v) half
+          ∙ computed-kept c₁ (left-most (leb (base + h) q) h v) room-left
 
       -- after the right values
       module _ {w₃ : List ℤ} {done₃ : Work} (c₃ : ValuesPost (rightValues h v (segment (a₂ .sums) base h)) h (a₂ .work) w₃ done₃) where
@@ -132,39 +110,32 @@ module _ {room layer size n h base q : ℕ} {a : Arrays} {v : List ℤ} (rules :
         long₃ : length (rightValues h v (segment (a₂ .sums) base h)) ≡ h
         long₃ = length-right h v (segment (a₂ .sums) base h)
 
-        long-w₃ : length w₃ ≡ length (a .work)
-        long-w₃ = computed-whole c₃ (omega (arith, long₃)) room-right ∙ whole₂ .work
-
         right-own : segment w₃ h h ≡ rightValues h v (segment (a₂ .sums) base h)
         right-own =
             ap (λ (w : List ℤ). segment w h h) (c₃ .stored)
             ∙ segment-splice (a₂ .work) h (rightValues h v (segment (a₂ .sums) base h)) h long₃ room-right
 
-        double₃ : h + h ≤ length w₃
-        double₃ = omega (arith, half, long-w₃)
-
-        pub right-at : BelowPre room n (2 ^ n) (base + h) q a₃
-        right-at = at-power (record {
-          node = record {
-            pow = d .pow;
-            deep = deep;
-            fits = omega (arith, d .two, p .fits, long-w₃);
-            whole = whole-own (by-halves.sized-of whole₂) long-w₃;
-            bits = subst Bits (sym (by-halves.right-forced rules v split left-own (c₂ .node))) (bits-drop h F (p .bits));
-            small = λ l. subst₂ Within (sym twice) (sym right-own) (within-right h (segment (a₂ .sums) base h) (p .small more));
+        pub right-at : NodePre room n h (base + h) q a₃ (segment w₃ h h)
+        right-at = record {
+          pow = d .pow;
+          deep = deep;
+          fits = omega (arith, d .two, p .fits);
+          whole = record {
+            work = computed-whole c₃ (omega (arith, long₃)) room-right ∙ whole₂ .work;
+            bits = whole₂ .bits;
+            sums = whole₂ .sums;
+            leaves = whole₂ .leaves;
           };
-          double = double₃;
-        })
+          bits = subst Bits (sym (by-halves.right-forced rules v split left-own (c₂ .node))) (bits-drop h F (p .bits));
+          small = λ l. subst₂ Within (sym twice) (sym right-own) (within-right h (segment (a₂ .sums) base h) (p .small more));
+        }
 
         -- after the right node
-        module _ {a₄ : Arrays} {done₄ : Work} (e₄ : NodePost n (2 ^ n) (base + h) q rules (segment w₃ (2 ^ n) (2 ^ n)) a₃ a₄ done₄) where
-          c₄ : NodePost n h (base + h) q rules (segment w₃ h h) a₃ a₄ done₄
-          c₄ = at-half e₄
-
-          pub whole₄ : Whole room (length (a .work)) a₄
+        module _ {a₄ : Arrays} {done₄ : Work} (c₄ : NodePost n h (base + h) q rules (segment w₃ h h) a₃ a₄ done₄) where
+          pub whole₄ : Whole room a₄
           whole₄ =
-              whole-of (by-halves.laid-sized (d .pow) (omega (arith, d .two, p .fits)) (by-halves.sized-of whole₂) (c₄ .node))
-              (kept-long w₃ (a₄ .work) double₃ (c₄ .kept) ∙ long-w₃)
+              let z = by-halves.laid-sized (d .pow) (omega (arith, d .two, p .fits)) (by-halves.sized-of whole₂) (c₄ .node) in
+              record { work = c₄ .whole ∙ right-at .whole .work; bits = z .bits; sums = z .sums; leaves = z .leaves }
 
           -- few enough to count
           pub left-few : done₁ .steps + done₂ .steps < 2 ^ 31
@@ -193,14 +164,16 @@ module _ {room layer size n h base q : ℕ} {a : Arrays} {v : List ℤ} (rules :
                   ∙ drop-past w₃ (a₄ .work) h (h + h) (omega arith) (c₄ .kept)
                   ∙ computed-kept c₃ (omega (arith, long₃)) room-right ∙ own-kept
                   ∙ ap (λ (k : ℕ). drop k (a .work)) (sym (d .two));
+              whole = whole₄ .work ∙ sym (p .whole .work);
             }
 
 -- ---- an inner node, whose own values stand in the working array
 
 pub record Inner (room layer size n h base q : ℕ) (a : Arrays) : Type 0 where
   pub halving : Halving layer size n h
-  pub pre : BelowPre room layer size base q a
+  pub pre : NodePre room layer size base q a (segment (a .work) size size)
   pub more : q < base + size
+  pub double : size + size ≤ room
 
 module _ {room layer size n h base q : ℕ} {a : Arrays} (rules : List ℕ) (i : Inner room layer size n h base q a) where
   abbrev v : List ℤ
@@ -209,43 +182,46 @@ module _ {room layer size n h base q : ℕ} {a : Arrays} (rules : List ℕ) (i :
   own-values : (work : List ℤ) → drop (h + h) work ≡ drop (h + h) (a .work) → nodeValues work h ≡ v
   own-values work e = ap (take (h + h)) e ∙ ap (λ (k : ℕ). segment (a .work) k k) (sym (i .halving .two))
 
-  values-at : {work : List ℤ} → length work ≡ length (a .work) → drop (h + h) work ≡ drop (h + h) (a .work) → ValuesPre work h
+  values-at : {work : List ℤ} → length work ≡ room → drop (h + h) work ≡ drop (h + h) (a .work) → ValuesPre room work h
   values-at {work} whole e = record {
-    fits = omega (arith, i .halving .two, i .pre .double);
-    few = omega (arith, i .halving .two, i .pre .node .pow, fits (i .pre .node .deep));
-    small = subst (Within addable) (sym (own-values work e)) (within-more (omega (arith, loudest {n = deepest - layer} (omega arith))) (i .pre .node .small (i .more)));
+    whole = whole;
+    fits = omega (arith, i .halving .two, i .double);
+    small = subst (Within addable) (sym (own-values work e)) (within-more (omega (arith, loudest {n = deepest - layer} (omega arith))) (i .pre .small (i .more)));
   }
 
-  pub inner-at : ValuesPre (a .work) h
-  inner-at = values-at refl refl
+  pub inner-at : ValuesPre room (a .work) h
+  inner-at = values-at (i .pre .whole .work) refl
+
+  pub inner-half : h + h ≤ room
+  inner-half = omega (arith, i .halving .two, i .double)
 
   module _ {w₁ : List ℤ} {done₁ : Work} (e₁ : ValuesPost (computedUnless (leb (base + h) q) (leftValues h (nodeValues (a .work) h))) h (a .work) w₁ done₁) where
     c₁ : ValuesPost (computedUnless (leb (base + h) q) (leftValues h v)) h (a .work) w₁ done₁
     c₁ = subst (λ (x : List ℤ). ValuesPost (computedUnless (leb (base + h) q) (leftValues h x)) h (a .work) w₁ done₁) (own-values (a .work) refl) e₁
 
-    pub inner-left : BelowPre room n (2 ^ n) base q (arrays w₁ (a .bits) (a .sums) (a .leaves))
-    inner-left = left-at rules (i .halving) (i .pre .node) (i .more) c₁
+    pub inner-left : NodePre room n h base q (arrays w₁ (a .bits) (a .sums) (a .leaves)) (segment w₁ h h)
+    inner-left = left-at rules (i .halving) (i .pre) (i .more) c₁
 
-    module _ {a₂ : Arrays} {done₂ : Work} (c₂ : NodePost n (2 ^ n) base q rules (segment w₁ (2 ^ n) (2 ^ n)) (arrays w₁ (a .bits) (a .sums) (a .leaves)) a₂ done₂) where
+    module _ {a₂ : Arrays} {done₂ : Work} (c₂ : NodePost n h base q rules (segment w₁ h h) (arrays w₁ (a .bits) (a .sums) (a .leaves)) a₂ done₂) where
       kept : drop (h + h) (a₂ .work) ≡ drop (h + h) (a .work)
-      kept = own-kept rules (i .halving) (i .pre .node) (i .more) c₁ c₂
+      kept = own-kept rules (i .halving) (i .pre) (i .more) c₁ c₂
 
-      pub inner-again : ValuesPre (a₂ .work) h
-      inner-again = values-at (whole₂ rules (i .halving) (i .pre .node) (i .more) c₁ c₂ .work) kept
+      pub inner-again : ValuesPre room (a₂ .work) h
+      inner-again = values-at (whole₂ rules (i .halving) (i .pre) (i .more) c₁ c₂ .work) kept
 
       module _ {w₃ : List ℤ} {done₃ : Work} (e₃ : ValuesPost (rightValues h (nodeValues (a₂ .work) h) (segment (a₂ .sums) base h)) h (a₂ .work) w₃ done₃) where
         c₃ : ValuesPost (rightValues h v (segment (a₂ .sums) base h)) h (a₂ .work) w₃ done₃
         c₃ = subst (λ (x : List ℤ). ValuesPost (rightValues h x (segment (a₂ .sums) base h)) h (a₂ .work) w₃ done₃) (own-values (a₂ .work) kept) e₃
 
-        pub inner-right : BelowPre room n (2 ^ n) (base + h) q (arrays w₃ (a₂ .bits) (a₂ .sums) (a₂ .leaves))
-        inner-right = right-at rules (i .halving) (i .pre .node) (i .more) c₁ c₂ c₃
+        pub inner-right : NodePre room n h (base + h) q (arrays w₃ (a₂ .bits) (a₂ .sums) (a₂ .leaves)) (segment w₃ h h)
+        inner-right = right-at rules (i .halving) (i .pre) (i .more) c₁ c₂ c₃
 
-        module _ {a₄ : Arrays} {done₄ : Work} (c₄ : NodePost n (2 ^ n) (base + h) q rules (segment w₃ (2 ^ n) (2 ^ n)) (arrays w₃ (a₂ .bits) (a₂ .sums) (a₂ .leaves)) a₄ done₄) where
+        module _ {a₄ : Arrays} {done₄ : Work} (c₄ : NodePost n h (base + h) q rules (segment w₃ h h) (arrays w₃ (a₂ .bits) (a₂ .sums) (a₂ .leaves)) a₄ done₄) where
           pub inner-few : (done₁ .steps + done₂ .steps < 2 ^ 31) × (done₃ .steps + done₄ .steps < 2 ^ 31)
-          inner-few = (left-few rules (i .halving) (i .pre .node) (i .more) c₁ c₂ c₃ c₄, right-few rules (i .halving) (i .pre .node) (i .more) c₁ c₂ c₃ c₄)
+          inner-few = (left-few rules (i .halving) (i .pre) (i .more) c₁ c₂ c₃ c₄, right-few rules (i .halving) (i .pre) (i .more) c₁ c₂ c₃ c₄)
 
           pub inner-combine : BitsAt room (a₄ .sums) base (h + h)
-          inner-combine = combine-at rules (i .halving) (i .pre .node) (i .more) c₁ c₂ c₃ c₄
+          inner-combine = combine-at rules (i .halving) (i .pre) (i .more) c₁ c₂ c₃ c₄
 
           pub inner-worked : {sums : List ℕ} {done : Work} → done ≡ plusWork (plusWork done₁ done₂) (plusWork done₃ done₄) → sums ≡ splice (a₄ .sums) base (xors h (segment (a₄ .sums) base h) (segment (a₄ .sums) (base + h) h)) → NodePost layer size base q rules v a (arrays (a₄ .work) (a₄ .bits) sums (a₄ .leaves)) done
-          inner-worked total = worked rules (i .halving) (i .pre .node) (i .more) c₁ c₂ c₃ c₄ total
+          inner-worked total = worked rules (i .halving) (i .pre) (i .more) c₁ c₂ c₃ c₄ total

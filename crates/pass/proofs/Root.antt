@@ -6,15 +6,15 @@ use native.Mathlib.Nat.{zero-add}
 use native.Mathlib.Omega.{arith}
 use lib.Dec.{leb}
 use lib.IntN.{ℤ}
-use lib.ListN.{length, take, length-take}
+use lib.ListN.{length, take}
 use lib.Pow.{pow-pos}
 use lib.Seq.{take-take, length-take-le}
 use Rattle.laws.specs.Contracts.{splice, segment}
 use Rattle.laws.proofs.Segment.{splice-nil, splice-segment}
 use Rattle.arrays.specs.Sizes.{deepest}
-use Rattle.arrays.proofs.Sizes.{fits}
 use Rattle.bits.specs.Claims.{Bits}
 use Rattle.code.specs.declared.Code.{Code}
+use Rattle.code.specs.Code.{codeLength}
 use Rattle.transform.proofs.Halves.{Halving}
 use Rattle.values.specs.Values.{Rule, rightValues, leftValues}
 use Rattle.values.proofs.Bounds.{within-more}
@@ -25,10 +25,10 @@ use Rattle.pass_tree.specs.Contracts.{computedUnless}
 use Rattle.pass_tree.proofs.Node.{node-forced}
 use Rattle.pass_halves.specs.Contracts.{RootPre, ValuesPost}
 use Rattle.pass_ends.specs.Contracts.{ruleAt, Arrays, arrays, forcedBits, nodeOf}
-use Rattle.pass.specs.Contracts.{NodePre, BelowPre, NodePost, PassPre, passOf, PassPost}
+use Rattle.pass.specs.Contracts.{NodePre, NodePost, PassPre, passOf, PassPost}
 use Rattle.pass.proofs.Recursion.{left-at, whole₂, whole₄, right-at, placed, left-few, right-few}
 
-module _ {room q : ℕ} {c : Code} {channel : List ℕ} {a : Arrays} (rules : List ℕ) (p : PassPre room (length (a .work)) c q channel a) where
+module _ {room q : ℕ} {c : Code} {channel : List ℕ} {a : Arrays} (rules : List ℕ) (p : PassPre room c q channel a) (fits : codeLength c ≤ room) where
   abbrev o : Out
   o = passOf c q channel rules (a .bits)
 
@@ -39,15 +39,15 @@ module _ {room q : ℕ} {c : Code} {channel : List ℕ} {a : Arrays} (rules : Li
       ap (λ (k : ℕ). take k (take (length channel) (a .bits))) e ∙ take-take q (length channel) (a .bits) (omega (arith, p .q-most, p .long))
 
   prefix-long : length (take q (a .bits)) ≡ q
-  prefix-long = length-take-le q (a .bits) (omega (arith, p .q-most, p .fits, p .whole .within, p .whole .bits))
+  prefix-long = length-take-le q (a .bits) (omega (arith, p .q-most, p .whole .bits))
 
   -- where all are forced nothing is done
-  pub pass-forced : length channel ≤ q → PassPost room (length (a .work)) o q a a (workOf [])
+  pub pass-forced : length channel ≤ q → PassPost room o q a a (workOf [])
   pass-forced l =
-      subst (λ (x : Out). PassPost room (length (a .work)) x q a a (workOf []))
+      subst (λ (x : Out). PassPost room x q a a (workOf []))
       (sym (node-forced (c .n) (take q (a .bits)) (ruleAt rules) (channelValues channel) (omega (arith, prefix-long, p .long))))
       (record {
-        bits = sym (splice-segment (a .bits) 0 q (omega (arith, prefix-long, length-take q (a .bits))));
+        bits = sym (splice-segment (a .bits) 0 q (omega (arith, p .q-most, p .whole .bits)));
         leaves = sym (splice-nil (a .leaves) q);
         work = refl;
         whole = p .whole;
@@ -57,7 +57,7 @@ module _ {room q : ℕ} {c : Code} {channel : List ℕ} {a : Arrays} (rules : Li
   root-on = record {
     pow = p .long;
     deep = p .n-most;
-    fits = omega (arith, p .long, p .fits);
+    fits = omega (arith, p .long);
     whole = p .whole;
     bits = subst Bits (sym forced-at-root) (p .bits);
     small = λ _. within-more (omega (arith, pow-pos (deepest - c .n))) (p .small);
@@ -69,7 +69,8 @@ module _ {room q : ℕ} {c : Code} {channel : List ℕ} {a : Arrays} (rules : Li
 
 -- the root's two halves, where not all bits are forced
 pub record Rooted (room q m h : ℕ) (c : Code) (channel : List ℕ) (a : Arrays) : Type 0 where
-  pub pre : PassPre room (length (a .work)) c q channel a
+  pub pre : PassPre room c q channel a
+  pub fits : codeLength c ≤ room
   pub halving : Halving (c .n) (length channel) m h
   pub less : q < length channel
 
@@ -78,21 +79,19 @@ module _ {room q m h : ℕ} {c : Code} {channel : List ℕ} {a : Arrays} (rules 
   d = t .halving
 
   on : NodePre room (c .n) (length channel) 0 q a (channelValues channel)
-  on = root-on rules (t .pre)
+  on = root-on rules (t .pre) (t .fits)
 
   more : q < 0 + length channel
   more = omega (arith, t .less)
 
-  root-with : {work : List ℤ} → length work ≡ length (a .work) → RootPre channel work h
-  root-with whole = record {
-    fits = omega (arith, d .two, t .pre .long, t .pre .fits);
-    few = omega (arith, d .two, t .pre .long, fits (t .pre .n-most));
-    long = d .two;
-    small = t .pre .small;
-  }
+  pub root-half : h + h ≤ room
+  root-half = omega (arith, d .two, t .pre .long, t .fits)
 
-  pub root-at : RootPre channel (a .work) h
-  root-at = root-with refl
+  root-with : {work : List ℤ} → length work ≡ room → RootPre room channel work h
+  root-with whole = record { whole = whole; fits = root-half; long = d .two; small = t .pre .small }
+
+  pub root-at : RootPre room channel (a .work) h
+  root-at = root-with (t .pre .whole .work)
 
   module _ {w₁ : List ℤ} {done₁ : Work} (e₁ : ValuesPost (computedUnless (leb h q) (leftValues h (channelValues channel))) h (a .work) w₁ done₁) where
     c₁ : ValuesPost (computedUnless (leb (0 + h) q) (leftValues h (channelValues channel))) h (a .work) w₁ done₁
@@ -101,33 +100,33 @@ module _ {room q m h : ℕ} {c : Code} {channel : List ℕ} {a : Arrays} (rules 
     abbrev a₁ : Arrays
     a₁ = arrays w₁ (a .bits) (a .sums) (a .leaves)
 
-    pub root-left : BelowPre room m (2 ^ m) 0 q a₁
+    pub root-left : NodePre room m h 0 q a₁ (segment w₁ h h)
     root-left = left-at rules d on more c₁
 
-    module _ {a₂ : Arrays} {done₂ : Work} (c₂ : NodePost m (2 ^ m) 0 q rules (segment w₁ (2 ^ m) (2 ^ m)) a₁ a₂ done₂) where
-      pub root-again : RootPre channel (a₂ .work) h
+    module _ {a₂ : Arrays} {done₂ : Work} (c₂ : NodePost m h 0 q rules (segment w₁ h h) a₁ a₂ done₂) where
+      pub root-again : RootPre room channel (a₂ .work) h
       root-again = root-with (whole₂ rules d on more c₁ c₂ .work)
 
       module _ {w₃ : List ℤ} {done₃ : Work} (c₃ : ValuesPost (rightValues h (channelValues channel) (segment (a₂ .sums) 0 h)) h (a₂ .work) w₃ done₃) where
         abbrev a₃ : Arrays
         a₃ = arrays w₃ (a₂ .bits) (a₂ .sums) (a₂ .leaves)
 
-        pub root-right : BelowPre room m (2 ^ m) h q a₃
-        root-right = subst (λ (b : ℕ). BelowPre room m (2 ^ m) b q a₃) (zero-add h) (right-at rules d on more c₁ c₂ c₃)
+        pub root-right : NodePre room m h h q a₃ (segment w₃ h h)
+        root-right = subst (λ (b : ℕ). NodePre room m h b q a₃ (segment w₃ h h)) (zero-add h) (right-at rules d on more c₁ c₂ c₃)
 
-        module _ {a₄ : Arrays} {done₄ : Work} (e₄ : NodePost m (2 ^ m) h q rules (segment w₃ (2 ^ m) (2 ^ m)) a₃ a₄ done₄) where
-          c₄ : NodePost m (2 ^ m) (0 + h) q rules (segment w₃ (2 ^ m) (2 ^ m)) a₃ a₄ done₄
-          c₄ = subst (λ (b : ℕ). NodePost m (2 ^ m) b q rules (segment w₃ (2 ^ m) (2 ^ m)) a₃ a₄ done₄) (sym (zero-add h)) e₄
+        module _ {a₄ : Arrays} {done₄ : Work} (e₄ : NodePost m h h q rules (segment w₃ h h) a₃ a₄ done₄) where
+          c₄ : NodePost m h (0 + h) q rules (segment w₃ h h) a₃ a₄ done₄
+          c₄ = subst (λ (b : ℕ). NodePost m h b q rules (segment w₃ h h) a₃ a₄ done₄) (sym (zero-add h)) e₄
 
           pub root-few : (done₁ .steps + done₂ .steps < 2 ^ 31) × (done₃ .steps + done₄ .steps < 2 ^ 31)
           root-few = (left-few rules d on more c₁ c₂ c₃ c₄, right-few rules d on more c₁ c₂ c₃ c₄)
 
-          pub passed : {done : Work} → done ≡ plusWork (plusWork done₁ done₂) (plusWork done₃ done₄) → PassPost room (length (a .work)) (passOf c q channel rules (a .bits)) q a a₄ done
+          pub passed : {done : Work} → done ≡ plusWork (plusWork done₁ done₂) (plusWork done₃ done₄) → PassPost room (passOf c q channel rules (a .bits)) q a a₄ done
           passed total =
               let r = placed rules d on more c₁ c₂ c₃ c₄ total in
-              let is = root-is rules (t .pre) in
+              let is = root-is rules (t .pre) (t .fits) in
               let start : 0 + length (forcedBits (a .bits) 0 (length channel) q) ≡ q =
-              zero-add _ ∙ ap length (forced-at-root rules (t .pre)) ∙ prefix-long rules (t .pre) in
+              zero-add _ ∙ ap length (forced-at-root rules (t .pre) (t .fits)) ∙ prefix-long rules (t .pre) (t .fits) in
               record {
                 bits = r .bits ∙ ap (λ (x : Out). splice (a .bits) 0 (x .bits)) is;
                 leaves = r .leaves ∙ ap₂ (λ (k : ℕ) (x : Out). splice (a .leaves) k (x .leaves)) start is;

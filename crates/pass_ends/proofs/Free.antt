@@ -6,7 +6,6 @@ use Prim.Native.Nat.{ℕ, suc, _+_, _^_, _≤_}
 use native.Mathlib.Omega.{arith}
 use borrow.Author.Tests.{lt-leb}
 use lib.IntN.{ℤ}
-use lib.ListN.{length}
 use lib.Pow.{pow-pos}
 use Rattle.laws.specs.Contracts.{splice, segment}
 use Rattle.transform.specs.Transform.{xors}
@@ -18,14 +17,14 @@ use Rattle.pass_tree.specs.Node.{workOf, plusWork}
 use Rattle.pass_tree.specs.Contracts.{computedUnless}
 use Rattle.pass_tree.proofs.StepsMost.{counted}
 use Rattle.pass_ends.specs.Contracts.{Results, results, Sized, NodePlaced}
-use Rattle.pass_ends.proofs.Halves.{sized-own, none-forced, Split, sized₁, combine-at, halves-laid}
+use Rattle.pass_ends.proofs.Halves.{none-forced, Split, sized₁, combine-at, halves-laid}
 
 -- two halves at layer n
-module _ {room wide : ℕ} (n base : ℕ) (rules : List ℕ) (v : List ℤ) {r : Results} (z : Sized room wide r) (fits : base + (2 ^ n + 2 ^ n) ≤ wide) where
+module _ {room : ℕ} (n base : ℕ) (rules : List ℕ) (v : List ℤ) {r : Results} (z : Sized room r) (fits : base + (2 ^ n + 2 ^ n) ≤ room) where
   abbrev h : ℕ
   h = 2 ^ n
 
-  split : Split room wide (suc n) (h + h) n h base base r
+  split : Split room (suc n) (h + h) n h base base r
   split = record {
     halving = record { below = refl; pow = refl; two = refl };
     fits = fits;
@@ -35,8 +34,8 @@ module _ {room wide : ℕ} (n base : ℕ) (rules : List ℕ) (v : List ℤ) {r :
 
   -- after the left half
   module _ {v₁ : List ℤ} {r₁ : Results} {done₂ : Work} (own₁ : v₁ ≡ leftValues h v) (l : NodePlaced n h base base rules v₁ r r₁ done₂) where
-    pub free-sized : Sized room (length (r₁ .leaves)) r₁
-    free-sized = sized-own (sized₁ rules v split (λ _. own₁) l)
+    pub free-sized : Sized room r₁
+    free-sized = sized₁ rules v split (λ _. own₁) l
 
     -- after the right half
     module _ {v₃ : List ℤ} {r₂ : Results} {done₄ : Work} (own₃ : v₃ ≡ rightValues h v (segment (r₁ .sums) base h)) (g : NodePlaced n h (base + h) (base + h) rules v₃ r₁ r₂ done₄) where

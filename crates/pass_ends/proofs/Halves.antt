@@ -32,23 +32,18 @@ length-none : {A : Type 0} (l : List A) → length l ≡ 0 → l ≡ []
 length-none [] e = refl
 length-none (x ∷ l) e = absurd (omega arith)
 
-pub sized-of : {room wide : ℕ} {a : Arrays} → Whole room wide a → Sized room wide (resultsOf a)
-sized-of w = record { bits = w .bits; sums = w .sums; leaves = w .leaves; within = w .within }
-
--- the same by the length of the leaf values, as contracts say it
-pub sized-own : {room wide : ℕ} {r : Results} → Sized room wide r → Sized room (length (r .leaves)) r
-sized-own {room} {wide} {r} z = subst (λ (k : ℕ). Sized room k r) (sym (z .leaves)) z
+pub sized-of : {room : ℕ} {a : Arrays} → Whole room a → Sized room (resultsOf a)
+sized-of w = record { bits = w .bits; sums = w .sums; leaves = w .leaves }
 
 -- every array keeps its length
-pub laid-sized : {room wide layer size base q : ℕ} {rules : List ℕ} {v : List ℤ} {r r′ : Results} {done : Work} → size ≡ 2 ^ layer → base + size ≤ wide → Sized room wide r → NodePlaced layer size base q rules v r r′ done → Sized room wide r′
-laid-sized {room} {wide} {layer} {size} {base} {q} {rules} {v} {r} pow fits z l =
+pub laid-sized : {room layer size base q : ℕ} {rules : List ℕ} {v : List ℤ} {r r′ : Results} {done : Work} → size ≡ 2 ^ layer → base + size ≤ room → Sized room r → NodePlaced layer size base q rules v r r′ done → Sized room r′
+laid-sized {room} {layer} {size} {base} {q} {rules} {v} {r} pow fits z l =
     let P : List ℕ = forcedBits (r .bits) base size q in
     let rule : ℕ → Rule = rulesFrom rules base in
     let o : Out = node layer P rule v in
     let zb = z .bits in
     let zs = z .sums in
     let zl = z .leaves in
-    let zw = z .within in
     let long = length-segment (r .bits) base size (omega arith) in
     let short : length P ≤ 2 ^ layer = omega (arith, length-take (q - base) (segment (r .bits) base size)) in
     let nb = length-bits layer P rule v short in
@@ -58,7 +53,6 @@ laid-sized {room} {wide} {layer} {size} {base} {q} {rules} {v} {r} pow fits z l 
       bits = ap length (l .laid .placed .bits) ∙ length-splice (r .bits) base (o .bits) _ refl (omega arith) ∙ zb;
       sums = ap length (l .laid .sums) ∙ length-splice (r .sums) base (o .sums) _ refl (omega arith) ∙ zs;
       leaves = ap length (l .laid .placed .leaves) ∙ length-splice (r .leaves) (base + length P) (o .leaves) _ refl (omega arith) ∙ zl;
-      within = zw;
     }
 
 pub laid-most : {layer size base q : ℕ} {rules : List ℕ} {v : List ℤ} {r r′ : Results} {done : Work} → NodePlaced layer size base q rules v r r′ done → done .steps ≤ layer * 2 ^ layer
@@ -76,21 +70,18 @@ none-forced {layer} {size} {base} {q} {q′} {rules} {v} {r} {r′} {done} l l�
     }
 
 -- a node that has two halves, not all of whose bits are forced
-pub record Split (room wide layer size n h base q : ℕ) (r : Results) : Type 0 where
+pub record Split (room layer size n h base q : ℕ) (r : Results) : Type 0 where
   pub halving : Halving layer size n h
-  pub fits : base + size ≤ wide
-  pub sized : Sized room wide r
+  pub fits : base + size ≤ room
+  pub sized : Sized room r
   pub more : q < base + size
 
-module _ {room wide layer size n h base q : ℕ} {r : Results} (rules : List ℕ) (v : List ℤ) (s : Split room wide layer size n h base q r) where
+module _ {room layer size n h base q : ℕ} {r : Results} (rules : List ℕ) (v : List ℤ) (s : Split room layer size n h base q r) where
   abbrev d : Halving layer size n h
   d = s .halving
 
-  abbrev z : Sized room wide r
+  abbrev z : Sized room r
   z = s .sized
-
-  room-fits : base + size ≤ room
-  room-fits = omega (arith, s .fits, z .within)
 
   abbrev F : List ℕ
   F = forcedBits (r .bits) base size q
@@ -107,7 +98,7 @@ module _ {room wide layer size n h base q : ℕ} {r : Results} (rules : List ℕ
   F-is : length F ≡ min (q - base) size
   F-is =
       length-take (q - base) (segment (r .bits) base size)
-      ∙ ap (min (q - base)) (length-segment (r .bits) base size (omega (arith, room-fits, z .bits)))
+      ∙ ap (min (q - base)) (length-segment (r .bits) base size (omega (arith, s .fits, z .bits)))
 
   -- the node's halves, by the definition
   halves-are : nodeOf layer size base q rules (r .bits) v ≡ halves n h F rule v
@@ -144,7 +135,7 @@ module _ {room wide layer size n h base q : ℕ} {r : Results} (rules : List ℕ
     left-laid : PlacedSums L base (base + length (take h F)) r r₁ done₂
     left-laid = subst₂ (λ (o : Out) (f : List ℕ). PlacedSums o base (base + length f) r r₁ done₂) left-is left-forced (l .laid)
 
-    pub sized₁ : Sized room wide r₁
+    pub sized₁ : Sized room r₁
     sized₁ = laid-sized (d .pow) (omega (arith, d .two, s .fits)) z l
 
     length-L-bits : length (L .bits) ≡ h
@@ -156,14 +147,14 @@ module _ {room wide layer size n h base q : ℕ} {r : Results} (rules : List ℕ
     left-sums : segment (r₁ .sums) base h ≡ L .sums
     left-sums =
         ap (λ (x : List ℕ). segment x base h) (left-laid .sums)
-        ∙ segment-splice (r .sums) base (L .sums) h length-L-sums (omega (arith, d .two, room-fits, z .sums))
+        ∙ segment-splice (r .sums) base (L .sums) h length-L-sums (omega (arith, d .two, s .fits, z .sums))
 
     pub right-forced : forcedBits (r₁ .bits) (base + h) h q ≡ drop h F
     right-forced =
         let e : q - (base + h) ≡ q - base - h = omega arith in
         let kept : segment (r₁ .bits) (base + h) h ≡ drop h (segment (r .bits) base size) =
         ap (λ (b : List ℕ). segment b (base + h) h) (left-laid .placed .bits)
-        ∙ ap (take h) (drop-splice (r .bits) base (L .bits) h length-L-bits (omega (arith, d .two, room-fits, z .bits)))
+        ∙ ap (take h) (drop-splice (r .bits) base (L .bits) h length-L-bits (omega (arith, d .two, s .fits, z .bits)))
         ∙ sym (segment-back (r .bits) base h) ∙ ap (λ (k : ℕ). drop h (segment (r .bits) base k)) (sym (d .two)) in
         ap₂ take e kept ∙ sym (drop-of-take h (q - base) (segment (r .bits) base size))
 
@@ -189,12 +180,12 @@ module _ {room wide layer size n h base q : ℕ} {r : Results} (rules : List ℕ
       both-bits : r₂ .bits ≡ splice (r .bits) base (L .bits ++ R .bits)
       both-bits =
           right-laid .placed .bits ∙ ap (λ (b : List ℕ). splice b (base + h) (R .bits)) (left-laid .placed .bits)
-          ∙ splice-next (r .bits) base (L .bits) (R .bits) h h length-L-bits length-R-bits (omega (arith, d .two, room-fits, z .bits))
+          ∙ splice-next (r .bits) base (L .bits) (R .bits) h h length-L-bits length-R-bits (omega (arith, d .two, s .fits, z .bits))
 
       both-sums : r₂ .sums ≡ splice (r .sums) base (L .sums ++ R .sums)
       both-sums =
           right-laid .sums ∙ ap (λ (x : List ℕ). splice x (base + h) (R .sums)) (left-laid .sums)
-          ∙ splice-next (r .sums) base (L .sums) (R .sums) h h length-L-sums length-R-sums (omega (arith, d .two, room-fits, z .sums))
+          ∙ splice-next (r .sums) base (L .sums) (R .sums) h h length-L-sums length-R-sums (omega (arith, d .two, s .fits, z .sums))
 
       -- the leaf values of the left half end where those of the right half begin, or there are none
       both-leaves : r₂ .leaves ≡ splice (r .leaves) (base + length F) (L .leaves ++ R .leaves)
@@ -227,7 +218,7 @@ module _ {room wide layer size n h base q : ℕ} {r : Results} (rules : List ℕ
 
       pub combine-at : BitsAt room (r₂ .sums) base (h + h)
       combine-at =
-          bits-at-splice (r .sums) base (L .sums ++ R .sums) both-sums (omega (arith, length-append (L .sums) (R .sums), length-L-sums, length-R-sums)) (z .sums) (omega (arith, d .two, room-fits))
+          bits-at-splice (r .sums) base (L .sums ++ R .sums) both-sums (omega (arith, length-append (L .sums) (R .sums), length-L-sums, length-R-sums)) (z .sums) (omega (arith, d .two, s .fits))
           (bits-append (L .sums) (R .sums) (bits-sums n (take h F) rule (leftOf h F v)) (bits-sums n (drop h F) (λ i. rule (h + i)) (rightValues h v (L .sums))))
 
       -- each half's values were counted, where they were computed
@@ -254,6 +245,6 @@ module _ {room wide layer size n h base q : ℕ} {r : Results} (rules : List ℕ
               subst (λ (o : Out). PlacedSums o base (base + length F) r (results (r₂ .bits) sums (r₂ .leaves)) done) (sym halves-are)
               (record {
                 placed = let p = all-placed in record { bits = p .bits; leaves = p .leaves; work = p .work };
-                sums = combined-sums (r .sums) base (L .sums) (R .sums) length-L-sums length-R-sums (omega (arith, d .two, room-fits, z .sums)) both-sums e;
+                sums = combined-sums (r .sums) base (L .sums) (R .sums) length-L-sums length-R-sums (omega (arith, d .two, s .fits, z .sums)) both-sums e;
               });
         }

@@ -1,6 +1,6 @@
 -- What only contracts below the public operations cite. Nothing here need be believed.
 use mathlib.Core.List.{List}
-use Prim.Native.Nat.{ℕ, _-_, _+_, _≤_}
+use Prim.Native.Nat.{ℕ, _-_, _+_}
 use lib.ListN.{getD, length, take}
 use mathlib.Core.Path.{_≡_}
 use lib.IntN.{ℤ}
@@ -23,12 +23,11 @@ pub record Results : Type 0 where
 abbrev pub results : List ℕ → List ℕ → List ℤ → Results
 results bits sums leaves = record { bits = bits; sums = sums; leaves = leaves }
 
--- bits and sums have `room` entries, leaf values `wide`, which are no more
-pub record Sized (room wide : ℕ) (r : Results) : Type 0 where
+-- each of them has `room` entries
+pub record Sized (room : ℕ) (r : Results) : Type 0 where
   pub bits : length (r .bits) ≡ room
   pub sums : length (r .sums) ≡ room
-  pub leaves : length (r .leaves) ≡ wide
-  pub within : wide ≤ room
+  pub leaves : length (r .leaves) ≡ room
 
 -- the same with the values below the root
 pub record Arrays : Type 0 where
@@ -43,18 +42,11 @@ arrays work bits sums leaves = record { work = work; bits = bits; sums = sums; l
 abbrev pub resultsOf : Arrays → Results
 resultsOf a = results (a .bits) (a .sums) (a .leaves)
 
-pub record Whole (room wide : ℕ) (a : Arrays) : Type 0 where
-  pub work : length (a .work) ≡ wide
+pub record Whole (room : ℕ) (a : Arrays) : Type 0 where
+  pub work : length (a .work) ≡ room
   pub bits : length (a .bits) ≡ room
   pub sums : length (a .sums) ≡ room
-  pub leaves : length (a .leaves) ≡ wide
-  pub within : wide ≤ room
-
--- arrays of values that a code of `size` bits fits
-pub record ValueRooms (room size : ℕ) (values work : List ℤ) : Type 0 where
-  pub fits : size ≤ length work
-  pub same : length values ≡ length work
-  pub within : length work ≤ room
+  pub leaves : length (a .leaves) ≡ room
 
 -- of the `size` bits from `base` on, those that lie below q
 abbrev pub forcedBits : List ℕ → ℕ → ℕ → ℕ → List ℕ

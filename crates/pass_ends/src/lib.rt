@@ -2,6 +2,7 @@
 use arrays::BitArray;
 use arrays::RuleArray;
 use arrays::SIZE;
+use arrays::ValueArray;
 use pass_tree::Work;
 use transform::combine;
 use transform::transform;
@@ -24,7 +25,10 @@ ghost use Rattle.pass_ends.specs.Contracts.{results, Sized, NodePlaced};
 
 // The sums of a node whose bits are all forced: no value is computed.
 pub fn rebuild(layer: u32, size: usize, base: usize, bits: &BitArray, sums: &mut BitArray)
-    requires { do ⌜ (size ≡ 2 ^ layer) × BitsAt (← ⟦SIZE⟧) (now bits) base size × (length (now sums) ≡ (← ⟦SIZE⟧)) ⌝ }
+    requires { do
+      ⌜ (size ≡ 2 ^ layer)
+          × BitsAt (← ⟦SIZE⟧) (now bits) base size
+          × (length (now sums) ≡ (← ⟦SIZE⟧)) ⌝ }
     ensures { λ _. ⌜ now (sums .exit) ≡ splice (now (sums .entry)) base (transformed layer (segment (now (bits .entry)) base size)) ⌝ }
 {
     arrays::copy(bits, base, sums, base, size);
@@ -38,10 +42,14 @@ pub fn leaf(
     rules: &RuleArray,
     bits: &mut BitArray,
     sums: &mut BitArray,
-    leaves: &mut [i32],
+    leaves: &mut ValueArray,
 ) -> u8
-    requires { do ⌜ Sized (← ⟦SIZE⟧) (length (now leaves)) (results (now bits) (now sums) (now leaves)) × (base + 1 ≤ length (now leaves)) ⌝ }
-    ensures { λ bit. ⌜ (bit ≡ getD (now (sums .exit)) base 0) × NodePlaced 0 1 base base (now (rules .entry)) (value ∷ []) (results (now (bits .entry)) (now (sums .entry)) (now (leaves .entry))) (results (now (bits .exit)) (now (sums .exit)) (now (leaves .exit))) (workOf []) ⌝ }
+    requires { do
+      ⌜ Sized (← ⟦SIZE⟧) (results (now bits) (now sums) (now leaves))
+          × (base + 1 ≤ (← ⟦SIZE⟧)) ⌝ }
+    ensures { λ bit. ⌜ (bit ≡ getD (now (sums .exit)) base 0)
+        × NodePlaced 0 1 base base (now (rules .entry)) (value ∷ []) (results (now (bits .entry)) (now (sums .entry)) (now (leaves .entry)))
+        (results (now (bits .exit)) (now (sums .exit)) (now (leaves .exit))) (workOf []) ⌝ }
 {
     let bit = decide(rules[base], value);
     bits[base] = bit;
@@ -58,10 +66,14 @@ pub fn decode_two(
     rules: &RuleArray,
     bits: &mut BitArray,
     sums: &mut BitArray,
-    leaves: &mut [i32],
+    leaves: &mut ValueArray,
 ) -> Work
-    requires { do ⌜ Sized (← ⟦SIZE⟧) (length (now leaves)) (results (now bits) (now sums) (now leaves)) × (base + 2 ≤ length (now leaves)) × (natAbs a + natAbs b < 2 ^ 31) ⌝ }
-    ensures { λ r. ⌜ NodePlaced 1 2 base base (now (rules .entry)) (a ∷ b ∷ []) (results (now (bits .entry)) (now (sums .entry)) (now (leaves .entry))) (results (now (bits .exit)) (now (sums .exit)) (now (leaves .exit))) r ⌝ }
+    requires { do
+      ⌜ Sized (← ⟦SIZE⟧) (results (now bits) (now sums) (now leaves))
+          × (base + 2 ≤ (← ⟦SIZE⟧))
+          × (natAbs a + natAbs b < 2 ^ 31) ⌝ }
+    ensures { λ r. ⌜ NodePlaced 1 2 base base (now (rules .entry)) (a ∷ b ∷ []) (results (now (bits .entry)) (now (sums .entry)) (now (leaves .entry)))
+        (results (now (bits .exit)) (now (sums .exit)) (now (leaves .exit))) r ⌝ }
 {
     let mut steps = 0;
     let first = leaf(base, f(a, b), rules, bits, sums, leaves);
@@ -77,13 +89,18 @@ pub fn decode_two(
 pub fn decode_four(
     base: usize,
     rules: &RuleArray,
-    work: &[i32],
+    work: &ValueArray,
     bits: &mut BitArray,
     sums: &mut BitArray,
-    leaves: &mut [i32],
+    leaves: &mut ValueArray,
 ) -> Work
-    requires { do ⌜ Sized (← ⟦SIZE⟧) (length (now leaves)) (results (now bits) (now sums) (now leaves)) × (base + 4 ≤ length (now leaves)) × (8 ≤ length (now work)) × Within (most deepest 2) (segment (now work) 4 4) ⌝ }
-    ensures { λ r. ⌜ NodePlaced 2 4 base base (now (rules .entry)) (segment (now (work .entry)) 4 4) (results (now (bits .entry)) (now (sums .entry)) (now (leaves .entry))) (results (now (bits .exit)) (now (sums .exit)) (now (leaves .exit))) r ⌝ }
+    requires { do
+      ⌜ Sized (← ⟦SIZE⟧) (results (now bits) (now sums) (now leaves))
+          × (base + 4 ≤ (← ⟦SIZE⟧))
+          × Within (most deepest 2) (segment (now work) 4 4) ⌝ }
+    ensures { λ r. ⌜ NodePlaced 2 4 base base (now (rules .entry)) (segment (now (work .entry)) 4 4)
+        (results (now (bits .entry)) (now (sums .entry)) (now (leaves .entry)))
+        (results (now (bits .exit)) (now (sums .exit)) (now (leaves .exit))) r ⌝ }
 {
     let a = work[4];
     let b = work[5];

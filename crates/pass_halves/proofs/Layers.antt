@@ -34,8 +34,8 @@ pub addable-reads : {m h j : ℕ} {v : List ℤ} {a b : ℤ} → m ≤ addable �
 addable-reads {h = h} {j} l p r = omega (arith, ap natAbs (r .first), p .at j, ap natAbs (r .second), p .at (h + j))
 
 -- the node's own values, which no turn overwrites
-pub own-reads : {h j : ℕ} {work work′ : List ℤ} {x : ℕ → ℤ} → ValuesPre work h → Filling x h h work work′ j → j < h → Reads (nodeValues work h) h j (getD work′ (2 * h + j) (pos 0)) (getD work′ (3 * h + j) (pos 0))
-own-reads {h} {j} {work} {work′} p inv l = record { first = own (2 * h + j) j (omega arith) (omega arith); second = own (3 * h + j) (h + j) (omega arith) (omega arith) }
+pub own-reads : {size h j : ℕ} {work work′ : List ℤ} {x : ℕ → ℤ} → ValuesPre size work h → Filling x h h work work′ j → j < h → Reads (nodeValues work h) h j (getD work′ (2 * h + j) (pos 0)) (getD work′ (3 * h + j) (pos 0))
+own-reads {size} {h} {j} {work} {work′} p inv l = record { first = own (2 * h + j) j (omega arith) (omega arith); second = own (3 * h + j) (h + j) (omega arith) (omega arith) }
   where
     own : (at i : ℕ) → at ≡ h + h + i → i < h + h → back w32 (getD work′ at (pos 0)) ≡ getD (nodeValues work h) i (pos 0)
     own at i e k =

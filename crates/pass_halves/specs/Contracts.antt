@@ -5,7 +5,6 @@ use lib.ListN.{length}
 use mathlib.Core.Path.{_≡_}
 use lib.IntN.{ℤ}
 use Rattle.laws.specs.Contracts.{splice, segment}
-use Rattle.arrays.specs.Claims.{longest}
 use Rattle.values.specs.Claims.{Within}
 use Rattle.channel.specs.Channel.{channelValues}
 use Rattle.pass_tree.specs.declared.Work.{Work}
@@ -19,16 +18,16 @@ addable = 2 ^ 30 - 1
 abbrev pub nodeValues : List ℤ → ℕ → List ℤ
 nodeValues work h = segment work (h + h) (h + h)
 
--- an array that holds them; they are few enough to count, and any two of them can be added
-pub record ValuesPre (work : List ℤ) (h : ℕ) : Type 0 where
-  pub fits : h + h + (h + h) ≤ length work
-  pub few : h ≤ longest
+-- an array of `size` entries that holds them; any two of them can be added
+pub record ValuesPre (size : ℕ) (work : List ℤ) (h : ℕ) : Type 0 where
+  pub whole : length work ≡ size
+  pub fits : h + h + (h + h) ≤ size
   pub small : Within addable (nodeValues work h)
 
--- 2h channel values within their range, few enough to count, and an array that has room for the values of a half
-pub record RootPre (channel : List ℕ) (work : List ℤ) (h : ℕ) : Type 0 where
-  pub fits : h + h ≤ length work
-  pub few : h ≤ longest
+-- 2h channel values within their range, and an array of `size` entries that has room for the values of a half
+pub record RootPre (size : ℕ) (channel : List ℕ) (work : List ℤ) (h : ℕ) : Type 0 where
+  pub whole : length work ≡ size
+  pub fits : h + h ≤ size
   pub long : length channel ≡ h + h
   pub small : Within 31 (channelValues channel)
 

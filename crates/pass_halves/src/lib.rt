@@ -1,6 +1,7 @@
 // The values of a node's halves, in place.
 use arrays::BitArray;
 use arrays::SIZE;
+use arrays::ValueArray;
 use channel::channel_value;
 use pass_tree::Work;
 use values::f;
@@ -13,8 +14,8 @@ ghost use Rattle.pass_tree.specs.Contracts.{computedUnless};
 ghost use Rattle.pass_halves.specs.Contracts.{nodeValues, ValuesPre, RootPre, ValuesPost};
 
 // The values of a node's left half, from its own 2h values; none where the half is forced.
-pub fn left_values(forced: bool, h: usize, work: &mut [i32]) -> Work
-    requires { ⌜ ValuesPre (now work) h ⌝ }
+pub fn left_values(forced: bool, h: usize, work: &mut ValueArray) -> Work
+    requires { do ⌜ ValuesPre (← ⟦SIZE⟧) (now work) h ⌝ }
     ensures { λ r. ⌜ ValuesPost (computedUnless forced (leftValues h (nodeValues (now (work .entry)) h))) h (now (work .entry)) (now (work .exit)) r ⌝ }
 {
     let mut steps = 0;
@@ -31,8 +32,8 @@ pub fn left_values(forced: bool, h: usize, work: &mut [i32]) -> Work
 }
 
 // The values of its right half, by the left sums from `base` on.
-pub fn right_values(h: usize, base: usize, sums: &BitArray, work: &mut [i32]) -> Work
-    requires { do ⌜ ValuesPre (now work) h × (base + h ≤ (← ⟦SIZE⟧)) ⌝ }
+pub fn right_values(h: usize, base: usize, sums: &BitArray, work: &mut ValueArray) -> Work
+    requires { do ⌜ ValuesPre (← ⟦SIZE⟧) (now work) h × (base + h ≤ (← ⟦SIZE⟧)) ⌝ }
     ensures { λ r. ⌜ ValuesPost (rightValues h (nodeValues (now (work .entry)) h) (segment (now (sums .entry)) base h)) h (now (work .entry)) (now (work .exit)) r ⌝ }
 {
     let mut steps = 0;
@@ -46,8 +47,8 @@ pub fn right_values(h: usize, base: usize, sums: &BitArray, work: &mut [i32]) ->
 }
 
 // The same at the root, whose values are the channel's bytes.
-pub fn root_left_values(forced: bool, channel: &[u8], h: usize, work: &mut [i32]) -> Work
-    requires { ⌜ RootPre (now channel) (now work) h ⌝ }
+pub fn root_left_values(forced: bool, channel: &[u8], h: usize, work: &mut ValueArray) -> Work
+    requires { do ⌜ RootPre (← ⟦SIZE⟧) (now channel) (now work) h ⌝ }
     ensures { λ r. ⌜ ValuesPost (computedUnless forced (leftValues h (channelValues (now (channel .entry))))) h (now (work .entry)) (now (work .exit)) r ⌝ }
 {
     let mut steps = 0;
@@ -63,8 +64,8 @@ pub fn root_left_values(forced: bool, channel: &[u8], h: usize, work: &mut [i32]
     Work { steps }
 }
 
-pub fn root_right_values(channel: &[u8], h: usize, sums: &BitArray, work: &mut [i32]) -> Work
-    requires { ⌜ RootPre (now channel) (now work) h ⌝ }
+pub fn root_right_values(channel: &[u8], h: usize, sums: &BitArray, work: &mut ValueArray) -> Work
+    requires { do ⌜ RootPre (← ⟦SIZE⟧) (now channel) (now work) h ⌝ }
     ensures { λ r. ⌜ ValuesPost (rightValues h (channelValues (now (channel .entry))) (segment (now (sums .entry)) 0 h)) h (now (work .entry)) (now (work .exit)) r ⌝ }
 {
     let mut steps = 0;

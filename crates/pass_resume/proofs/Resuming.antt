@@ -40,7 +40,7 @@ all-bits mask prefix l = record { at = λ k. go k (ltb k (length prefix)) refl }
     go k false e = omega (arith, List·getD-eq-default prefix 0 (ltb-false k (length prefix) e))
 
 -- the prefix was copied into an array of bits, and the mask's rules stand in an array of rules
-module _ {room wide : ℕ} {mask channel prefix output rules : List ℕ} {c : Code} (bits₀ : List ℕ) (r : ResumePre mask c channel prefix output) (ruled : Ruled (8 * length mask) (maskRule mask) rules) (fits : codeLength c ≤ wide) (within : wide ≤ room) (whole : length bits₀ ≡ room) {bits₁ : List ℕ} (copied : bits₁ ≡ splice bits₀ 0 (take (length prefix) prefix)) where
+module _ {room : ℕ} {mask channel prefix output rules : List ℕ} {c : Code} (bits₀ : List ℕ) (r : ResumePre mask c channel prefix output) (ruled : Ruled (8 * length mask) (maskRule mask) rules) (fits : codeLength c ≤ room) (whole : length bits₀ ≡ room) {bits₁ : List ℕ} (copied : bits₁ ≡ splice bits₀ 0 (take (length prefix) prefix)) where
   abbrev q : ℕ
   q = length prefix
 
@@ -56,7 +56,7 @@ module _ {room wide : ℕ} {mask channel prefix output rules : List ℕ} {c : Co
   bits-whole : length bits₁ ≡ room
   bits-whole = ap length filled ∙ length-splice bits₀ 0 prefix q refl room-prefix ∙ whole
 
-  pub resume-on : {work leaves : List ℤ} {sums : List ℕ} → length work ≡ wide → length sums ≡ room → length leaves ≡ wide → PassPre room wide c q channel (arrays work bits₁ sums leaves)
+  pub resume-on : {work leaves : List ℤ} {sums : List ℕ} → length work ≡ room → length sums ≡ room → length leaves ≡ room → PassPre room c q channel (arrays work bits₁ sums leaves)
   resume-on w s l = record {
     n-least = omega (arith, r .coded .n-least);
     n-most = r .coded .n-most;
@@ -64,8 +64,7 @@ module _ {room wide : ℕ} {mask channel prefix output rules : List ℕ} {c : Co
     long = r .well-formed .channel-size;
     small = all-inside channel (omega (arith, r .well-formed .in-range));
     bits = subst Bits (sym prefix-in) (all-bits mask prefix (omega (arith, r .well-formed .prefix-good)));
-    fits = fits;
-    whole = record { work = w; bits = bits-whole; sums = s; leaves = l; within = within };
+    whole = record { work = w; bits = bits-whole; sums = s; leaves = l };
   }
 
   pass-is : passOf c q channel rules bits₁ ≡ resumePass mask c channel prefix
@@ -73,7 +72,7 @@ module _ {room wide : ℕ} {mask channel prefix output rules : List ℕ} {c : Co
       ap (λ (p : List ℕ). node (c .n) p (ruleAt rules) (channelValues channel)) prefix-in
       ∙ rules-below (c .n) prefix (ruleAt rules) (maskRule mask) (channelValues channel) (r .well-formed .prefix-size) (λ i _ l. ruled .at i (omega (arith, r .coded .mask-size)))
 
-  module _ {work leaves : List ℤ} {sums : List ℕ} {a′ : Arrays} {done : Work} (p : PassPost room wide (passOf c q channel rules bits₁) q (arrays work bits₁ sums leaves) a′ done) where
+  module _ {work leaves : List ℤ} {sums : List ℕ} {a′ : Arrays} {done : Work} (p : PassPost room (passOf c q channel rules bits₁) q (arrays work bits₁ sums leaves) a′ done) where
     pub resume-work : done ≡ resumePass mask c channel prefix .work
     resume-work = p .work ∙ ap (λ (o : Out). o .work) pass-is
 

@@ -1,8 +1,4 @@
 // Resume: one decoding pass whose first bits are given.
-use arrays::MIDDLE;
-use arrays::MIDDLE_SIZE;
-use arrays::SHORT;
-use arrays::SHORT_SIZE;
 use arrays::SIZE;
 use code::Code;
 use code::Description;
@@ -13,9 +9,7 @@ ghost use mathlib.Core.Path.{_≡_};
 ghost use Prim.Native.Nat.{_*_, _≤_};
 ghost use lib.ListN.{length};
 ghost use Rattle.refusal.specs.Judge.{judge};
-ghost use Rattle.code.specs.Code.{codeLength};
 ghost use Rattle.code.specs.Claims.{Coded};
-ghost use Rattle.pass_ends.specs.Contracts.{ValueRooms};
 ghost use Rattle.pass_resume.specs.Resume.{badBit, firstBad, resumePass, prefixRefusals, resumingRefusals, resumedBy, resumed};
 ghost use Rattle.pass_resume.specs.Contracts.{ResumePre};
 
@@ -47,22 +41,17 @@ fn first_bad(mask: &[u8], prefix: &[u8]) -> usize
     i
 }
 
-// The pass of an accepted call; the arrays of values are as long as the code, or longer.
-fn resume_with(
-    mask: &[u8],
-    code: Code,
-    channel: &[u8],
-    prefix: &[u8],
-    work: &mut [i32],
-    leaves: &mut [i32],
-    output: &mut [u8],
-) -> Work
-    requires { do ⌜ ResumePre (now mask) code (now channel) (now prefix) (now output) × ValueRooms (← ⟦SIZE⟧) (codeLength code) (now leaves) (now work) ⌝ }
-    ensures { λ done. ⌜ (done ≡ resumePass (now (mask .entry)) code (now (channel .entry)) (now (prefix .entry)) .work) × (now (output .exit) ≡ resumePass (now (mask .entry)) code (now (channel .entry)) (now (prefix .entry)) .bits) ⌝ }
+// The pass of an accepted call.
+fn resume_pass(mask: &[u8], code: Code, channel: &[u8], prefix: &[u8], output: &mut [u8]) -> Work
+    requires { ⌜ ResumePre (now mask) code (now channel) (now prefix) (now output) ⌝ }
+    ensures { λ done. ⌜ (done ≡ resumePass (now (mask .entry)) code (now (channel .entry)) (now (prefix .entry)) .work)
+        × (now (output .exit) ≡ resumePass (now (mask .entry)) code (now (channel .entry)) (now (prefix .entry)) .bits) ⌝ }
 {
     let mut rules = [0u8; SIZE];
+    let mut work = [0i32; SIZE];
     let mut bits = [0u8; SIZE];
     let mut sums = [0u8; SIZE];
+    let mut leaves = [0i32; SIZE];
     pass::rules_from(mask, &mut rules);
     arrays::copy(prefix, 0, &mut bits, 0, prefix.len());
     let done = pass::pass(
@@ -70,33 +59,13 @@ fn resume_with(
         prefix.len(),
         channel,
         &rules,
-        work,
+        &mut work,
         &mut bits,
         &mut sums,
-        leaves,
+        &mut leaves,
     );
     arrays::copy(&bits, 0, output, 0, channel.len());
     done
-}
-
-// The same: fills the arrays of values, by the length of the code.
-fn resume_pass(mask: &[u8], code: Code, channel: &[u8], prefix: &[u8], output: &mut [u8]) -> Work
-    requires { ⌜ ResumePre (now mask) code (now channel) (now prefix) (now output) ⌝ }
-    ensures { λ done. ⌜ (done ≡ resumePass (now (mask .entry)) code (now (channel .entry)) (now (prefix .entry)) .work) × (now (output .exit) ≡ resumePass (now (mask .entry)) code (now (channel .entry)) (now (prefix .entry)) .bits) ⌝ }
-{
-    if code.n <= SHORT {
-        let mut work = [0i32; SHORT_SIZE];
-        let mut leaves = [0i32; SHORT_SIZE];
-        return resume_with(mask, code, channel, prefix, &mut work, &mut leaves, output);
-    }
-    if code.n <= MIDDLE {
-        let mut work = [0i32; MIDDLE_SIZE];
-        let mut leaves = [0i32; MIDDLE_SIZE];
-        return resume_with(mask, code, channel, prefix, &mut work, &mut leaves, output);
-    }
-    let mut work = [0i32; SIZE];
-    let mut leaves = [0i32; SIZE];
-    resume_with(mask, code, channel, prefix, &mut work, &mut leaves, output)
 }
 
 // Refusals 17 to 19.

@@ -8,6 +8,7 @@ use native.Mathlib.Omega.{arith}
 use borrow.Author.Tests.{lt-ltb}
 use lib.IntN.{ℤ, natAbs}
 use lib.ListN.{length}
+use Rattle.arrays.specs.Claims.{longest}
 use Rattle.arrays.proofs.Sizes.{fits}
 use Rattle.code.specs.declared.Code.{Code}
 use Rattle.code.specs.Code.{codeLength}
@@ -25,7 +26,7 @@ use Rattle.sets_tried.proofs.Members.{generated-flips}
 use Rattle.sets_tried.proofs.Same.{same-extensions}
 use Rattle.sets_queue.specs.Contracts.{keyOf, insertKeys, Pool, WalkPre, SetPre, Inserted}
 use Rattle.sets_queue.proofs.Keys.{keys-insert-each}
-use Rattle.sets_run.specs.Contracts.{SearchPre, FirstPool}
+use Rattle.sets_run.specs.Contracts.{SetsPre, FirstPool}
 use Rattle.sets_run.proofs.Leaves.{leaf-first, first-small}
 use Rattle.sets_run.proofs.Searching.{runOf, good-digits}
 
@@ -40,22 +41,22 @@ none-allowed s mask c v start e =
 pub set-none : (n : ℕ) (leaves : List ℤ) → SetPre n leaves []
 set-none n leaves = record { few = omega arith; below = λ a l. absurd (omega arith); past = omega arith; small = λ a l. absurd (omega arith) }
 
-module _ {s : Search} {wide : ℕ} {mask : List ℕ} {c : Code} {channel output : List ℕ} {values : List ℤ} (on : SearchPre s mask c channel output) (kept : FirstLeaves wide mask c channel values) where
+module _ {s : Search} {mask : List ℕ} {c : Code} {channel : List ℕ} {values : List ℤ} (on : SetsPre s mask c channel) (kept : FirstLeaves longest mask c channel values) where
   abbrev v : List ℤ
   v = channelValues channel
 
-  pub walk-first : codeLength c ≤ wide → WalkPre mask values
-  walk-first room = record {
-    there = omega (arith, on .coded .mask-size, room, kept .whole);
-    fits = omega (arith, on .coded .mask-size, fits (on .coded .n-most));
-    small = record { at = λ j l. first-small kept j (omega (arith, on .coded .mask-size)) (on .coded) (values-inside channel (on .well-formed .in-range)) };
+  pub walk-first : WalkPre mask values
+  walk-first = record {
+    there = omega (arith, on .frame .coded .mask-size, fits (on .frame .coded .n-most), kept .whole);
+    fits = omega (arith, on .frame .coded .mask-size, fits (on .frame .coded .n-most));
+    small = record { at = λ j l. first-small kept j (omega (arith, on .frame .coded .mask-size)) (on .frame .coded) (values-inside channel (on .frame .in-range)) };
   }
 
   first-generated : extensions mask values [] (8 * length mask) ≡ generated s mask c v []
   first-generated =
-      ap (extensions mask values []) (on .coded .mask-size)
+      ap (extensions mask values []) (on .frame .coded .mask-size)
       ∙ same-extensions mask (codeLength c) values (firstTrial mask c v .leaves) (λ j m e. ap natAbs (leaf-first kept j m)) [] (inl refl) (codeLength c) (omega arith)
-      ∙ sym (ap (λ (t : Bool). cond t (extensions mask (firstTrial mask c v .leaves) [] (codeLength c)) []) (lt-ltb 0 (s .w) (on .well-formed .flips-least)))
+      ∙ sym (ap (λ (t : Bool). cond t (extensions mask (firstTrial mask c v .leaves) [] (codeLength c)) []) (lt-ltb 0 (s .w) (on .flips-least)))
 
   pub first-pool : {count : ℕ} {keys keys′ : List ℕ} → Inserted 0 0 (s .limit - 1) count (map keyOf (extensions mask values [] (8 * length mask))) keys keys′ → FirstPool s mask c channel count keys′
   first-pool {count} {keys} {keys′} p =
@@ -67,6 +68,6 @@ module _ {s : Search} {wide : ℕ} {mask : List ℕ} {c : Code} {channel output 
             subst (Pool keys′ 0 count)
             (ap₂ (λ (k : ℕ) (new : List Candidate). insertKeys k (map keyOf new) []) m first-generated
             ∙ sym (keys-insert-each (s .limit - 1) (generated s mask c v []) []
-            (λ x q. good-digits (on .coded) (on .well-formed .flips-most) (generated-flips s mask c v [] (inl refl) q)) (λ x q. absurd (List·Memᴰ·not-nil q))))
+            (λ x q. good-digits (on .frame .coded) (on .flips-most) (generated-flips s mask c v [] (inl refl) q)) (λ x q. absurd (List·Memᴰ·not-nil q))))
             (p .holds [] empty);
       }

@@ -25,7 +25,7 @@ use Rattle.sets_run.specs.Contracts.{leavesFrom}
 pub loudest : {mask : List ℕ} {c : Code} → Coded mask c → 31 * 2 ^ c .n ≤ mostMagnitude
 loudest coded = omega (arith, fits (coded .n-most))
 
-module _ {wide : ℕ} {mask : List ℕ} {c : Code} {channel : List ℕ} {values : List ℤ} (kept : FirstLeaves wide mask c channel values) (j : ℕ) (l : j < codeLength c) where
+module _ {room : ℕ} {mask : List ℕ} {c : Code} {channel : List ℕ} {values : List ℤ} (kept : FirstLeaves room mask c channel values) (j : ℕ) (l : j < codeLength c) where
   pub leaf-first : getD values j (pos 0) ≡ getD (firstTrial mask c (channelValues channel) .leaves) j (pos 0)
   leaf-first = sym (getD-take (codeLength c) values j (pos 0) l) ∙ ap (λ (xs : List ℤ). getD xs j (pos 0)) (kept .values)
 

@@ -26,7 +26,7 @@ use Rattle.sets_tried.proofs.Members.{insert-each-keeps, generated-flips, first
 use Rattle.sets_queue.specs.Contracts.{base, keyOf, digitAt, indicesOf, Digits, Pool, PoolPre, Inserted}
 use Rattle.sets_queue.proofs.Pools.{pool-first, pool-next}
 use Rattle.sets_queue.proofs.Keys.{keys-insert-each, first-some, indices-back}
-use Rattle.sets_run.specs.Contracts.{SearchPre, FirstPool}
+use Rattle.sets_run.specs.Contracts.{SetsPre, FirstPool}
 
 tried-none : (generate : List ℕ → List Candidate) (m : ℕ) → tried generate m [] ≡ []
 unfolding tried
@@ -84,13 +84,13 @@ module _ {s : Search} {mask : List ℕ} {c : Code} {v : List ℤ} {start at end 
   search-next {untried = []} g l = absurd (omega (arith, g .holds .ends))
   search-next {untried = x ∷ xs} g l = (x, xs, g)
 
-module _ {s : Search} {mask : List ℕ} {c : Code} {v : List ℤ} {channel output : List ℕ} {start at end steps : ℕ} {keys : List ℕ} {x : Candidate} {xs : List Candidate}
-    (on : SearchPre s mask c channel output) (g : Searching s mask c v start at end steps keys (x ∷ xs)) where
+module _ {s : Search} {mask : List ℕ} {c : Code} {v : List ℤ} {channel : List ℕ} {start at end steps : ℕ} {keys : List ℕ} {x : Candidate} {xs : List Candidate}
+    (on : SetsPre s mask c channel) (g : Searching s mask c v start at end steps keys (x ∷ xs)) where
   this : FlipSet mask (codeLength c) (s .w) (x .flips)
   this = g .each x (List·Memᴰ·head refl)
 
   digits : {is : List ℕ} → FlipSet mask (codeLength c) (s .w) is → Digits 3 is
-  digits = good-digits (on .coded) (on .well-formed .flips-most)
+  digits = good-digits (on .frame .coded) (on .flips-most)
 
   key-is : getD keys at 0 ≡ keyOf x
   key-is = pool-first (g .holds)

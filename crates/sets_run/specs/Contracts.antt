@@ -11,11 +11,14 @@ use Rattle.code.specs.Code.{codeLength}
 use Rattle.code.specs.Claims.{Coded}
 use Rattle.channel.specs.Channel.{channelValues}
 use Rattle.flip_trial.specs.Trial.{lowest, restartAt, trialPasses}
+use Rattle.flip_trial.specs.Contracts.{FirstLeaves}
 use Rattle.flip_run.specs.declared.Decoded.{Decoded}
-use Rattle.flip_run.specs.Trials.{run, answerOf}
+use Rattle.flip_run.specs.Trials.{Verdict, run, answerOf}
+use Rattle.flip_run.specs.Contracts.{FramePre}
 use Rattle.sets.specs.declared.Search.{Search}
 use Rattle.sets.specs.Candidate.{Candidate, extensions, insertEach}
 use Rattle.sets.specs.Tried.{generated, setTrials}
+use Rattle.sets.specs.DecodeSets.{mostLimit}
 use Rattle.sets.specs.WellFormed.{WellFormed}
 use Rattle.sets_queue.specs.Contracts.{keyOf, Small, Pool, PoolPre}
 
@@ -27,34 +30,51 @@ resumedAt s mask c is = restartAt (s .restart) mask (codeLength c) (lowest is)
 abbrev pub leavesFrom : ℕ → List ℤ → List ℤ → List ℤ
 leavesFrom q values leaves = splice leaves 0 (take q values)
 
--- what the trial of a set generates by these leaf values
-abbrev pub generatedFrom : Search → List ℕ → Code → List ℤ → List ℤ → List ℕ → List Candidate
-generatedFrom s mask c values leaves is =
-    cond (ltb (length is) (s .w)) (extensions mask (leavesFrom (resumedAt s mask c is) values leaves) is (codeLength c)) []
+-- what the trial of a set that resumed at q generates by these leaf values, of `size` indices
+abbrev pub generatedFrom : Search → ℕ → ℕ → List ℕ → List ℤ → List ℤ → List ℕ → List Candidate
+generatedFrom s size q mask values leaves is =
+    cond (ltb (length is) (s .w)) (extensions mask (leavesFrom q values leaves) is size) []
 
--- leaf values of every index, whose metrics fit
-pub record HeldLeaves (s : Search) (mask : List ℕ) (c : Code) (is : List ℕ) (values leaves : List ℤ) : Type 0 where
-  pub values-there : codeLength c ≤ length values
-  pub leaves-there : codeLength c ≤ length leaves
-  pub small : Small (codeLength c) (leavesFrom (resumedAt s mask c is) values leaves)
+-- leaf values of each of `size` indices, whose metrics fit
+pub record HeldLeaves (size q : ℕ) (values leaves : List ℤ) : Type 0 where
+  pub q-most : q ≤ size
+  pub values-there : size ≤ length values
+  pub leaves-there : size ≤ length leaves
+  pub small : Small size (leavesFrom q values leaves)
 
--- a search of at most three flips, and such leaf values for a set that is not the largest
-pub record LeavesPre (s : Search) (mask : List ℕ) (c : Code) (is : List ℕ) (values leaves : List ℤ) : Type 0 where
+-- a search of at most three flips, and leaf values of each index if the set is not the largest
+pub record LeavesPre (s : Search) (size q : ℕ) (is : List ℕ) (values leaves : List ℤ) : Type 0 where
   pub flips-most : s .w ≤ 3
   pub limit-least : 1 ≤ s .limit
-  pub held : length is < s .w → HeldLeaves s mask c is values leaves
+  pub held : length is < s .w → HeldLeaves size q values leaves
+
+-- channel values for a code, and a search that is allowed
+pub record SetsPre (s : Search) (mask : List ℕ) (c : Code) (channel : List ℕ) : Type 0 where
+  pub frame : FramePre mask c channel
+  pub flips-least : 1 ≤ s .w
+  pub flips-most : s .w ≤ 3
+  pub limit-least : 1 ≤ s .limit
+  pub limit-most : s .limit ≤ mostLimit (s .w) c
 
 -- what holds past all refusals before 16
 pub record SearchPre (s : Search) (mask : List ℕ) (c : Code) (channel output : List ℕ) : Type 0 where
   pub coded : Coded mask c
   pub well-formed : WellFormed c channel (s .w) (s .limit) output
 
+-- trial 1's leaf values, if sets have more than one index
+abbrev pub LeavesIfRead : ℕ → Search → List ℕ → Code → List ℕ → List ℤ → Type 0
+LeavesIfRead room s mask c channel values = 1 < s .w → FirstLeaves room mask c channel values
+
 -- the sets that trial 1 generated are in their places
 pub record FirstPool (s : Search) (mask : List ℕ) (c : Code) (channel : List ℕ) (count : ℕ) (keys : List ℕ) : Type 0 where
   pub places : PoolPre 0 count (s .limit - 1) keys
   pub holds : Pool keys 0 count (map keyOf (insertEach (s .limit - 1) (generated s mask c (channelValues channel) []) []))
 
+-- how the run of a search ends
+abbrev pub verdictBy : Search → List ℕ → Code → List ℕ → Verdict
+verdictBy s mask c channel = run (trialPasses mask c) 0 0 (setTrials s mask c (channelValues channel))
+
 -- the answer past all refusals before 16, and the output's final bytes
 abbrev pub answerBy : Search → List ℕ → Code → List ℕ → List ℕ → Decoded × List ℕ
 answerBy s mask c channel output =
-    answerOf mask c output (run (trialPasses mask c) 0 0 (setTrials s mask c (channelValues channel)))
+    answerOf mask c output (verdictBy s mask c channel)

@@ -11,11 +11,10 @@ rules-from-requires c κs = let s = c .before .before .before in (omega (arith, 
 
 returns : tie.Need-returns
 returns c =
-    let k = c .before .before in
-    let d = k .before .before .before .before .before .before in
+    let d = c .before .before .before .before .before .before in
     let s = d .before .before .before .before in
     let e = d .rules-from .ensures in
-    first-post (s .args .code) (s .pre .1) (s .pre .0 .fits) (s .pre .0 .whole) (e .0) (e .1) (k .pass .ensures)
+    first-post (s .args .code) (s .pre .1) (fits (s .pre .0 .n-most)) (s .pre .0 .whole) (e .0) (e .1) (c .pass .ensures)
 
 pub first-trial-spec : {M : Type 1} → statement M
-first-trial-spec = tie.close (tie.spec rules-from-requires (λ c κs. search needs) (λ c. search needs) (λ c. search needs) returns)
+first-trial-spec = tie.close (tie.spec rules-from-requires (λ c κs. search needs) returns)

@@ -35,11 +35,11 @@ module _ (s : tie.Start) where
 
   -- the four values, as the machine reads them
   own : (k : ℕ) → k < 4 → back w32 (getD w (4 + k) (pos 0)) ≡ getD v k (pos 0)
-  own k l = ap (back w32) (sym (getD-segment w 4 4 k (pos 0) l)) ∙ back-within (s .pre .3) (omega arith) k
+  own k l = ap (back w32) (sym (getD-segment w 4 4 k (pos 0) l)) ∙ back-within (s .pre .2) (omega arith) k
 
   -- of those half the node apart, neither is large
   small : (k : ℕ) → k < 2 → natAbs (back w32 (getD w (4 + k) (pos 0))) + natAbs (back w32 (getD w (4 + (2 + k)) (pos 0))) < 2 ^ 31
-  small k l = omega (arith, ap natAbs (own k (omega arith)), s .pre .3 .at k, ap natAbs (own (2 + k) (omega arith)), s .pre .3 .at (2 + k))
+  small k l = omega (arith, ap natAbs (own k (omega arith)), s .pre .2 .at k, ap natAbs (own (2 + k) (omega arith)), s .pre .2 .at (2 + k))
 
 f-requires : tie.Need-f-requires
 f-requires c κs = let b = small (c .before .before .before .before) 0 (omega arith) in (omega (arith, b), omega (arith, b))
@@ -64,7 +64,7 @@ decode-two-requires : tie.Need-decode-two-requires
 decode-two-requires c κs =
     let k = c .before .before .before in
     let p = s k .pre in
-    let low = subst (Within (most deepest 2)) (sym (left-own k)) (within-left 2 (p .3)) in
+    let low = subst (Within (most deepest 2)) (sym (left-own k)) (within-left 2 (p .2)) in
     (p .0, omega (arith, p .1), omega (arith, low .at 0, low .at 1))
 
 -- after the left half
@@ -78,7 +78,7 @@ module _ (l : tie.After-decode-two) where
 -- after the right values
 module _ (n : tie.After-g2) where
   abbrev l : tie.After-decode-two
-  l = n .before .before .before .before .before
+  l = n .before .before .before .before
 
   right-own : back w32 (n .before .g .result) ∷ back w32 (n .g2 .result) ∷ [] ≡ rightValues 2 (v (s (m l))) (segment (sums l) (s (m l) .args .base) 2)
   unfolding rightValues table
@@ -101,7 +101,7 @@ decode-two-requires-2 c κs =
     let n = c .before .before .before in
     let st = s (m (l n)) in
     let p = st .pre in
-    let low = subst (Within (most deepest 2 + most deepest 2)) (sym (right-own n)) (within-right 2 (segment (sums (l n)) (st .args .base) 2) (p .3)) in
+    let low = subst (Within (most deepest 2 + most deepest 2)) (sym (right-own n)) (within-right 2 (segment (sums (l n)) (st .args .base) 2) (p .2)) in
     (free-sized 1 _ (now (st .args .rules)) (v st) (p .0) (p .1) (left-own (m (l n))) (l n .decode-two .ensures), omega (arith, p .1), omega (arith, low .at 0, low .at 1))
 
 -- after the right half
@@ -118,7 +118,7 @@ module _ (r : tie.After-decode-two2) where
 
 combine-requires : tie.Need-combine-requires
 combine-requires c κs =
-    let r = c .before .before in
+    let r = c .before in
     let k = l (n r) in
     let p = start r .pre in
     free-combine 1 _ (now (start r .args .rules)) (v (start r)) (p .0) (p .1) (left-own (m k)) (k .decode-two .ensures) (right-own (n r)) (r .decode-two2 .ensures)
@@ -129,7 +129,7 @@ total a b = let e : 4 + (a .steps + b .steps) ≡ 2 + a .steps + (2 + b .steps) 
 
 returns : tie.Need-returns
 returns c =
-    let r = c .before .before .before .before .before in
+    let r = c .before .before .before .before in
     let k = l (n r) in
     let p = start r .pre in
     let work = c .plus2 .ensures ∙ ap (plusWork (counted 4)) (c .before .plus .ensures) ∙ total _ _ in
@@ -151,12 +151,11 @@ decode-four-spec =
     (λ c. search needs)
     (λ c. search needs)
     (λ c. search needs)
-    (λ c κs. small (c .before .before .before .before .before .before .before .before .before .before .before .before .before) 0 (omega arith))
-    (λ c κs. small (c .before .before .before .before .before .before .before .before .before .before .before .before .before .before) 1 (omega arith))
+    (λ c κs. small (c .before .before .before .before .before .before .before .before .before .before .before .before) 0 (omega arith))
+    (λ c κs. small (c .before .before .before .before .before .before .before .before .before .before .before .before .before) 1 (omega arith))
     decode-two-requires-2
     (λ c. search needs)
     combine-requires
-    (λ c κs. omega (arith, few (c .before .before .before)))
-    (λ c κs. omega (arith, ap steps-of (c .plus .ensures), few (c .before .before .before .before)))
-    (λ c. search needs)
+    (λ c κs. omega (arith, few (c .before .before)))
+    (λ c κs. omega (arith, ap steps-of (c .plus .ensures), few (c .before .before .before)))
     returns)

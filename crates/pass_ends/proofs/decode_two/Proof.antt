@@ -33,7 +33,7 @@ f-requires : tie.Need-f-requires
 f-requires c κs = (omega (arith, ap natAbs (first c), c .pre .2), omega (arith, ap natAbs (second c), c .pre .2))
 
 g-requires : tie.Need-g-requires
-g-requires c κs = let s = c .before .before .before .before .before .before in omega (arith, ap natAbs (first s), ap natAbs (second s), s .pre .2)
+g-requires c κs = let s = c .before .before .before .before .before in omega (arith, ap natAbs (first s), ap natAbs (second s), s .pre .2)
 
 -- after the left leaf
 module _ (k : tie.After-leaf) where
@@ -53,7 +53,7 @@ module _ (k : tie.After-leaf) where
 
 leaf-requires-2 : tie.Need-leaf-requires-2
 leaf-requires-2 c κs =
-    let k = c .before .before .before .before .before in
+    let k = c .before .before .before .before in
     let p = s k .pre in
     (free-sized 0 _ (now (s k .args .rules)) (v (s k)) (p .0) (p .1) (left-own k) (k .leaf .ensures .1), omega (arith, p .1))
 
@@ -63,7 +63,7 @@ module _ (r : tie.After-leaf2) where
   n = r .before .before .before .before
 
   abbrev k : tie.After-leaf
-  k = n .before .before
+  k = n .before
 
   right-own : back w32 (n .g .result) ∷ [] ≡ rightValues 1 (v (s k)) (segment (sums k) (s k .args .base) 1)
   unfolding rightValues table
@@ -75,13 +75,13 @@ module _ (r : tie.After-leaf2) where
 
 combine-requires : tie.Need-combine-requires
 combine-requires c κs =
-    let r = c .before .before in
+    let r = c .before in
     let p = s (k r) .pre in
     free-combine 0 _ (now (s (k r) .args .rules)) (v (s (k r))) (p .0) (p .1) (left-own (k r)) (k r .leaf .ensures .1) (right-own r) (r .leaf2 .ensures .1)
 
 returns : tie.Need-returns
 returns c =
-    let r = c .before .before .before in
+    let r = c .before .before in
     let p = s (k r) .pre in
     free-laid 0 _ (now (s (k r) .args .rules)) (v (s (k r))) (p .0) (p .1) (left-own (k r)) (k r .leaf .ensures .1) (right-own r) (r .leaf2 .ensures .1) refl (c .combine .ensures)
 
@@ -97,5 +97,4 @@ decode-two-spec =
     leaf-requires-2
     (λ c. search needs)
     combine-requires
-    (λ c. search needs)
     returns)

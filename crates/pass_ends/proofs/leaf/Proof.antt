@@ -44,15 +44,15 @@ returns c =
     let same = back-is w32 (s .args .value) (s .fits .value) in
     let z = s .pre .0 in
     let bit = c .decide .ensures ∙ ap (decided (ruleAt rules base)) same in (
-      sym (getD-set-same (now (s .args .sums)) base _ 0 (omega (arith, s .pre .1, z .sums, z .within))),
+      sym (getD-set-same (now (s .args .sums)) base _ 0 (omega (arith, s .pre .1, z .sums))),
       leaf-laid rules base (s .args .value)
           (record {
             placed = record {
-              bits = stored (now (s .args .bits)) base _ _ (omega (arith, s .pre .1, z .bits, z .within)) bit;
+              bits = stored (now (s .args .bits)) base _ _ (omega (arith, s .pre .1, z .bits)) bit;
               leaves = stored (now (s .args .leaves)) base _ _ (omega (arith, s .pre .1, z .leaves)) same;
               work = refl;
             };
-            sums = stored (now (s .args .sums)) base _ _ (omega (arith, s .pre .1, z .sums, z .within)) bit;
+            sums = stored (now (s .args .sums)) base _ _ (omega (arith, s .pre .1, z .sums)) bit;
           }),
     )
 
@@ -62,7 +62,6 @@ leaf-spec =
     (tie.spec
     (λ c. search needs)
     (λ c κs. search needs)
-    (λ c. search needs)
     (λ c. search needs)
     (λ c. search needs)
     (λ c. search needs)

@@ -34,7 +34,9 @@ loop-again c =
 
 returns-2 : tie.Need-returns-2 Inv-loop μ-loop
 unfolding leftValues
-returns-2 c = computed-all (c .before .before .if1 .left) (c .before .loop .inv) (omega arith) (omega arith)
+returns-2 c =
+    let p = c .before .before .before .pre in
+    computed-all (c .before .before .if1 .left) (c .before .loop .inv) (omega arith) (omega (arith, p .whole, p .fits))
 
 pub left-values-spec : {M : Type 1} → statement M
 left-values-spec =
@@ -60,5 +62,4 @@ left-values-spec =
     (λ c. search needs)
     (λ c. search needs)
     loop-again
-    (λ c. search needs)
     returns-2)

@@ -32,7 +32,7 @@ loop-again c =
 
 returns : tie.Need-returns Inv-loop μ-loop
 unfolding rightValues
-returns c = computed (c .before .loop .inv) (omega arith) (omega arith)
+returns c = let p = c .before .before .pre .0 in computed (c .before .loop .inv) (omega arith) (omega (arith, p .whole, p .fits))
 
 pub right-values-spec : {M : Type 1} → statement M
 right-values-spec =
@@ -59,5 +59,4 @@ right-values-spec =
     (λ c. search needs)
     (λ c. search needs)
     loop-again
-    (λ c. search needs)
     returns)

@@ -39,7 +39,9 @@ loop-again c = left-turn (record { sfits = c .f .ok }) (omega arith) (l (c .befo
 
 returns-2 : tie.Need-returns-2 Inv-loop μ-loop
 unfolding leftValues
-returns-2 c = computed-all (c .before .before .if1 .left) (c .before .loop .inv) (omega arith) (omega arith)
+returns-2 c =
+    let p = c .before .before .before .before .pre in
+    computed-all (c .before .before .if1 .left) (c .before .loop .inv) (omega arith) (omega (arith, p .whole, p .fits))
 
 pub root-left-values-spec : {M : Type 1} → statement M
 root-left-values-spec =
@@ -62,5 +64,4 @@ root-left-values-spec =
     (λ c. search needs)
     (λ c. search needs)
     loop-again
-    (λ c. search needs)
     returns-2)

@@ -40,7 +40,7 @@ loop-again c =
 
 returns : tie.Need-returns Inv-loop μ-loop
 unfolding rightValues
-returns c = computed (c .before .loop .inv) (omega arith) (omega arith)
+returns c = let p = c .before .before .before .pre in computed (c .before .loop .inv) (omega arith) (omega (arith, p .whole, p .fits))
 
 pub root-right-values-spec : {M : Type 1} → statement M
 root-right-values-spec =
@@ -63,5 +63,4 @@ root-right-values-spec =
     (λ c. search needs)
     (λ c. search needs)
     loop-again
-    (λ c. search needs)
     returns)

@@ -1,43 +1,69 @@
--- `pass_resume::resume_pass` meets its contract: the code fits the arrays of its length.
-use mathlib.Core.Path.{refl}
+-- `pass_resume::resume_pass` meets its contract, by the laws of proofs/Resuming.antt.
+use mathlib.Core.Path.{refl, sym, _∙_}
+use mathlib.Core.List.{List}
+use Prim.Native.Nat.{ℕ, _≤_}
 use native.Mathlib.Omega.{arith}
 use borrow.Author.Needs.{needs}
-use lib.Pow.{pow-mono}
+use lib.ListN.{replicate}
+use Rattle.arrays.specs.Claims.{longest}
 use Rattle.arrays.proofs.Sizes.{fits}
+use Rattle.code.specs.Code.{codeLength}
+use Rattle.pass_resume.proofs.Resuming.{resume-on, resume-work, resume-bits}
 use Rattle.pass_resume.proofs.resume_pass.Statement.{statement}
 use Rattle.pass_resume.proofs.resume_pass.Tie as tie
 
-resume-with-requires : tie.Need-resume-with-requires
-resume-with-requires c κs =
-    let t = c .before .before .before in
-    (t .before .before .before .before .before .before .pre, record { fits = pow-mono (t .if1 .taken); same = refl; within = omega arith })
+-- the code fits the arrays
+code-fits : (s : tie.Start) → codeLength (s .args .code) ≤ longest
+code-fits s = fits (s .pre .coded .n-most)
 
-resume-with-requires-2 : tie.Need-resume-with-requires-2
-resume-with-requires-2 c κs =
-    let t = c .before .before .before in
-    (t .before .before .before .before .before .before .before .before .pre, record { fits = pow-mono (t .if2 .taken); same = refl; within = omega arith })
+-- the bits before the prefix is put in
+zeros : List ℕ
+zeros = replicate longest 0
 
-resume-with-requires-3 : tie.Need-resume-with-requires-3
-resume-with-requires-3 c κs =
-    let p = c .before .before .before .before .before .before .before .before .before .before .before .pre in
-    (p, record { fits = fits (p .coded .n-most); same = refl; within = omega arith })
+rules-from-requires : tie.Need-rules-from-requires
+rules-from-requires c κs =
+    let s = c .before .before .before .before .before in (omega (arith, s .pre .coded .mask-size, code-fits s), refl)
+
+copy-requires : tie.Need-copy-requires
+copy-requires c κs =
+    let s = c .before .before .before .before .before .before .before in
+    (omega arith, omega (arith, s .pre .well-formed .prefix-size, code-fits s))
+
+pass-requires : tie.Need-pass-requires
+unfolding zeros
+pass-requires c κs =
+    let d = c .before .before .before .before .before .before in
+    let s = d .before .before .before .before .before .before .before .before in
+    resume-on zeros (s .pre) (d .before .before .rules-from .ensures .0) (code-fits s) refl (d .copy .ensures) refl refl refl
+
+copy-requires-2 : tie.Need-copy-requires-2
+copy-requires-2 c κs =
+    let p = c .before .before in
+    let s = p .before .before .before .before .before .before .before .before .before .before .before .before .before .before .before in
+    let w = s .pre .well-formed in
+    (omega (arith, w .channel-size, code-fits s, p .pass .ensures .whole .bits), omega (arith, w .channel-size, w .output-size))
+
+returns : tie.Need-returns
+unfolding zeros
+returns c =
+    let p = c .before .before .before .before .before in
+    let d = p .before .before .before .before .before .before .before in
+    let s = d .before .before .before .before .before .before .before .before in
+    let rules = d .before .before .rules-from .ensures .0 in
+    let e = p .pass .ensures in (
+      resume-work zeros (s .pre) rules (code-fits s) refl (d .copy .ensures) e,
+      c .before .before .copy2 .ensures ∙ resume-bits zeros (s .pre) rules (code-fits s) refl (d .copy .ensures) e,
+    )
 
 pub resume-pass-spec : {M : Type 1} → statement M
 resume-pass-spec =
     tie.close
     (tie.spec
+    rules-from-requires
     (λ c. search needs)
+    copy-requires
+    pass-requires
+    (λ c. sym (c .before .pass .ensures .whole .bits))
+    copy-requires-2
     (λ c. search needs)
-    resume-with-requires
-    (λ c. search needs)
-    (λ c. search needs)
-    (λ c. search needs)
-    (λ c. search needs)
-    resume-with-requires-2
-    (λ c. search needs)
-    (λ c. search needs)
-    (λ c. search needs)
-    (λ c. search needs)
-    resume-with-requires-3
-    (λ c. search needs)
-    (λ c. search needs))
+    returns)

@@ -1,8 +1,7 @@
 -- `sets_run::larger_trials` meets its contract: the keys are those of the sets that trial 1 generated.
-use mathlib.Core.Path.{refl, sym}
+use mathlib.Core.Path.{refl}
 use native.Mathlib.Omega.{arith}
 use borrow.Author.Needs.{needs}
-use lib.Seq.{length-take-le}
 use Rattle.sets.proofs.Limit.{limit-larger}
 use Rattle.sets_run.proofs.First.{set-none, walk-first, first-pool}
 use Rattle.sets_run.proofs.larger_trials.Statement.{statement}
@@ -12,22 +11,16 @@ extend-requires : tie.Need-extend-requires
 extend-requires c κs =
     let s = c .before .before .before .before .before .before in
     let on = s .pre .0 in (
-      walk-first on (s .pre .2) (s .pre .3),
+      walk-first on (s .pre .2),
       set-none _ _,
-      record { low-most = omega arith; count-most = omega arith; room-most = omega (arith, limit-larger (s .args .search .w) (s .args .code) (s .pre .5), on .well-formed .limit-most) },
+      record { low-most = omega arith; count-most = omega arith; room-most = omega (arith, limit-larger (s .args .search .w) (s .args .code) (s .pre .4), on .limit-most) },
     )
 
 set-trials-requires : tie.Need-set-trials-requires
 set-trials-requires c κs =
-    let e = c .before .before .before .before .before .before .before .before in
-    let p = e .before .before .before .before .before .before .before .pre in (
-      p .0,
-      p .1,
-      (λ _. p .2),
-      first-pool (p .0) (p .2) (e .extend .ensures),
-      p .3,
-      record { work = refl; bits = refl; sums = p .4 .sums; leaves = length-take-le _ _ (omega (arith, p .4 .within)); within = p .4 .within },
-    )
+    let e = c .before .before .before .before .before .before .before in
+    let p = e .before .before .before .before .before .before .before .pre in
+    (p .0, p .1, (λ _. p .2), first-pool (p .0) (p .2) (e .extend .ensures), record { work = p .3 .work; bits = p .3 .bits; sums = p .3 .sums; leaves = refl })
 
 pub larger-trials-spec : {M : Type 1} → statement M
 larger-trials-spec =
@@ -39,10 +32,6 @@ larger-trials-spec =
     (λ c. search needs)
     (λ c. search needs)
     extend-requires
-    (λ c. c .before .before .before .before .before .before .before .before .before .before .before .before .pre .4 .within)
-    (λ c. sym (length-take-le _ _ (c .before .before .before .before .before .before .before .before .before .before .before .before .before .pre .4 .within)))
     (λ c. search needs)
     set-trials-requires
-    (λ c. search needs)
-    (λ c. search needs)
     (λ c. search needs))

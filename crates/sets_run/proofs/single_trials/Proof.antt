@@ -13,22 +13,16 @@ extend-requires c κs =
     let s = c .before .before .before .before .before .before .before in
     let x = s .args in
     let on = s .pre .0 in (
-      walk-first on (s .pre .2) (s .pre .3),
+      walk-first on (s .pre .2),
       set-none _ _,
-      record { low-most = omega arith; count-most = omega arith; room-most = omega (arith, limit-fits (x .search .w) (x .code) (omega (arith, on .coded .K-most, fits (on .coded .n-most))), on .well-formed .limit-most) },
+      record { low-most = omega arith; count-most = omega arith; room-most = omega (arith, limit-fits (x .search .w) (x .code) (omega (arith, on .frame .coded .K-most, fits (on .frame .coded .n-most))), on .limit-most) },
     )
 
 set-trials-requires : tie.Need-set-trials-requires
 set-trials-requires c κs =
-    let e = c .before .before .before .before .before .before .before .before .before in
-    let p = e .before .before .before .before .before .before .before .before .pre in (
-      p .0,
-      p .1,
-      (λ l. absurd (omega (arith, l, p .5))),
-      first-pool (p .0) (p .2) (e .extend .ensures),
-      p .3,
-      record { work = refl; bits = refl; sums = p .4 .sums; leaves = p .4 .leaves; within = p .4 .within },
-    )
+    let e = c .before .before .before .before .before .before .before in
+    let p = e .before .before .before .before .before .before .before .before .pre in
+    (p .0, p .1, (λ l. absurd (omega (arith, l, p .4))), first-pool (p .0) (p .2) (e .extend .ensures), p .3)
 
 pub single-trials-spec : {M : Type 1} → statement M
 single-trials-spec =
@@ -43,7 +37,4 @@ single-trials-spec =
     (λ c. search needs)
     (λ c. search needs)
     set-trials-requires
-    (λ c. search needs)
-    (λ c. search needs)
-    (λ c. search needs)
     (λ c. search needs))
