@@ -8,13 +8,13 @@ use Rattle.code.specs.Description.{word}
 use Rattle.receive_record.specs.Respond.{responded}
 use Rattle.receive_stream.specs.Stream.{startsWhole}
 
--- a whole record: its length field counts its bytes, and length and kind are there
+-- a whole record: it has length and kind, and its length field is the number of its bytes
 pub record IsRecord (bytes : List ℕ) : Type 0 where
   pub least : 4 ≤ length bytes
   pub length-is : word bytes 0 ≡ length bytes
 
--- Whole records in order, and what is left of the input: together they are the input, and no whole record comes first in what is left.
--- `records-of` and `records-only` of proofs/Split.antt prove that `recordsOf` gives these and no others.
+-- Whole records in order, and what is left of the input: together they are the input, and what is left begins with no whole record.
+-- `records-of` and `records-only` of proofs/Split.antt prove that `recordsOf` finds these and no others.
 pub record Split (input : List ℕ) (records : List (List ℕ)) (left : List ℕ) : Type 0 where
   pub joins : flatten records ++ left ≡ input
   pub each : (i : ℕ) → i < length records → IsRecord (getD records i [])
