@@ -11,10 +11,13 @@ use Rattle.code.specs.Code.{codeLength}
 use Rattle.encoder.specs.declared.Encoded.{Encoded}
 use Rattle.encoder.specs.declared.Encoded.the-variants.{Done, Refused}
 
--- refusals 9, 10 and 11 in turn do not apply
+-- none of the three refusals applies
 pub record WellFormed (c : Code) (payload output : List ℕ) : Type 0 where
+  -- not 9
   pub payload-size : length payload ≡ bytesFor (c .k)
+  -- not 10
   pub unused-clear : unusedBits payload (c .k) ≡ 0
+  -- not 11
   pub output-size : length output ≡ codeLength c / 8
 
 -- whether an answer is no refusal

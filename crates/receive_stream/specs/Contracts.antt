@@ -107,13 +107,15 @@ pub record AdvancePre (longest : ℕ) (s : Stream) (got : ℕ) (bytes held outpu
   pub held-room : longest ≤ length held
   pub turns-most : s .turns < mostTurns
 
--- What `advance` answers. If no byte was read, the stream is over. For every unread `rest` (empty if nothing was read): what remained to be
--- printed before the call equals what is written now, followed by what remains after it (nothing if the stream is over).
+-- what `advance` answers
 pub record AdvancePost (s : Stream) (got : ℕ) (bytes held output held′ output′ : List ℕ) (s′ : Stream) : Type 0 where
   pub between : Between s′ (take (s′ .there) bytes) held′ output′
   pub ready-most : s′ .ready ≤ length output′
   pub turns-is : s′ .turns ≡ s .turns + 1
+  -- if no byte was read, the stream is over
   pub ends : got ≡ 0 → s′ .wanted ≡ 0
+  -- For every unread `rest` (empty if nothing was read): what remained to be printed before the call equals what is written now, followed by
+  -- what remains after it (nothing if the stream is over).
   pub prints : (rest : List ℕ) → (got ≡ 0 → rest ≡ [])
       → yetPrinted s (take (s .there + got) bytes) held output rest
       ≡ take (s′ .ready) output′ ++ unlessOver s′ (yetPrinted s′ (take (s′ .there) bytes) held′ output′ rest)
