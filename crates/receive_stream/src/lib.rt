@@ -34,7 +34,7 @@ pub struct Stream {
 }
 
 // What is known of a record from the bytes read so far.
-pub enum Ahead {
+enum Ahead {
     // it is complete
     Whole,
     // this many bytes are still to come: of its header, or of the whole record
