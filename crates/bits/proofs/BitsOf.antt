@@ -18,7 +18,7 @@ pub bitsOf-zero : (w : ℕ) → bitsOf w 0 ≡ replicate w 0
 bitsOf-zero zero = refl
 bitsOf-zero (suc w) = ap₂ (λ (x : ℕ) (l : List ℕ). x ∷ l) (bit-zero w) (bitsOf-zero w)
 
--- what stands above the w bits does not matter
+-- the bits above the w low ones do not matter
 pub bitsOf-mod : (w k x : ℕ) → w ≤ k → bitsOf w (x % 2 ^ k) ≡ bitsOf w x
 bitsOf-mod zero k x h = refl
 bitsOf-mod (suc w) k x h = ap₂ (λ (y : ℕ) (l : List ℕ). y ∷ l) (bit-mod x w k h) (bitsOf-mod w k x (omega arith))

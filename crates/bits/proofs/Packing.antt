@@ -1,4 +1,4 @@
--- Unpacking undoes packing, and packing undoes unpacking where the unused bits are zero.
+-- Unpacking undoes packing, and packing undoes unpacking if the unused bits are zero.
 use mathlib.Core.Path.{_≡_, refl, sym, ap, ap₂, _∙_}
 use mathlib.Core.Bool.{Bool, true, false}
 use mathlib.Core.List.{List}
@@ -39,7 +39,7 @@ unpacked-packed bits b =
 
 -- bytes whose unused bits are zero are what their bits pack to
 module _ (bytes : List ℕ) (k : ℕ) (small : (m : ℕ) → getD bytes m 0 < 256) (len : length bytes ≡ bytesFor k) (clear : unusedBits bytes k ≡ 0) where
-  -- bit b of byte m, where the k bits reach it and where they do not
+  -- bit b of byte m, if it is one of the k bits and if it is not
   bit-back : (m b : ℕ) → m < bytesFor k → b < 8 → (t : Bool) → ltb (8 * m + b) k ≡ t → getD (unpacked bytes k) (8 * m + b) 0 ≡ bit (getD bytes m 0) (8 - (b + 1))
   unfolding unpacked
   bit-back m b l u true e =

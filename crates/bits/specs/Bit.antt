@@ -1,4 +1,5 @@
--- Bits, for the masks, polynomials, payloads and codewords of document 01: the numbers 0 and 1.
+-- Document 01, "Code description" and "Check and encoder": the bits of masks, polynomials, payloads and codewords, which are the numbers 0
+-- and 1.
 use mathlib.Core.List.{List, [], _∷_}
 use Prim.Native.Nat.{ℕ, zero, suc, _+_, _*_, _/_, _%_, _^_}
 

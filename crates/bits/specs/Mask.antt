@@ -1,4 +1,4 @@
--- The mask of document 01, "Code description": bit b of byte m, b = 0 being the least bit, stands for index 8m + b.
+-- Document 01, "Code description": the mask. Bit b of byte m, b = 0 being the least bit, stands for index 8m + b.
 use mathlib.Core.List.{List}
 use Prim.Native.Nat.{ℕ, zero, suc, _+_, _*_, _/_, _%_}
 use lib.ListN.{length, getD}

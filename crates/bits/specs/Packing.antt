@@ -1,4 +1,4 @@
--- Packing of document 01, "Check and encoder": highest bit first, and unused low bits of the last byte are zero.
+-- Document 01, "Check and encoder": packing. Highest bit first, and unused low bits of the last byte are zero.
 use mathlib.Core.List.{List}
 use Prim.Native.Nat.{ℕ, _+_, _-_, _*_, _/_, _%_, _^_}
 use lib.ListN.{length, getD}
@@ -9,7 +9,7 @@ use Rattle.bits.specs.Bit.{bit, number}
 abbrev pub bytesFor : ℕ → ℕ
 bytesFor k = (k + 7) / 8
 
--- byte m of the packed bits: bits 8m, …, 8m + 7, zero past the end
+-- byte m of the packed bits: bits 8m, …, 8m + 7, with zeros after the last bit
 abbrev pub packedByte : List ℕ → ℕ → ℕ
 packedByte bits m = number (λ b. getD bits (8 * m + b) 0) 8
 

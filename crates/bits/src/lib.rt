@@ -15,7 +15,7 @@ fn bit_of(byte: u8, i: usize) -> u8
     (byte >> i) & 1
 }
 
-// Whether index i is an information index: 1 or 0.
+// 1 if index i is an information index, else 0.
 pub fn mask_bit(mask: &[u8], i: usize) -> u8
     requires { ⌜ i < 8 * length (now mask) ⌝ }
     ensures { λ r. ⌜ r ≡ maskBit (now (mask .entry)) i ⌝ }
@@ -37,7 +37,7 @@ pub fn ones(mask: &[u8]) -> usize
     count
 }
 
-// Bit i of a list of bits, or 0 past its end.
+// Bit i of a list of bits, or 0 if the list is shorter.
 fn bit_or_zero(bits: &[u8], i: usize) -> u8
     ensures { λ r. ⌜ r ≡ getD (now (bits .entry)) i 0 ⌝ }
 {
@@ -77,7 +77,7 @@ pub fn pack(bits: &[u8], bytes: &mut [u8])
     }
 }
 
-// Takes as many bits as there is room for out of packed bytes, one a byte.
+// Fills `bits` with the first bits of packed bytes, one a byte.
 pub fn unpack(bytes: &[u8], bits: &mut [u8])
     requires { ⌜ length (now bits) ≤ 8 * length (now bytes) ⌝ }
     ensures { λ _. ⌜ now (bits .exit) ≡ unpacked (now (bytes .entry)) (length (now (bits .entry))) ⌝ }

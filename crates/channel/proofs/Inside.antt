@@ -27,7 +27,7 @@ inside-is b l =
     (λ t. let below : b < 128 = ltb→lt b 128 t in same-test ((b + 31) % 256) b (λ m. omega arith) (λ m. omega arith))
     (λ t. let above : 128 ≤ b = nltb→le b 128 t in rw (lt-ltb b 256 l) (same-test ((b + 31) % 256) (suc (256 - suc b)) (λ m. omega arith) (λ m. omega arith)))
 
--- ---- a list of tests: none of the first i holds where the first index that holds is not below i
+-- ---- a list of tests: none of the first i holds if the first index that holds is not below i
 
 module _ (test : ℕ → Bool) (n : ℕ) where
   abbrev first : ℕ

@@ -1,4 +1,4 @@
--- Refusals 12 and 13 apply exactly where the channel has another length than the code, or a value lies outside −31..31.
+-- Refusals 12 and 13 apply exactly if the channel has another length than the code, or a value lies outside −31..31.
 use mathlib.Core.Path.{_≡_, _∙_}
 use mathlib.Core.List.{List}
 use Prim.Native.Nat.{ℕ}

@@ -12,7 +12,7 @@ use Rattle.laws.proofs.First.{first-le, first-before}
 use Rattle.channel.specs.Channel.{channelValue, channelValues, firstOutside}
 use Rattle.values.specs.Claims.{Within}
 
--- where there is none, each value is within, and all are
+-- if there is none, each value is within −31..31, and all are
 pub each-inside : (channel : List ℕ) → length channel ≤ firstOutside channel → (k : ℕ) → natAbs (channelValue (getD channel k 0)) ≤ 31
 unfolding channelValue
 each-inside channel l k = go (ltb k (length channel)) refl

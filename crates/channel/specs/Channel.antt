@@ -17,6 +17,7 @@ use Rattle.code.specs.Code.{codeLength}
 unfoldable pub channelValue : ℕ → ℤ
 channelValue b = cond (ltb b 128) (pos b) (pos b -ℤ pos 256)
 
+-- the values of a channel
 abbrev pub channelValues : List ℕ → List ℤ
 channelValues channel = map channelValue channel
 
@@ -25,12 +26,12 @@ abbrev pub byteOf : ℤ → ℕ
 byteOf (pos n) = n
 byteOf (negsuc n) = 256 - suc n
 
--- clipped to −31..31
+-- a whole number, clipped to −31..31
 abbrev pub clip : ℤ → ℤ
 clip (pos n) = pos (min 31 n)
 clip (negsuc n) = negℤ (pos (min 31 (suc n)))
 
--- the first index of a value outside −31..31, or the channel's length where there is none
+-- the first index of a value outside −31..31, or the channel's length if there is none
 abbrev pub firstOutside : List ℕ → ℕ
 firstOutside channel = firstWhere (λ i. ltb 31 (natAbs (channelValue (getD channel i 0)))) (length channel)
 

@@ -40,7 +40,7 @@ pub fn are_inside(channel: &[u8]) -> bool
     inside
 }
 
-// The first index outside, found value by value.
+// The first index of a channel value outside −31..31, or the channel's length if there is none: value by value.
 fn find_outside(channel: &[u8]) -> usize
     ensures { λ r. ⌜ r ≡ firstOutside (now (channel .entry)) ⌝ }
 {
@@ -54,8 +54,9 @@ fn find_outside(channel: &[u8]) -> usize
     i
 }
 
-// The first index of a channel value outside −31..31, or the channel's length. Most channels have none.
-pub fn first_outside(channel: &[u8]) -> usize
+// The first index of a channel value outside −31..31, or the channel's length if there is none. Most channels have none, so all values are
+// tested at once before one is searched for.
+fn first_outside(channel: &[u8]) -> usize
     ensures { λ r. ⌜ r ≡ firstOutside (now (channel .entry)) ⌝ }
 {
     if are_inside(channel) {
@@ -64,7 +65,7 @@ pub fn first_outside(channel: &[u8]) -> usize
     find_outside(channel)
 }
 
-// Refusals 12 and 13.
+// Judges a channel: refusals 12 and 13.
 pub fn judge_channel(code: Code, channel: &[u8]) -> Judgement
     requires { ⌜ code .n ≤ deepest ⌝ }
     ensures { λ j. ⌜ j ≡ judge (channelRefusals code (now (channel .entry))) ⌝ }

@@ -118,7 +118,7 @@ same-true (a ∷ x) (b ∷ y) e =
     let p = and-eq-true-iff (eqb a b) (same x y) .0 e in
     cons (eqb-true a b (p .0)) (same-true x y (p .1))
 
--- true exactly where the two lists are equal
+-- true exactly if the two lists are equal
 pub same-iff : (x y : List ℕ) → (same x y ≡ true) ↔ (x ≡ y)
 same-iff x y = (same-true x y, λ e. subst (λ (z : List ℕ). same x z ≡ true) e (same-refl x))
 

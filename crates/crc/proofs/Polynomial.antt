@@ -94,7 +94,7 @@ add-append [] (b ∷ y) z h = refl
 add-append (a ∷ x) [] z h = absurd (omega arith)
 add-append (a ∷ x) (b ∷ y) z h = cons refl (add-append x y z (omega arith))
 
--- x · z^r plus y, where y has r coefficients
+-- x · z^r plus y, if y has r coefficients
 pub add-beside : (x y : List ℕ) → Bits x → Bits y → addHighest (replicate (length x) 0 ++ y) (raised x (length y)) ≡ x ++ y
 add-beside [] [] b d = refl
 add-beside [] (c ∷ y) b d = cons (omega (arith, d .at 0)) (add-beside [] y b (bits-tail d))

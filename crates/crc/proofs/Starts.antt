@@ -1,5 +1,5 @@
--- Start values: where the divisor's lowest coefficient is 1, z is invertible modulo it. So the check of zeros is zero only where the start is,
--- and two starts give no payload the same check.
+-- Start values: if the divisor's lowest coefficient is 1, z is invertible modulo it. So the check of zeros is zero only if the start is zero,
+-- and no payload has one check under two starts.
 use mathlib.Core.Path.{_≡_, refl, sym, ap, _∙_}
 use mathlib.Core.List.{List, [], _∷_}
 use Prim.Native.Nat.{ℕ, zero, suc, _+_, _-_, _*_, _%_, _<_}
@@ -31,7 +31,7 @@ scale-zero : (t : List ℕ) → scale 0 t ≡ replicate (length t) 0
 scale-zero [] = refl
 scale-zero (b ∷ t) = cons (omega arith) (scale-zero t)
 
--- a list with a zero behind it that is all zeros
+-- a list that is all zeros once a zero is appended
 raised-zeros : (g : List ℕ) (n : ℕ) → length g ≡ n → raised g 1 ≡ replicate (suc n) 0 → g ≡ replicate n 0
 raised-zeros [] zero h e = refl
 raised-zeros [] (suc n) h e = absurd (omega arith)
@@ -105,7 +105,7 @@ module _ (t : List ℕ) (odd : lowest t ≡ 1) where
   run-zeros zero g h b e = e
   run-zeros (suc k) g h b e = step-zeros g h b (run-zeros k (step t g 0) (length-step t g 0 h) (bits-step t g 0 b) e)
 
-  -- two starts give one payload the same check only where they are equal
+  -- a payload has one check under two starts only if they are equal
   pub check-start : (payload x y : List ℕ) → 0 < length t → length x ≡ length t → length y ≡ length t → Bits x → Bits y → Bits payload
       → checkOf t x payload ≡ checkOf t y payload → x ≡ y
   check-start payload x y l h k b d p e =
@@ -116,7 +116,7 @@ module _ (t : List ℕ) (odd : lowest t ≡ 1) where
       add-equal x y (omega arith) b d
       (run-zeros (length payload) (addHighest x y) (length-add x y (omega arith) ∙ k) (bits-add x y d) sum ∙ ap (λ (n : ℕ). replicate n 0) (sym k))
 
-  -- k zeros have the check 0 only where the start is 0
+  -- k zeros have the check 0 only if the start is 0
   pub check-zeros : (k : ℕ) (start : List ℕ) → 0 < length t → length start ≡ length t → Bits start
       → checkOf t start (replicate k 0) ≡ replicate (length t) 0 → start ≡ replicate (length t) 0
   check-zeros k start l h b e = run-zeros k start h b (run-check t start (replicate k 0) l h b ∙ e)

@@ -14,17 +14,17 @@ use Rattle.crc.specs.Contracts.{step}
 use Rattle.crc.proofs.Polynomial.{cons}
 
 -- an exclusive-or is a sum
-pub bitsOf-xor : (w x y : ℕ) → bitsOf w (bitXor x y) ≡ addHighest (bitsOf w x) (bitsOf w y)
+bitsOf-xor : (w x y : ℕ) → bitsOf w (bitXor x y) ≡ addHighest (bitsOf w x) (bitsOf w y)
 bitsOf-xor zero x y = refl
 bitsOf-xor (suc w) x y = cons (bit-xor x y w) (bitsOf-xor w x y)
 
 -- a shift by one is a product with z
-pub bitsOf-double : (w x : ℕ) → bitsOf (suc w) (x * 2) ≡ raised (bitsOf w x) 1
+bitsOf-double : (w x : ℕ) → bitsOf (suc w) (x * 2) ≡ raised (bitsOf w x) 1
 bitsOf-double zero x = cons (rw add-zero at (bit-low x 0 (omega arith))) refl
 bitsOf-double (suc w) x = cons (rw add-zero at (bit-up x 0 w (omega arith))) (bitsOf-double w x)
 
 -- a product with a coefficient
-pub bitsOf-scale : (w a x : ℕ) → a < 2 → bitsOf w (a * x) ≡ scale a (bitsOf w x)
+bitsOf-scale : (w a x : ℕ) → a < 2 → bitsOf w (a * x) ≡ scale a (bitsOf w x)
 bitsOf-scale zero a x h = refl
 bitsOf-scale (suc w) zero x h = cons (simp zero-mul (bit-zero w)) (bitsOf-scale w 0 x h)
 bitsOf-scale (suc w) (suc zero) x h = cons (simp one-mul) (bitsOf-scale w 1 x h)
@@ -44,14 +44,14 @@ shr-more x i h =
 masked : (r x : ℕ) → r ≤ 16 → bitAnd x (1 * 2 ^ r % 2 ^ 32 - 1) ≡ x % 2 ^ r
 masked r x h = ap (λ (m : ℕ). bitAnd x (m - 1)) (one-shl r 32 (omega arith)) ∙ and-mask x r
 
--- nothing stands above the highest coefficient
+-- the register has no bit above the highest coefficient
 pub highest-lt : (r register : ℕ) → 1 ≤ r → register < 2 ^ r → register / 2 ^ (r - 1) < 2
 highest-lt zero register s h = absurd (omega arith)
 highest-lt (suc w) register s h =
     let e : suc w - 1 ≡ w = omega arith in
     rw e (div-lt-iff-lt-mul (pow-pos w) .1 (omega (arith, two-pow-succ w)))
 
--- it, with the next bit added
+-- the coefficient that leaves: the highest one, with the next bit added
 pub leaving : (r register next : ℕ) → 1 ≤ r → register < 2 ^ r → bitXor (register / 2 ^ (r - 1)) (next % 2) ≡ (bit register (r - 1) + next) % 2
 leaving r register next s h =
     let top = highest-lt r register s h in
@@ -60,7 +60,7 @@ leaving r register next s h =
     ∙ ap (λ (x : ℕ). (x + next) % 2) (sym (mod-eq-of-lt top))
 
 -- a coefficient times a word is no longer than the word
-pub scaled-lt : (a x n : ℕ) → a < 2 → x < n → a * x < n
+scaled-lt : (a x n : ℕ) → a < 2 → x < n → a * x < n
 scaled-lt zero x n h l = omega arith
 scaled-lt (suc zero) x n h l = omega arith
 scaled-lt (suc (suc a)) x n h l = absurd (omega arith)

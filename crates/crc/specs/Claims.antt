@@ -6,7 +6,7 @@ use mathlib.Core.Path.{_≡_}
 use Rattle.crc.specs.Polynomial.{addHighest, scale}
 use Rattle.bits.specs.Claims.{Bits}
 
--- the quotient of that division: the coefficients struck out
+-- the quotient of the long division `rem`: the coefficients struck out
 abbrev pub quo : List ℕ → ℕ → List ℕ → List ℕ
 quo t zero p = []
 quo t (suc m) [] = []

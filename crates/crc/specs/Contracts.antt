@@ -3,8 +3,8 @@ use mathlib.Core.List.{List, [], _∷_}
 use Prim.Native.Nat.{ℕ, _+_, _%_, _^_, _<_, _≤_}
 use Rattle.crc.specs.Polynomial.{raised, addHighest, scale}
 
--- A step of a register of r coefficients: the highest, with the next payload bit b added, is struck out, and so many times t is added to what
--- follows it. From `start`, the steps of all payload bits end at the check.
+-- A step of a register of r coefficients. The highest coefficient, with the next payload bit b added, is struck out, and its product with t is
+-- added to what follows it. From `start`, the steps of all payload bits end at the check.
 abbrev pub step : List ℕ → List ℕ → ℕ → List ℕ
 step t [] b = []
 step t (g ∷ gs) b = addHighest (scale ((g + b) % 2) t) (raised gs 1)

@@ -1,4 +1,4 @@
--- Polynomials over two values, for the check of document 01, "Check and encoder": lists of coefficients, each 0 or 1, the highest first.
+-- Document 01, "Check and encoder": polynomials over two values, for the check. They are lists of coefficients, each 0 or 1, the highest first.
 -- The divisor z^r + t is given by the r coefficients t.
 use mathlib.Core.List.{List, [], _∷_, _++_}
 use Prim.Native.Nat.{ℕ, zero, suc, _+_, _*_, _%_}
@@ -8,7 +8,7 @@ use lib.ListN.{replicate}
 abbrev pub raised : List ℕ → ℕ → List ℕ
 raised p n = p ++ replicate n 0
 
--- p + q; where q is longer, p is added to its highest coefficients
+-- p + q; if q is longer, p is added to its highest coefficients
 abbrev pub addHighest : List ℕ → List ℕ → List ℕ
 addHighest [] q = q
 addHighest (a ∷ p) [] = []

@@ -30,7 +30,7 @@ fn feedback(poly: u32, r: u32) -> u32
     word
 }
 
-// The word where `out` is 1, else 0. A payload's bits look random to a processor, so that a branch would cost more.
+// The word if `out` is 1, else 0. A payload's bits look random to a processor, so a branch would cost more.
 fn word_if(out: u32, word: u32) -> u32
     requires { ⌜ (out < 2) × (word < 2 ^ 16) ⌝ }
     ensures { λ x. ⌜ x ≡ out * word ⌝ }
@@ -38,8 +38,8 @@ fn word_if(out: u32, word: u32) -> u32
     (word << out) - word
 }
 
-// One bit goes in: the register moves up by one place, and the word is added where the coefficient that leaves is 1. Nothing stands above
-// the highest coefficient, so that a shift gives it alone.
+// One bit goes in: the register moves up by one place, and the word is added if the coefficient that leaves is 1. The register has no bit
+// above the highest coefficient, so a shift right yields that one alone.
 fn register_step(register: u32, next: u8, r: u32, word: u32) -> u32
     requires { ⌜ (1 ≤ r) × (r ≤ 16) × (word < 2 ^ r) × (register < 2 ^ r) ⌝ }
     ensures { λ a. ⌜ (bitsOf r a ≡ step (bitsOf r word) (bitsOf r register) next) × (a < 2 ^ r) ⌝ }
@@ -51,7 +51,8 @@ fn register_step(register: u32, next: u8, r: u32, word: u32) -> u32
 // The check of a payload, as a number of r bits.
 fn check(payload: &[u8], r: u32, poly: u32, start: u32) -> u32
     requires { ⌜ CheckPre r start ⌝ }
-    ensures { λ a. ⌜ (bitsOf r a ≡ checkOf (bitsOf r poly) (bitsOf r start) (now (payload .entry))) × (a < 2 ^ r) ⌝ }
+    ensures { λ a. ⌜ (bitsOf r a ≡ checkOf (bitsOf r poly) (bitsOf r start) (now (payload .entry)))
+        × (a < 2 ^ r) ⌝ }
 {
     let word = feedback(poly, r);
     let mut register = start;
@@ -79,7 +80,8 @@ fn put_bits(message: &mut [u8], at: usize, r: u32, register: u32)
 // Writes the check of the first k bits after them.
 pub fn append_check(message: &mut [u8], k: usize, r: u32, poly: u32, start: u32)
     requires { ⌜ CheckPre r start × (length (now message) ≡ k + r) ⌝ }
-    ensures { λ _. ⌜ now (message .exit) ≡ take k (now (message .entry)) ++ checkOf (bitsOf r poly) (bitsOf r start) (take k (now (message .entry))) ⌝ }
+    ensures { λ _. ⌜ now (message .exit)
+        ≡ take k (now (message .entry)) ++ checkOf (bitsOf r poly) (bitsOf r start) (take k (now (message .entry))) ⌝ }
 {
     let register = check(&message[..k], r, poly, start);
     put_bits(message, k, r, register);

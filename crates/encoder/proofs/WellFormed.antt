@@ -1,4 +1,4 @@
--- Well-formed input: encode accepts a payload and an output exactly where nothing of 9 to 11 applies.
+-- Well-formed input: encode accepts a payload and an output exactly if none of refusals 9 to 11 applies.
 use mathlib.Core.Path.{_≡_, refl, _∙_}
 use mathlib.Core.Bool.{true}
 use mathlib.Core.Logic.{_↔_}

@@ -21,7 +21,7 @@ pub record MessagePre (c : Code) (payload message : List ℕ) : Type 0 where
   pub payload-size : c .k ≤ 8 * length payload
   pub message-size : length message ≡ informationCount c
 
--- a payload for a code, and room for its message and its codeword: what follows the message there is bits too
+-- a payload for a code, and room for its message and its codeword. All that the room holds are bits.
 pub record PayloadPre (mask : List ℕ) (c : Code) (payload room output : List ℕ) : Type 0 where
   pub coded : Coded mask c
   pub well-formed : WellFormed c payload output

@@ -1,4 +1,4 @@
--- Document 01, "Check and encoder", and document 02, request 2.1: encode, with the refusals of a description, 9, 10 and 11 in order.
+-- Document 01, "Check and encoder": encode, with the refusals of a description, 9, 10 and 11 in order.
 use mathlib.Core.Bool.{Bool}
 use mathlib.Core.List.{List, [], _∷_, _++_}
 use Prim.Native.Nat.{ℕ, _/_}
@@ -33,16 +33,16 @@ encodingRefusals c payload output =
     ∷ (differs (length output) (codeLength c / 8), Alone 11)
     ∷ []
 
--- the answer and the bytes that the output holds afterwards, for a code: a refusal writes nothing
+-- encode under a code: the answer, and the bytes that the output holds afterwards. A refusal writes nothing.
 unfoldable pub encodedBy : List ℕ → Code → List ℕ → List ℕ → Encoded × List ℕ
 encodedBy mask c payload output =
     refusedOr (judge (encodingRefusals c payload output)) (λ x. (Refused x, output)) (Done, codeword mask c payload)
 
--- the same for a description, with `largest` as the largest n: its refusals first
+-- encode under a description, if `largest` is the largest n: the refusals of the description come first
 abbrev pub encodedUpTo : ℕ → List ℕ → List ℕ → List ℕ → Encoded × List ℕ
 encodedUpTo largest d payload output =
     onDescription (describeUpTo largest d) (λ x. (Refused x, output)) (λ c. encodedBy (maskOf d) c payload output)
 
--- the same with `deepest` as the largest n
+-- encode under a description
 unfoldable pub encoded : List ℕ → List ℕ → List ℕ → Encoded × List ℕ
 encoded d payload output = encodedUpTo deepest d payload output

@@ -16,9 +16,11 @@ ghost use Rattle.encoder.specs.Encode.{messageOf, codeword, encodingRefu
 ghost use Rattle.encoder.specs.Contracts.{MessagePre, PayloadPre, placedMessage, TransformPre};
 ghost use Rattle.encoder.specs.Claims.{WellFormed};
 
-// What encode answers: the codeword is written, or the refusal.
+// What encode answers.
 pub enum Encoded {
+    // the codeword is written
     Done,
+    // nothing is written
     Refused(Refusal),
 }
 
@@ -74,7 +76,7 @@ fn has_unused_bit(payload: &[u8], k: usize) -> bool
     payload[k / 8] % (1u8 << (8 - k % 8)) != 0
 }
 
-// Refusals 9 to 11.
+// Judges a payload and an output: refusals 9 to 11.
 fn judge_encoding(mask: &[u8], code: Code, payload: &[u8], output: &[u8]) -> Judgement
     requires { ⌜ Coded (now mask) code ⌝ }
     ensures { λ j. ⌜ j ≡ judge (encodingRefusals code (now (payload .entry)) (now (output .entry))) ⌝ }
@@ -92,9 +94,10 @@ fn judge_encoding(mask: &[u8], code: Code, payload: &[u8], output: &[u8]) -> Jud
 }
 
 // Encodes a payload under a code.
-pub fn encode_by(mask: &[u8], code: Code, payload: &[u8], output: &mut [u8]) -> Encoded
+fn encode_by(mask: &[u8], code: Code, payload: &[u8], output: &mut [u8]) -> Encoded
     requires { ⌜ Coded (now mask) code ⌝ }
-    ensures { λ a. ⌜ (a, now (output .exit)) ≡ encodedBy (now (mask .entry)) code (now (payload .entry)) (now (output .entry)) ⌝ }
+    ensures { λ a. ⌜ (a, now (output .exit))
+        ≡ encodedBy (now (mask .entry)) code (now (payload .entry)) (now (output .entry)) ⌝ }
 {
     match judge_encoding(mask, code, payload, output) {
         Judgement::Fine => {

@@ -1,5 +1,5 @@
--- The nodes that a pass works on: they have the values that it counts and its leaf values, at layer s each has 2^s values, and each
--- magnitude there is at most 31 · 2^(n − s).
+-- The nodes that a pass works on: they have the values that it counts and its leaf values, at layer s each has 2^s values, each
+-- of magnitude at most 31 · 2^(n − s).
 use mathlib.Core.Path.{_≡_, refl, sym, ap, ap₂, _∙_, subst}
 use mathlib.Core.Bool.{Bool, cond}
 use mathlib.Core.Logic.{⊎-elim}
@@ -68,7 +68,7 @@ module _ (p : List ℕ) (rule : ℕ → Rule) (v : List ℤ) where
       let both : Bool → Type 0 = λ t. P (cond t (forced 0 p) (leaf (rule 0) (getD v 0 (pos 0)))) (cond t [] ((0, v) ∷ [])) in
       lt-cases (length p) 1 (λ l. subst both (sym (lt-leb _ _ l)) (b l)) (λ l. subst both (sym (le-leb _ _ l)) (a l))
 
--- one value for each step, beside the node's own: it has none where all its bits are forced
+-- one value for each step, beside the node's own: it has none if all its bits are forced
 worked-values : (s : ℕ) (p : List ℕ) (rule : ℕ → Rule) (v : List ℤ) → (2 ^ s ≤ length p → length v ≡ 0) → valuesIn (worked s p rule v) ≡ length v + node s p rule v .work .steps
 worked-values zero p rule v none = worked-leaf-cases p rule v (λ o ws. valuesIn ws ≡ length v + o .work .steps) (λ f. omega (arith, none f)) (λ f. omega arith)
 worked-values (suc s) p rule v none =

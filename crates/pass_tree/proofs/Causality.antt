@@ -17,11 +17,11 @@ module _ (s : ℕ) (p p′ : List ℕ) (rule rule′ : ℕ → Rule) (v : List �
   same : leafValue s v (node s p rule v .bits) i ≡ leafValue s v (node s p′ rule′ v .bits) i
   same = leaf-before s v (node s p rule v .bits) (node s p′ rule′ v .bits) i l e
 
-  -- the same leaf value at i, where both give it
+  -- their leaf values at i are equal, if both decide i
   pub same-leaf : (k k′ : ℕ) → length p + k ≡ i → length p′ + k′ ≡ i → getD (node s p rule v .leaves) k (pos 0) ≡ getD (node s p′ rule′ v .leaves) k′ (pos 0)
   same-leaf k k′ c c′ = decision s p rule v short i l .value k c ∙ same ∙ sym (decision s p′ rule′ v short′ i l .value k′ c′)
 
-  -- the same bit at i, where both decide it by the same rule
+  -- their bits at i are equal, if both decide it by equal rules
   pub same-bit : length p ≤ i → length p′ ≤ i → rule i ≡ rule′ i → getD (node s p rule v .bits) i 0 ≡ getD (node s p′ rule′ v .bits) i 0
   same-bit c c′ r = decision s p rule v short i l .decides c ∙ ap₂ decided r same ∙ sym (decision s p′ rule′ v short′ i l .decides c′)
 

@@ -19,7 +19,7 @@ use Rattle.pass_tree.specs.Node.{Out, forced, leaf, node}
 use Rattle.pass_tree.proofs.Node.{leftOf, left, right, halves, leaf-cases, node-cases, Short, short-left, short-right, length-bits, length-leaves}
 use Rattle.pass_tree.proofs.Sums.{sums-transformed}
 
--- the value at leaf i of a node of values v, where b are the node's bits
+-- the value at leaf i of a node with values v and bits b
 unfoldable pub leafValue : ℕ → List ℤ → List ℕ → ℕ → ℤ
 leafValue zero v b i = getD v 0 (pos 0)
 leafValue (suc s) v b i =
@@ -57,7 +57,7 @@ leaf-before (suc s) v b b′ i l e =
     ∙ sym (leaf-right s v b′ k))
     i l e
 
--- what holds at index i of a node that gives o
+-- what holds at index i of a node with the result o
 pub record Decision (s : ℕ) (p : List ℕ) (rule : ℕ → Rule) (v : List ℤ) (o : Out) (i : ℕ) : Type 0 where
   pub given : i < length p → getD (o .bits) i 0 ≡ getD p i 0
   pub decides : length p ≤ i → getD (o .bits) i 0 ≡ decided (rule i) (leafValue s v (o .bits) i)
@@ -89,7 +89,7 @@ module _ (s : ℕ) (p : List ℕ) (rule : ℕ → Rule) (v : List ℤ) (short : 
   long : length (lo .bits) ≡ h
   long = length-bits s (take h p) rule (leftOf h p v) (short-left s p)
 
-  -- its decided leaves: those past the prefix
+  -- its decided leaves: those after the prefix
   left-leaves : length (lo .leaves) ≡ h - length p
   left-leaves = omega (arith, length-leaves s (take h p) rule (leftOf h p v) (short-left s p), length-take h p)
 
@@ -141,7 +141,7 @@ decision (suc s) p rule v short i l =
     (λ k m. left-index s p rule v short k m (decision s (take (2 ^ s) p) rule _ (short-left s p) k m))
     (λ k m. right-index s p rule v short k m (decision s (drop (2 ^ s) p) _ _ (short-right s p short) k m)) i l)
 
--- so a bit past the prefix is decided from the leaf value that is given with it
+-- so a bit after the prefix is decided from its leaf value in the result
 pub bit-decided : (s : ℕ) (p : List ℕ) (rule : ℕ → Rule) (v : List ℤ) → Short s p → (i k : ℕ) → length p + k ≡ i → i < 2 ^ s → getD (node s p rule v .bits) i 0 ≡ decided (rule i) (getD (node s p rule v .leaves) k (pos 0))
 bit-decided s p rule v short i k e l =
     let d = decision s p rule v short i l in

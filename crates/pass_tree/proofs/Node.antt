@@ -1,4 +1,4 @@
--- A node by its cases: forced, a leaf, or two halves; and the lengths of what it gives.
+-- A node by its cases: forced, a leaf, or two halves; and the lengths of its results.
 use mathlib.Core.Path.{_≡_, refl, sym, ap, subst}
 use mathlib.Core.Bool.{Bool, true, false, cond}
 use mathlib.Core.List.{List, []}

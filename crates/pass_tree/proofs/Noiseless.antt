@@ -27,7 +27,7 @@ use Rattle.pass_tree.proofs.Node.{node-leaf, node-halves, length-leaves
 abbrev pub Signs : ℕ → List ℕ → List ℤ → Type 0
 Signs n x v = (j : ℕ) → j < n → Favours (getD x j 0) (getD v j (pos 0))
 
--- an index whose rule can give the bit x: usual, or frozen where x is 0
+-- an index whose rule can decide the bit x: usual, or frozen if x is 0
 abbrev pub Carries : Rule → ℕ → Type 0
 Carries frozen x = x ≡ 0
 Carries usual x = Unit
@@ -44,7 +44,7 @@ plain-halves s rule v =
     let none : leb (2 ^ s) 0 ≡ false = lt-leb (2 ^ s) 0 (pow-pos s) in
     node-halves s [] rule v (pow-pos (suc s)) ∙ rw (none, take-nil (2 ^ s), drop-nil (2 ^ s))
 
--- what a pass gives that recovers u
+-- the results of a pass that recovers u
 pub record Recovers (s : ℕ) (u : List ℕ) (o : Out) : Type 0 where
   pub bits : o .bits ≡ u
   pub sums : o .sums ≡ transformed s u

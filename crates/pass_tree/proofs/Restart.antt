@@ -1,4 +1,4 @@
--- A pass that is resumed from a prefix with which another pass begins gives what that pass gives, whatever the rules below the prefix.
+-- A pass that is resumed from a prefix with which another pass begins has the results of that pass, whatever the rules below the prefix.
 use mathlib.Core.Path.{_≡_, refl, sym, ap, _∙_}
 use mathlib.Core.List.{List, []}
 use Prim.Native.Nat.{ℕ, _+_, _^_, _<_, _≤_}
@@ -18,7 +18,7 @@ use Rattle.pass_tree.proofs.Steps.{steps-length}
 use Rattle.pass_tree.proofs.Decisions.{decision}
 use Rattle.pass_tree.proofs.Causality.{same-leaf, same-bit}
 
--- p′ is how the pass with the prefix p begins, and the rules agree from there on
+-- p′ is how the pass with the prefix p begins, and the rules agree from the end of p′ on
 module _ (s : ℕ) (p p′ : List ℕ) (rule rule′ : ℕ → Rule) (v : List ℤ) (short : Short s p) (short′ : Short s p′) (longer : length p ≤ length p′)
     (begins : p′ ≡ take (length p′) (node s p rule v .bits)) (agree : (j : ℕ) → length p′ ≤ j → j < 2 ^ s → rule j ≡ rule′ j) where
   abbrev o : Out
@@ -38,7 +38,7 @@ module _ (s : ℕ) (p p′ : List ℕ) (rule rule′ : ℕ → Rule) (v : List �
       (λ c. sym (same-bit s p p′ rule rule′ v short short′ j l (sym e) (omega arith) c (agree j c l))))
       ∙ take-all (2 ^ s) (o .bits) (omega arith)
 
-  pub restart-sums : node s p′ rule′ v .sums ≡ node s p rule v .sums
+  restart-sums : node s p′ rule′ v .sums ≡ node s p rule v .sums
   restart-sums = sums-transformed s p′ rule′ v short′ ∙ ap (transformed s) restart-bits ∙ sym (sums-transformed s p rule v short)
 
   pub restart-leaves : (m : ℕ) → length p + m ≡ length p′ → node s p′ rule′ v .leaves ≡ drop m (node s p rule v .leaves)
@@ -50,7 +50,7 @@ module _ (s : ℕ) (p p′ : List ℕ) (rule rule′ : ℕ → Rule) (v : List �
       sym (same-leaf s p p′ rule rule′ v short short′ (length p′ + k) (omega arith) (ap (take (length p′ + k)) (sym restart-bits)) (m + k) k (omega arith) refl)
       ∙ sym (getD-drop m (o .leaves) k (pos 0)))
 
--- a whole pass, resumed from where p, its own beginning, ends
+-- a whole pass, resumed at the end of p, which is its own beginning
 pub restart : (s : ℕ) (p : List ℕ) (rule : ℕ → Rule) (v : List ℤ) → Short s p → p ≡ take (length p) (node s [] rule v .bits) → (node s p rule v .bits ≡ node s [] rule v .bits) × (node s p rule v .sums ≡ node s [] rule v .sums) × (node s p rule v .leaves ≡ drop (length p) (node s [] rule v .leaves))
 restart s p rule v short begins =
     let none : Short s [] = omega arith in

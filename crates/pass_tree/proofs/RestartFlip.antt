@@ -1,5 +1,5 @@
 -- A trial that flips an index begins as the trial before it, with the opposite at that index and zeros while indices are frozen. So it may
--- be resumed past them (proofs/Restart.antt), whatever it flips from there on.
+-- be resumed after those zeros (proofs/Restart.antt), whatever it flips from then on.
 use mathlib.Core.Path.{_≡_, sym, ap, ap₂, _∙_}
 use mathlib.Core.List.{List, [], _∷_, _++_}
 use Prim.Native.Nat.{ℕ, zero, suc, _+_, _-_, _^_, _<_, _≤_}

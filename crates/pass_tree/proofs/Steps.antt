@@ -54,7 +54,7 @@ skipped-grows zero {q} {q′} l = omega (arith, mod-one q, mod-one q′)
 skipped-grows (suc s) l = omega (arith, skipped-grows s l, blocks-mono (suc s) l)
 
 -- at the end of the node all is saved
-pub skipped-whole : (s : ℕ) → skipped s (2 ^ s) ≡ s * 2 ^ s
+skipped-whole : (s : ℕ) → skipped s (2 ^ s) ≡ s * 2 ^ s
 skipped-whole s =
     let e : 2 ^ s ≡ 1 * 2 ^ s + 0 = omega arith in
     ap (skipped s) e ∙ skipped-add s 1 0 ∙ omega (arith, skipped-none s, ap (λ (k : ℕ). s * k) (one-mul (2 ^ s)))
@@ -67,7 +67,7 @@ skipped-half (suc s) =
     let e : 2 ^ suc s / 2 ≡ 2 ^ s = omega (arith, two-pow-succ s) in
     ap (skipped (suc s)) e ∙ omega (arith, skipped-whole s, mod-self (2 ^ s)) ∙ ap (λ (k : ℕ). suc s * k) (sym e)
 
--- what a prefix of two halves saves: what it saves in either half, and the left values where it covers the left half
+-- what a prefix of two halves saves: what it saves in either half, and the left values if it covers the left half
 skipped-suc : (s q : ℕ) → q < 2 ^ suc s → skipped (suc s) q + cond (leb (2 ^ s) q) 0 (2 ^ s) ≡ skipped s (min (2 ^ s) q) + skipped s (q - 2 ^ s) + 2 ^ s
 unfolding skipped
 skipped-suc s q l = go (leb (2 ^ s) q) refl

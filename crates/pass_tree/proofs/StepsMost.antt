@@ -20,11 +20,11 @@ counted n = record { steps = n }
 abbrev pub steps-of : Work → ℕ
 steps-of w = w .steps
 
--- work is equal where its steps are
+-- work is equal if its steps are
 pub same-steps : {a b : Work} → a .steps ≡ b .steps → a ≡ b
 same-steps e i = record { steps = e i }
 
--- a half's values, where they are computed
+-- a half's values, if they are computed
 pub left-most : (forced : Bool) (h : ℕ) (v : List ℤ) → length (cond forced [] (leftValues h v)) ≤ h
 left-most true h v = omega arith
 left-most false h v = omega (arith, length-left h v)

@@ -16,7 +16,7 @@ use Rattle.values.proofs.Signs.{hard-lt}
 use Rattle.pass_tree.specs.Node.{Out, node}
 use Rattle.pass_tree.proofs.Node.{leftOf, left, right, leaf-cases, node-cases, Short, short-left, short-right, length-bits}
 
-pub decided-lt : (rule : Rule) (v : ℤ) → decided rule v < 2
+decided-lt : (rule : Rule) (v : ℤ) → decided rule v < 2
 decided-lt frozen v = omega arith
 decided-lt usual v = hard-lt v
 decided-lt opposite v = omega arith

@@ -24,21 +24,25 @@ worked (suc s) p rule v =
     let right = rightValues h v (node s (take h p) rule left .sums) in
     (suc s, v) ∷ (worked s (take h p) rule left ++ worked s (drop h p) (λ i. rule (h + i)) right))
 
--- how many values some nodes have, and the values of the leaves among them
+-- how many values some nodes have
 abbrev pub valuesIn : List (ℕ × List ℤ) → ℕ
 valuesIn [] = 0
 valuesIn ((s, w) ∷ ws) = length w + valuesIn ws
 
+-- the values of the leaves among some nodes
 abbrev pub leavesIn : List (ℕ × List ℤ) → List ℤ
 leavesIn [] = []
 leavesIn ((zero, w) ∷ ws) = getD w 0 (pos 0) ∷ leavesIn ws
 leavesIn ((suc s, w) ∷ ws) = leavesIn ws
 
--- `ws` is what a pass on v, of 2^n values, works on where it gives o: beside v one value for each step, and at the leaves the leaf values. A
--- node at layer s works on 2^s values, and no magnitude exceeds its layer's bound. `pass-magnitudes` of proofs/Bounds.antt proves it of
--- `worked`.
+-- `ws` are the nodes that a pass on v, of 2^n values, works on if its result is o. `pass-magnitudes` of proofs/Bounds.antt proves it
+-- of `worked`.
 pub record WorksOn (n : ℕ) (v : List ℤ) (o : Out) (ws : List (ℕ × List ℤ)) : Type 0 where
+  -- they have one value for each step, beside v
   pub values : valuesIn ws ≡ length v + o .work .steps
+  -- the leaves have the leaf values
   pub leaves : leavesIn ws ≡ o .leaves
+  -- a node at layer s has 2^s values
   pub sizes : (x : ℕ × List ℤ) → List·Memᴰ x ws → length (x .1) ≡ 2 ^ x .0
+  -- no magnitude exceeds its layer's bound
   pub bounded : (x : ℕ × List ℤ) → List·Memᴰ x ws → Within (most n (x .0)) (x .1)

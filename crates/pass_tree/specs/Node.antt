@@ -17,12 +17,15 @@ workOf values = record { steps = length values }
 abbrev pub plusWork : Work → Work → Work
 plusWork a b = record { steps = a .steps + b .steps }
 
--- what a node gives: the bits of its indices, the sums that come up, the leaf values of the indices that were decided and
--- not forced, and the work done below it
+-- the result of a node
 pub record Out : Type 0 where
+  -- the bits of its indices
   pub bits : List ℕ
+  -- the sums for the node above it
   pub sums : List ℕ
+  -- the leaf values of the indices that were decided and not forced
   pub leaves : List ℤ
+  -- the work done below it
   pub work : Work
 
 -- all bits are forced: nothing is computed
@@ -43,7 +46,7 @@ join h left l right r = record {
 }
 
 -- A node at layer s: `p` its forced bits, at most 2^s, from its first index on; `rule` the rule of each of its indices, counted
--- from its first; `v` its 2^s values. Where the left half is forced its node needs no values, and none is computed.
+-- from its first; `v` its 2^s values. If the left half is forced, its node needs no values, and none is computed.
 unfoldable pub node : ℕ → List ℕ → (ℕ → Rule) → List ℤ → Out
 node zero p rule v = cond (leb 1 (length p)) (forced 0 p) (leaf (rule 0) (getD v 0 (pos 0)))
 node (suc s) p rule v =

@@ -3,8 +3,9 @@ ghost use mathlib.Core.Path.{_≡_};
 ghost use Prim.Native.Nat.{_+_, _^_, _<_};
 ghost use Rattle.pass_tree.specs.Node.{plusWork};
 
-// What was done: one step for each value computed.
+// What a part of a pass did.
 pub struct Work {
+    // one for each value computed
     pub steps: u32,
 }
 

@@ -111,7 +111,7 @@ take-start mask u w = refl
 
 -- ---- what is neither placed nor taken
 
--- bits past the last index are not taken
+-- bits after the last index are not taken
 pub taken-take : (mask u : List ℕ) (m n : ℕ) → n ≤ m → taken mask (take m u) n ≡ taken mask u n
 unfolding taken
 taken-take mask u m zero l = refl

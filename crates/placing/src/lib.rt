@@ -11,8 +11,8 @@ ghost use Rattle.bits.specs.Claims.{Bits};
 ghost use Rattle.bits.specs.Mask.{maskBit, onesBelow};
 ghost use Rattle.bits.specs.Packing.{packedByte, packed};
 
-// Looks at the next bit of the mask: `looks` bits were looked at before it, and `ones` of those are ones. The mask is read here and nowhere
-// else, so that each look is counted.
+// Looks at the next bit of the mask: `looks` bits were looked at before it, and `ones` of those are ones. No other function reads the mask, so
+// each look is counted.
 fn look(mask: &[u8], looks: &mut usize, ones: &mut usize) -> u8
     requires { ⌜ (8 * length (now mask) < 2 ^ 64) × (now looks < 8 * length (now mask)) × (now ones ≡ onesBelow (now mask) (now looks)) ⌝ }
     ensures { λ b. ⌜ (b ≡ maskBit (now (mask .entry)) (now (looks .entry))) × (now (looks .exit) ≡ now (looks .entry) + 1) × (now (ones .exit) ≡ onesBelow (now (mask .entry)) (now (looks .entry) + 1)) ⌝ }
@@ -47,7 +47,7 @@ fn placed_byte(mask: &[u8], message: &[u8], m: usize, looks: &mut usize, ones: &
     byte
 }
 
-// Places the message's bits at the information indices, in ascending order, and zeros at the frozen ones, packed. Gives the number of
+// Places the message's bits at the information indices, in ascending order, and zeros at the frozen ones, packed. Returns the number of
 // looks at a bit of the mask.
 pub fn place(mask: &[u8], message: &[u8], u: &mut [u8]) -> usize
     requires { ⌜ PlacePre (now mask) (now message) × (length (now mask) ≤ length (now u)) ⌝ }
@@ -63,7 +63,7 @@ pub fn place(mask: &[u8], message: &[u8], u: &mut [u8]) -> usize
     looks
 }
 
-// Stores a bit as message bit c where it stands at an information index.
+// Stores a bit as message bit c if its index is an information index.
 fn take_bit(message: &mut [u8], c: usize, information: u8, bit: u8)
     requires { ⌜ c < length (now message) ⌝ }
     ensures { λ _. ⌜ now (message .exit) ≡ cond (eqb information 1) (set (now (message .entry)) c bit) (now (message .entry)) ⌝ }
@@ -73,8 +73,8 @@ fn take_bit(message: &mut [u8], c: usize, information: u8, bit: u8)
     }
 }
 
-// Takes the bits at the information indices out, in ascending order, to the start of the message. Gives the number of looks at a bit of
-// the mask.
+// Copies the bits at the information indices, in ascending order, to the start of the message. Returns the number of looks at a bit of the
+// mask.
 pub fn take_out(mask: &[u8], u: &[u8], message: &mut [u8]) -> usize
     requires { ⌜ (8 * length (now mask) ≤ length (now u)) × (8 * length (now mask) ≤ length (now message)) ⌝ }
     ensures { λ looks. ⌜ (looks ≡ 8 * length (now (mask .entry))) × (now (message .exit) ≡ splice (now (message .entry)) 0 (taken (now (mask .entry)) (now (u .entry)) (8 * length (now (mask .entry))))) ⌝ }

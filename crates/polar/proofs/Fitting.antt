@@ -73,11 +73,11 @@ module _ (c : Code) (n-most : c .n ≤ deepest) where
   at : {i index size : ℕ} → i < 2 ^ 8 → size ≤ codeLength c → ltb index size ≡ true → RefusalFits (At i index)
   at {i} {index} {size} l m t = fitting l (omega (arith, ltb-true index size t, fits n-most)) (omega arith)
 
-  -- refusal 13, past 12
+  -- refusal 13, after 12
   outside-fits : (channel : List ℕ) → differs (length channel) (codeLength c) ≡ false → ltb (firstOutside channel) (length channel) ≡ true → RefusalFits (At 13 (firstOutside channel))
   outside-fits channel t12 = at (omega arith) (le-of-eq (differs-past (length channel) (codeLength c) t12))
 
-  -- refusal 18, past 17
+  -- refusal 18, after 17
   bad-fits : (mask prefix : List ℕ) → ltb (codeLength c) (length prefix) ≡ false → ltb (firstBad mask prefix) (length prefix) ≡ true → RefusalFits (At 18 (firstBad mask prefix))
   bad-fits mask prefix t17 = at (omega arith) (ltb-false (codeLength c) (length prefix) t17)
 

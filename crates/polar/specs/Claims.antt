@@ -10,7 +10,7 @@ use Rattle.hearing_preview.specs.Preview.{previewedIn}
 use Rattle.polar_number.specs.Number.{encodedParts, resumedParts, decodedParts, keptParts}
 use Rattle.polar_number.specs.Claims.{Read}
 
--- the number of every answer of every export gives its parts back: `read-back` of proofs/Fields.antt
+-- the parts of every answer of every export can be read back from its number: `read-back` of proofs/Fields.antt
 abbrev pub ReadBack : Type 0
 ReadBack =
     ((d payload output : List ℕ) → Read (encodedParts (encoded d payload output .0)))

@@ -14,7 +14,8 @@ ghost use Rattle.polar_number.specs.Number.{numbered, encodedParts, resumedPart
 
 #[no_mangle]
 pub extern "C" fn polar_encode(description: &[u8], payload: &[u8], codeword: &mut [u8]) -> u64
-    ensures { λ x. ⌜ (x, now (codeword .exit)) ≡ numbered encodedParts (encoded (now (description .entry)) (now (payload .entry)) (now (codeword .entry))) ⌝ }
+    ensures { λ x. ⌜ (x, now (codeword .exit))
+        ≡ numbered encodedParts (encoded (now (description .entry)) (now (payload .entry)) (now (codeword .entry))) ⌝ }
 {
     encoded_answer(encoder::encode(description, payload, codeword))
 }
@@ -26,7 +27,8 @@ pub extern "C" fn polar_resume(
     prefix: &[u8],
     bits: &mut [u8],
 ) -> u64
-    ensures { λ x. ⌜ (x, now (bits .exit)) ≡ numbered resumedParts (resumed (now (description .entry)) (now (channel .entry)) (now (prefix .entry)) (now (bits .entry))) ⌝ }
+    ensures { λ x. ⌜ (x, now (bits .exit))
+        ≡ numbered resumedParts (resumed (now (description .entry)) (now (channel .entry)) (now (prefix .entry)) (now (bits .entry))) ⌝ }
 {
     resumed_answer(pass_resume::resume(description, channel, prefix, bits))
 }
@@ -38,7 +40,8 @@ pub extern "C" fn polar_decode_full(
     limit: u32,
     payload: &mut [u8],
 ) -> u64
-    ensures { λ x. ⌜ (x, now (payload .exit)) ≡ numbered decodedParts (decodedFull (now (description .entry)) (now (channel .entry)) limit (now (payload .entry))) ⌝ }
+    ensures { λ x. ⌜ (x, now (payload .exit))
+        ≡ numbered decodedParts (decodedFull (now (description .entry)) (now (channel .entry)) limit (now (payload .entry))) ⌝ }
 {
     decoded_answer(flip_decoder::decode_full(description, channel, limit, payload))
 }
@@ -50,7 +53,8 @@ pub extern "C" fn polar_decode_half(
     limit: u32,
     payload: &mut [u8],
 ) -> u64
-    ensures { λ x. ⌜ (x, now (payload .exit)) ≡ numbered decodedParts (decodedHalf (now (description .entry)) (now (channel .entry)) limit (now (payload .entry))) ⌝ }
+    ensures { λ x. ⌜ (x, now (payload .exit))
+        ≡ numbered decodedParts (decodedHalf (now (description .entry)) (now (channel .entry)) limit (now (payload .entry))) ⌝ }
 {
     decoded_answer(flip_decoder::decode_half(description, channel, limit, payload))
 }
@@ -62,7 +66,8 @@ pub extern "C" fn polar_decode_restarted(
     limit: u32,
     payload: &mut [u8],
 ) -> u64
-    ensures { λ x. ⌜ (x, now (payload .exit)) ≡ numbered decodedParts (decodedRestarted (now (description .entry)) (now (channel .entry)) limit (now (payload .entry))) ⌝ }
+    ensures { λ x. ⌜ (x, now (payload .exit))
+        ≡ numbered decodedParts (decodedRestarted (now (description .entry)) (now (channel .entry)) limit (now (payload .entry))) ⌝ }
 {
     decoded_answer(flip_decoder::decode_restarted(description, channel, limit, payload))
 }
@@ -75,7 +80,8 @@ pub extern "C" fn polar_decode_sets_full(
     limit: u32,
     payload: &mut [u8],
 ) -> u64
-    ensures { λ x. ⌜ (x, now (payload .exit)) ≡ numbered decodedParts (setsFull (now (description .entry)) (now (channel .entry)) w limit (now (payload .entry))) ⌝ }
+    ensures { λ x. ⌜ (x, now (payload .exit))
+        ≡ numbered decodedParts (setsFull (now (description .entry)) (now (channel .entry)) w limit (now (payload .entry))) ⌝ }
 {
     decoded_answer(sets_decoder::decode_sets_full(description, channel, w, limit, payload))
 }
@@ -88,7 +94,8 @@ pub extern "C" fn polar_decode_sets_half(
     limit: u32,
     payload: &mut [u8],
 ) -> u64
-    ensures { λ x. ⌜ (x, now (payload .exit)) ≡ numbered decodedParts (setsHalf (now (description .entry)) (now (channel .entry)) w limit (now (payload .entry))) ⌝ }
+    ensures { λ x. ⌜ (x, now (payload .exit))
+        ≡ numbered decodedParts (setsHalf (now (description .entry)) (now (channel .entry)) w limit (now (payload .entry))) ⌝ }
 {
     decoded_answer(sets_decoder::decode_sets_half(description, channel, w, limit, payload))
 }
@@ -101,35 +108,40 @@ pub extern "C" fn polar_decode_sets_restarted(
     limit: u32,
     payload: &mut [u8],
 ) -> u64
-    ensures { λ x. ⌜ (x, now (payload .exit)) ≡ numbered decodedParts (setsRestarted (now (description .entry)) (now (channel .entry)) w limit (now (payload .entry))) ⌝ }
+    ensures { λ x. ⌜ (x, now (payload .exit))
+        ≡ numbered decodedParts (setsRestarted (now (description .entry)) (now (channel .entry)) w limit (now (payload .entry))) ⌝ }
 {
     decoded_answer(sets_decoder::decode_sets_restarted(description, channel, w, limit, payload))
 }
 
 #[no_mangle]
 pub extern "C" fn polar_hearing_open(description: &[u8], state: &mut [u8]) -> u64
-    ensures { λ x. ⌜ (x, now (state .exit)) ≡ numbered keptParts (openedIn (now (description .entry)) (now (state .entry))) ⌝ }
+    ensures { λ x. ⌜ (x, now (state .exit))
+        ≡ numbered keptParts (openedIn (now (description .entry)) (now (state .entry))) ⌝ }
 {
     kept_answer(hearing_buffer::open(description, state))
 }
 
 #[no_mangle]
 pub extern "C" fn polar_hearing_add(state: &mut [u8], channel: &[u8]) -> u64
-    ensures { λ x. ⌜ (x, now (state .exit)) ≡ numbered keptParts (addedIn (now (state .entry)) (now (channel .entry))) ⌝ }
+    ensures { λ x. ⌜ (x, now (state .exit))
+        ≡ numbered keptParts (addedIn (now (state .entry)) (now (channel .entry))) ⌝ }
 {
     kept_answer(hearing_buffer::add(state, channel))
 }
 
 #[no_mangle]
 pub extern "C" fn polar_hearing_clear(state: &mut [u8]) -> u64
-    ensures { λ x. ⌜ (x, now (state .exit)) ≡ numbered keptParts (clearedIn (now (state .entry))) ⌝ }
+    ensures { λ x. ⌜ (x, now (state .exit))
+        ≡ numbered keptParts (clearedIn (now (state .entry))) ⌝ }
 {
     kept_answer(hearing_buffer::clear(state))
 }
 
 #[no_mangle]
 pub extern "C" fn polar_hearing_decode_full(state: &[u8], limit: u32, payload: &mut [u8]) -> u64
-    ensures { λ x. ⌜ (x, now (payload .exit)) ≡ numbered decodedParts (fullIn (now (state .entry)) limit (now (payload .entry))) ⌝ }
+    ensures { λ x. ⌜ (x, now (payload .exit))
+        ≡ numbered decodedParts (fullIn (now (state .entry)) limit (now (payload .entry))) ⌝ }
 {
     decoded_answer(hearing_buffer::decode_full(state, limit, payload))
 }
@@ -140,7 +152,8 @@ pub extern "C" fn polar_hearing_decode_restarted(
     limit: u32,
     payload: &mut [u8],
 ) -> u64
-    ensures { λ x. ⌜ (x, now (payload .exit)) ≡ numbered decodedParts (restartedIn (now (state .entry)) limit (now (payload .entry))) ⌝ }
+    ensures { λ x. ⌜ (x, now (payload .exit))
+        ≡ numbered decodedParts (restartedIn (now (state .entry)) limit (now (payload .entry))) ⌝ }
 {
     decoded_answer(hearing_buffer::decode_restarted(state, limit, payload))
 }
@@ -152,7 +165,9 @@ pub extern "C" fn polar_hearing_preview(
     limit: u32,
     payload: &mut [u8],
 ) -> u64
-    ensures { λ x. ⌜ ((x, now (payload .exit)) ≡ numbered decodedParts (previewedIn (now (state .entry)) (now (channel .entry)) limit (now (payload .entry)))) × (now (state .exit) ≡ now (state .entry)) ⌝ }
+    ensures { λ x. ⌜ ((x, now (payload .exit))
+        ≡ numbered decodedParts (previewedIn (now (state .entry)) (now (channel .entry)) limit (now (payload .entry))))
+        × (now (state .exit) ≡ now (state .entry)) ⌝ }
 {
     decoded_answer(hearing_preview::preview_in(state, channel, limit, payload))
 }

@@ -1,4 +1,4 @@
--- An answer a that a match has told to be b.
+-- An answer a that a match has found to be b.
 use mathlib.Core.Path.{_≡_, sym, ap, _∙_, subst}
 use Prim.Native.Nat.{ℕ}
 use Rattle.polar_number.specs.Number.{Parts, number}

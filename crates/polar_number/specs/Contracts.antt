@@ -2,7 +2,7 @@
 use Prim.Native.Nat.{_^_, _<_}
 use Rattle.polar_number.specs.Number.{Parts}
 
--- each has room in its place
+-- each part fits its bits of the number
 pub record Fitting (p : Parts) : Type 0 where
   pub refusal-fits : p .refusal < 2 ^ 8
   pub value-fits : p .value < 2 ^ 24

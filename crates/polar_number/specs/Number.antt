@@ -13,12 +13,16 @@ use Rattle.flip_run.specs.declared.Decoded.the-variants as decode
 use Rattle.hearing_buffer.specs.declared.Kept.{Kept}
 use Rattle.hearing_buffer.specs.declared.Kept.the-variants as keep
 
--- the refusal, or 0; the trial, the count, or an index; the steps
+-- what an answer says
 pub record Parts : Type 0 where
+  -- the refusal, or 0
   pub refusal : ℕ
+  -- the trial, refusal 16's T, the count of hearings, a refusal's first index, or 0
   pub value : ℕ
+  -- the steps, or 0
   pub steps : ℕ
 
+-- the parts by their fields
 abbrev pub parts : ℕ → ℕ → ℕ → Parts
 parts refusal value steps = record { refusal = refusal; value = value; steps = steps }
 
@@ -30,25 +34,27 @@ number p = p .refusal + p .value * 2 ^ 8 + p .steps * 2 ^ 32
 abbrev pub numbered : {A : Type 0} → (A → Parts) → A × List ℕ → ℕ × List ℕ
 numbered partsOf answer = (number (partsOf (answer .0)), answer .1)
 
--- the parts of each case of each answer
+-- the parts of a refusal
 abbrev pub refusalParts : Refusal → Parts
 refusalParts (refusal.Alone i) = parts i 0 0
 refusalParts (refusal.At i index) = parts i index 0
 
+-- the parts of an encoder's answer
 abbrev pub encodedParts : Encoded → Parts
 encodedParts encode.Done = parts 0 0 0
 encodedParts (encode.Refused x) = refusalParts x
 
+-- the parts of a resumed pass's answer
 abbrev pub resumedParts : Resumed → Parts
 resumedParts (resume.Done steps) = parts 0 0 steps
 resumedParts (resume.Refused x) = refusalParts x
 
--- a call on a lent state carries the count of hearings
+-- the parts of an answer to a call on a lent state: it carries the count of hearings
 abbrev pub keptParts : Kept → Parts
 keptParts (keep.Done count) = parts 0 count 0
 keptParts (keep.Refused x) = refusalParts x
 
--- refusal 16 carries its T
+-- the parts of a decoder's answer: refusal 16 carries its T
 abbrev pub decodedParts : Decoded → Parts
 decodedParts (decode.Accepted trial steps) = parts 0 trial steps
 decodedParts (decode.Failed trials steps) = parts 16 trials steps

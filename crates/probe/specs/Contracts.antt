@@ -24,7 +24,7 @@ abbrev pub indexOf : Refusal → ℕ
 indexOf (Alone i) = 0
 indexOf (At i index) = index
 
--- 0 with n, r, polynomial, start and k in the numbers, in this order; or the refusal with the numbers as they were
+-- for an accepted description 0, with n, r, polynomial, start and k in the numbers; for a refused one the refusal, with the numbers as they were
 abbrev pub descriptionNumbers : Description → List ℕ → ℕ × List ℕ
 descriptionNumbers (Accepted c) numbers = (0, set (set (set (set (set numbers 0 (c .n)) 1 (c .r)) 2 (c .polynomial)) 3 (c .start)) 4 (c .k))
 descriptionNumbers (Refused x) numbers = (numberOf x, numbers)
@@ -34,28 +34,28 @@ abbrev pub allBits : List ℕ → Bool
 allBits [] = true
 allBits (x ∷ xs) = ltb x 2 && allBits xs
 
--- 0 with the packed bits; 1 with the output as it was for other numbers than bits, or an output of the wrong length
+-- 0 with the packed bits; 1 with the output as it was if some number is no bit or the output has the wrong length
 abbrev pub packing : List ℕ → List ℕ → ℕ × List ℕ
 packing bits bytes = cond (allBits bits && eqb (length bytes) (bytesFor (length bits))) (0, packed bits) (1, bytes)
 
--- 0 with the bits; 1 with the output as it was where it has room for more bits than there are
+-- 0 with the bits; 1 with the output as it was if it has room for more bits than the bytes have
 abbrev pub unpacking : List ℕ → List ℕ → ℕ × List ℕ
 unpacking bytes bits = cond (ltb (8 * length bytes) (length bits)) (1, bits) (0, unpacked bytes (length bits))
 
--- the bit at an index of a mask, or 2 past its end
+-- the bit at an index of a mask, or 2 if the mask is shorter
 abbrev pub bitAt : List ℕ → ℕ → ℕ
 bitAt mask i = cond (ltb i (8 * length mask)) (maskBit mask i) 2
 
--- the largest number, where a call is not admitted
-abbrev pub none : ℕ
+-- the largest number: the answer to a call that is not admitted
+abbrev none : ℕ
 none = 0xffff_ffff_ffff_ffff
 
--- how many ones a mask has; none where it is longer than 65,536 bytes
+-- how many ones a mask has; `none` if it is longer than 65,536 bytes
 abbrev pub onesAnswer : List ℕ → ℕ
 onesAnswer mask = cond (ltb 65536 (length mask)) none (onesIn mask)
 
--- N looks with the message placed; none with the output as it was for a mask longer than that of the longest code, too short an output or
--- array of bits, or other numbers than bits
+-- N looks with the message placed; `none` with the output as it was if the mask is longer than that of the longest code, the output or the
+-- array of bits is too short, or some number is no bit
 abbrev pub placingAnswer : List ℕ → List ℕ → List ℕ → ℕ × List ℕ
 placingAnswer mask message u =
     cond (ltb longestBytes (length mask)) (none, u)
@@ -63,18 +63,18 @@ placingAnswer mask message u =
     (cond (ltb (length message) (8 * length mask)) (none, u)
     (cond (allBits message) (8 * length mask, splice u 0 (packed (placed mask message (8 * length mask)))) (none, u))))
 
--- N looks with the message taken out; none with the output as it was where bits or output are shorter than N
+-- N looks with the message taken out; `none` with the output as it was if bits or output are shorter than N
 abbrev pub takingAnswer : List ℕ → List ℕ → List ℕ → ℕ × List ℕ
 takingAnswer mask u message =
     cond (ltb (length u) (8 * length mask)) (none, message)
     (cond (ltb (length message) (8 * length mask)) (none, message)
     (8 * length mask, splice message 0 (taken mask u (8 * length mask))))
 
--- the peak, or positive zero for a refusal; at 0 the refusal or 0, at 1 the clipped count, the index or 0
+-- the peak, or positive zero for a refusal. Number 0 is the refusal or 0; number 1 is the clipped count, or the refusal's index or 0.
 abbrev pub probeAnswer : Quantised → List ℕ → Float × List ℕ
 probeAnswer (Done s) numbers = (s .peak, set (set numbers 0 0) 1 (s .clipped))
 probeAnswer (Refused x) numbers = (plusZero, set (set numbers 0 (numberOf x)) 1 (indexOf x))
 
--- the same with the output bytes
+-- the peak and the numbers, with the output bytes
 abbrev pub probeAnswerBy : Quantised × List ℕ → List ℕ → (Float × List ℕ) × List ℕ
 probeAnswerBy answer numbers = (probeAnswer (answer .0) numbers, answer .1)

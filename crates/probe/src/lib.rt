@@ -1,5 +1,5 @@
-// Exports for tests only: what document 01 does not export to C. None has a `requires`; a call that the tested function would
-// not admit gets a number of its own.
+// Exports for tests only: what document 01 does not export to C. None has a `requires`: a call that the tested function does not admit is
+// answered by a number that is no result.
 use arrays::BYTES;
 use code::Description;
 use quantiser::Quantised;
@@ -27,7 +27,7 @@ fn refusal_index(x: Refusal) -> u64
     }
 }
 
-// The refusal or 0 comes back; numbers hold n, r, polynomial, start and k of an accepted description.
+// Returns the refusal's number, or 0. `numbers` holds n, r, polynomial, start and k of an accepted description.
 #[no_mangle]
 pub extern "C" fn probe_description(d: &[u8], numbers: &mut [u64; 5]) -> u64
     ensures { λ x. ⌜ (x, now (numbers .exit)) ≡ descriptionNumbers (describe (now (d .entry))) (now (numbers .entry)) ⌝ }
@@ -59,6 +59,7 @@ fn are_bits(bits: &[u8]) -> bool
     true
 }
 
+// Packs bits. Returns 0, or 1 if the call is not admitted.
 #[no_mangle]
 pub extern "C" fn probe_pack(bits: &[u8], bytes: &mut [u8]) -> u64
     ensures { λ x. ⌜ (x, now (bytes .exit)) ≡ packing (now (bits .entry)) (now (bytes .entry)) ⌝ }
@@ -73,6 +74,7 @@ pub extern "C" fn probe_pack(bits: &[u8], bytes: &mut [u8]) -> u64
     0
 }
 
+// Unpacks bits. Returns 0, or 1 if the call is not admitted.
 #[no_mangle]
 pub extern "C" fn probe_unpack(bytes: &[u8], bits: &mut [u8]) -> u64
     ensures { λ x. ⌜ (x, now (bits .exit)) ≡ unpacking (now (bytes .entry)) (now (bits .entry)) ⌝ }
@@ -84,6 +86,7 @@ pub extern "C" fn probe_unpack(bytes: &[u8], bits: &mut [u8]) -> u64
     0
 }
 
+// Returns the bit of a mask at an index, or 2 if the mask has no such index.
 #[no_mangle]
 pub extern "C" fn probe_mask_bit(mask: &[u8], i: usize) -> u64
     ensures { λ x. ⌜ x ≡ bitAt (now (mask .entry)) i ⌝ }
@@ -94,6 +97,7 @@ pub extern "C" fn probe_mask_bit(mask: &[u8], i: usize) -> u64
     bits::mask_bit(mask, i) as u64
 }
 
+// Returns the number of ones of a mask.
 #[no_mangle]
 pub extern "C" fn probe_ones(mask: &[u8]) -> u64
     ensures { λ x. ⌜ x ≡ onesAnswer (now (mask .entry)) ⌝ }
@@ -104,7 +108,7 @@ pub extern "C" fn probe_ones(mask: &[u8]) -> u64
     bits::ones(mask) as u64
 }
 
-// The number of looks comes back.
+// Places a message. Returns the number of looks.
 #[no_mangle]
 pub extern "C" fn probe_place(mask: &[u8], message: &[u8], u: &mut [u8]) -> u64
     ensures { λ x. ⌜ (x, now (u .exit)) ≡ placingAnswer (now (mask .entry)) (now (message .entry)) (now (u .entry)) ⌝ }
@@ -124,7 +128,7 @@ pub extern "C" fn probe_place(mask: &[u8], message: &[u8], u: &mut [u8]) -> u64
     placing::place(mask, message, u) as u64
 }
 
-// The number of looks comes back.
+// Takes a message out. Returns the number of looks.
 #[no_mangle]
 pub extern "C" fn probe_take_out(mask: &[u8], u: &[u8], message: &mut [u8]) -> u64
     ensures { λ x. ⌜ (x, now (message .exit)) ≡ takingAnswer (now (mask .entry)) (now (u .entry)) (now (message .entry)) ⌝ }
@@ -138,7 +142,7 @@ pub extern "C" fn probe_take_out(mask: &[u8], u: &[u8], message: &mut [u8]) -> u
     placing::take_out(mask, u, message) as u64
 }
 
-// The peak comes back; numbers hold the refusal or 0, then the clipped count, the refusal's index or 0.
+// Returns the peak. `numbers` holds the refusal's number or 0, then the clipped count or the refusal's index or 0.
 #[no_mangle]
 pub extern "C" fn probe_quantise(
     scale: f32,
@@ -146,7 +150,8 @@ pub extern "C" fn probe_quantise(
     output: &mut [u8],
     numbers: &mut [u64; 2],
 ) -> f32
-    ensures { λ peak. ⌜ ((peak, now (numbers .exit)), now (output .exit)) ≡ probeAnswerBy (quantised scale (now (samples .entry)) (now (output .entry))) (now (numbers .entry)) ⌝ }
+    ensures { λ peak. ⌜ ((peak, now (numbers .exit)), now (output .exit))
+        ≡ probeAnswerBy (quantised scale (now (samples .entry)) (now (output .entry))) (now (numbers .entry)) ⌝ }
 {
     match quantiser::quantise(scale, samples, output) {
         Quantised::Done(s) => {

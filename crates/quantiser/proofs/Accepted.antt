@@ -28,7 +28,7 @@ module _ (scale : Float) (samples : List Float) (output : List ℕ) (s : Summary
   p = product scale samples
 
   -- no refusal applied
-  pub admitted : WellFormed scale samples output × (accepted scale samples ≡ answer)
+  admitted : WellFormed scale samples output × (accepted scale samples ≡ answer)
   admitted =
       let w = well-formed-exactly scale samples output .1 (ap (λ (z : Quantised × List ℕ). accepts (z .0)) done) in
       (w, sym (well-formed-answer scale samples output w) ∙ done)

@@ -43,7 +43,7 @@ unfolding round
 round-number f s a c = units-number f s _ _
 
 -- a valid scale times a number
-pub product-number : (f : Format) (scale y : Float) → T (validScale scale) → isNan y ≡ false → T (not (isNan (mul f scale y)))
+product-number : (f : Format) (scale y : Float) → T (validScale scale) → isNan y ≡ false → T (not (isNan (mul f scale y)))
 unfolding mul isNan validScale lt
 product-number f nan y v n = absurd v
 product-number f (inf true) y v n = absurd v

@@ -1,4 +1,4 @@
--- Document 01, "Vectors at the edges": the row on scale 1, and what stands next to it.
+-- Document 01, "Vectors at the edges": the row on scale 1.
 use mathlib.Core.Path.{_≡_, refl}
 use mathlib.Core.List.{List, [], _∷_}
 use Prim.Native.Nat.{ℕ}
@@ -12,7 +12,7 @@ use Rattle.quantiser.specs.declared.Quantised.the-variants.{Done}
 use Rattle.quantiser.specs.Quantise.{larger, peakOf, clippedOf, validScale, quantised}
 
 -- 0.125, −0.125, 0.375, 7.8125 and 7.875
-abbrev pub row : List Float
+abbrev row : List Float
 row =
     ofBits binary32 0x3e00_0000
     ∷ ofBits binary32 0xbe00_0000
@@ -22,7 +22,7 @@ row =
     ∷ []
 
 -- 1, −1, 2, 31 and 31, of which the last is clipped
-abbrev pub answer : Quantised × List ℕ
+abbrev answer : Quantised × List ℕ
 answer = (Done record { peak = ofBits binary32 0x40fc_0000; clipped = 1 }, 1 ∷ 255 ∷ 2 ∷ 31 ∷ 31 ∷ [])
 
 pub row-is : quantised (ofBits binary32 0x3f80_0000) row (0 ∷ 0 ∷ 0 ∷ 0 ∷ 0 ∷ []) ≡ answer

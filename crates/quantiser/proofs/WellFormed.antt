@@ -1,4 +1,4 @@
--- Well-formed input: the quantiser accepts exactly where nothing of 20 to 22 applies.
+-- Well-formed input: the quantiser accepts exactly if none of refusals 20 to 22 applies.
 use mathlib.Core.Path.{_≡_, refl, sym, ap, _∙_, subst}
 use mathlib.Core.Bool.{true, not}
 use mathlib.Core.Logic.{_↔_}
@@ -29,7 +29,7 @@ module _ (scale : Float) (samples : List Float) (output : List ℕ) where
         all-numbers = ltb-false (firstNan samples) (length samples) (t22 .0);
       }
 
-  pub well-formed-fine : WellFormed scale samples output → judge (quantisingRefusals scale samples output) ≡ Fine
+  well-formed-fine : WellFormed scale samples output → judge (quantisingRefusals scale samples output) ≡ Fine
   well-formed-fine a =
       judge-no _ _ _ (differs-no (length samples) (length output) (a .same-length))
       ∙ judge-no _ _ _ (ap not (is-true (validScale scale) (a .scale-valid)))

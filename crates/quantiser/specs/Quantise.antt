@@ -22,24 +22,25 @@ product scale samples i = mul binary32 scale (getD samples i nan)
 abbrev pub bytes : (ℕ → Float) → ℕ → List ℕ
 bytes p n = table (λ i. levelOf (p i) .byte) n
 
+-- the larger of two floats
 unfoldable pub larger : Float → Float → Float
 larger a b = cond (lt b a) a b
 
--- the largest magnitude among them, and positive zero for none
+-- the largest magnitude of these products, and positive zero if n is 0
 unfoldable pub peakOf : (ℕ → Float) → ℕ → Float
 peakOf p zero = plusZero
 peakOf p (suc n) = larger (peakOf p n) (levelOf (p n) .magnitude)
 
--- how many of them are clipped
+-- how many of these products are clipped
 unfoldable pub clippedOf : (ℕ → Float) → ℕ → ℕ
 clippedOf p zero = 0
 clippedOf p (suc n) = clippedOf p n + levelOf (p n) .clipped
 
--- finite and above zero
+-- whether a scale is finite and above zero
 unfoldable pub validScale : Float → Bool
 validScale scale = lt plusZero scale && lt scale (inf false)
 
--- the first index of a sample that is not a number, or the length
+-- the first index of a sample that is not a number, or the length if there is none
 abbrev pub firstNan : List Float → ℕ
 firstNan samples = firstWhere (λ i. isNan (getD samples i nan)) (length samples)
 
@@ -51,14 +52,14 @@ quantisingRefusals scale samples output =
     ∷ (ltb (firstNan samples) (length samples), At 22 (firstNan samples))
     ∷ []
 
--- where none of them applies
+-- the answer and the output bytes if no refusal applies
 abbrev pub accepted : Float → List Float → Quantised × List ℕ
 accepted scale samples =
     let p = product scale samples in
     let n = length samples in
     (Done (record { peak = peakOf p n; clipped = clippedOf p n }), bytes p n)
 
--- the answer and the bytes that the output holds afterwards: a refusal writes nothing
+-- the answer, and the bytes that the output holds afterwards. A refusal writes nothing.
 unfoldable pub quantised : Float → List Float → List ℕ → Quantised × List ℕ
 quantised scale samples output =
     refusedOr (judge (quantisingRefusals scale samples output)) (λ x. (Refused x, output)) (accepted scale samples)

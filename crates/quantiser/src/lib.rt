@@ -7,25 +7,30 @@ ghost use Rattle.refusal.specs.Judge.{judge};
 ghost use Rattle.quantiser.specs.Quantise.{larger, validScale, firstNan, quantisingRefusals, accepted, quantised};
 ghost use Rattle.quantiser.specs.Claims.{WellFormed};
 
-// What is told of the products: the largest magnitude, and how many were clipped.
+// What is reported of the products.
 pub struct Summary {
+    // the largest magnitude
     pub peak: f32,
+    // how many products were clipped
     pub clipped: usize,
 }
 
-// What quantise answers: the bytes are written, or the refusal.
+// What quantise answers.
 pub enum Quantised {
+    // the bytes are written
     Done(Summary),
+    // nothing is written
     Refused(Refusal),
 }
 
+// The larger of two floats.
 fn larger_of(a: f32, b: f32) -> f32
     ensures { λ r. ⌜ r ≡ larger a b ⌝ }
 {
     if b < a { a } else { b }
 }
 
-// Writes the byte of every sample.
+// Writes the byte of every sample. Returns the summary of the products.
 fn fill(scale: f32, samples: &[f32], output: &mut [u8]) -> Summary
     requires { ⌜ WellFormed scale (now samples) (now output) ⌝ }
     ensures { λ s. ⌜ (Quantised.Done s, now (output .exit)) ≡ accepted scale (now (samples .entry)) ⌝ }
@@ -54,7 +59,7 @@ fn is_valid(scale: f32) -> bool
     }
 }
 
-// The index of the first sample that is not a number, or the length.
+// The index of the first sample that is not a number, or the length if there is none.
 fn first_nan(samples: &[f32]) -> usize
     ensures { λ i. ⌜ i ≡ firstNan (now (samples .entry)) ⌝ }
 {
@@ -69,7 +74,7 @@ fn first_nan(samples: &[f32]) -> usize
     i
 }
 
-// Refusals 20 to 22.
+// Judges a call: refusals 20 to 22.
 fn judge_quantising(scale: f32, samples: &[f32], output: &[u8]) -> Judgement
     ensures { λ j. ⌜ j ≡ judge (quantisingRefusals scale (now (samples .entry)) (now (output .entry))) ⌝ }
 {

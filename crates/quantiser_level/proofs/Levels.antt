@@ -15,7 +15,7 @@ use Rattle.channel.specs.Channel.{clip}
 use Rattle.quantiser_level.specs.Level.{plusZero, quarters, signed, whole, level, isClipped}
 use Rattle.quantiser_level.proofs.Nearest.{nearest-zero, nearest-from, nearest-below, nearest-closest}
 
-pub abs-signed : (s : Bool) (n : ℕ) → natAbs (signed s n) ≡ n
+abs-signed : (s : Bool) (n : ℕ) → natAbs (signed s n) ≡ n
 abs-signed true n = abs-neg (pos n)
 abs-signed false n = refl
 
@@ -24,7 +24,7 @@ clip-signed true zero = refl
 clip-signed true (suc n) = refl
 clip-signed false n = refl
 
-pub abs-whole : (p : Float) → natAbs (whole p) ≡ quarters p
+abs-whole : (p : Float) → natAbs (whole p) ≡ quarters p
 unfolding whole
 abs-whole p = abs-signed (lt p plusZero) (quarters p)
 
@@ -53,7 +53,7 @@ whole-signed true (suc m) e = rw (lt-ltb 0 (suc m * up e * 1 + 0 * 1 * down e) (
 
 module _ (s : Bool) (m : ℕ) (e : ℤ) where
   -- 4|p| times down e
-  abbrev pub four : ℕ
+  abbrev four : ℕ
   four = 4 * (m * up e)
 
   pub quarters-from : (2 * quarters (fin s m e) - 1) * down e ≤ 2 * four

@@ -49,7 +49,7 @@ nearest-from a d = by (nearest a d) (halves-from a d)
 pub nearest-below : (a d : ℕ) → 0 < d → 2 * a < (2 * nearest a d + 1) * d
 nearest-below a d D = omega (arith, odd-times (nearest a d) d, halves-below a d D)
 
--- ---- no whole number z is nearer: first where z is not negative
+-- ---- no whole number z is nearer: first if z is not negative
 
 gap : (a d k : ℕ) → 0 < d → (nearest a d * d - a) + (a - nearest a d * d) ≤ (k * d - a) + (a - k * d)
 gap a d k D = by (ltb k n) (ltb n k) refl refl

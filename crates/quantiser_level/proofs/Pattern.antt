@@ -134,10 +134,10 @@ pub shifted-lt : (c : ℕ) → c ≤ 0x40ff_ffff → shifted c < 0x4000_0000
 shifted-lt c h = lt-of-lt-of-le (shl-lt 24 (c / 0x80_0000 - 123) (omega arith)) (pow-mono {i = 24 + (c / 0x80_0000 - 123)} {j = 30} (omega arith))
 
 -- what the code makes of the bits m of a magnitude
-abbrev pub clamp : ℕ → ℕ
+abbrev clamp : ℕ → ℕ
 clamp m = max 0x3dff_ffff (min 0x40ff_ffff m)
 
-abbrev pub converted : ℕ → ℕ
+abbrev converted : ℕ → ℕ
 converted c = nearest (shifted c) 0x200_0000
 
 converted-is : (n m : ℕ) → (m < 0x3e00_0000 → n ≡ 0) → (0x3e00_0000 ≤ m → m ≤ 0x40ff_ffff → n ≡ converted m) → (0x40ff_ffff < m → 32 ≤ n) → converted (clamp m) ≡ min 32 n

@@ -7,6 +7,7 @@ use lib.IntN.{ℤ, pos, negℤ, natAbs}
 use Rattle.channel.specs.Channel.{byteOf, clip}
 use Rattle.quantiser_level.specs.declared.Level.{Level}
 
+-- positive zero
 abbrev pub plusZero : Float
 plusZero = fin false 0 (pos 0)
 
@@ -20,8 +21,8 @@ magnitude (fin s m e) = fin false m e
 abbrev pub nearest : ℕ → ℕ → ℕ
 nearest a d = (2 * a + d) / (2 * d)
 
--- the whole number nearest to the exact value of 4|p|. An infinite p counts as 32, so it is clipped, to 31 with its sign; no sample
--- that is not a number gets so far.
+-- the whole number nearest to the exact value of 4|p|. An infinite p counts as 32, so it is clipped, to 31 with its sign. A sample
+-- that is not a number is refused before.
 unfoldable pub quarters : Float → ℕ
 quarters nan = 0
 quarters (inf s) = 32
@@ -39,10 +40,10 @@ whole p = signed (lt p plusZero) (quarters p)
 unfoldable pub level : Float → ℤ
 level p = clip (whole p)
 
--- whether the nearest whole number lies outside that range
+-- whether the nearest whole number lies outside −31..31
 unfoldable pub isClipped : Float → Bool
 isClipped p = ltb 31 (natAbs (whole p))
 
--- what becomes of p: its byte, 1 where it is clipped or else 0, and its magnitude
+-- what becomes of p: its byte, 1 if it is clipped, else 0, and its magnitude
 abbrev pub levelOf : Float → Level
 levelOf p = record { byte = byteOf (level p); clipped = cond (isClipped p) 1 0; magnitude = magnitude p }

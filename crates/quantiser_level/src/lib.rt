@@ -7,14 +7,17 @@ ghost use lib.Ieee.{binary32, mul, isNan};
 ghost use Rattle.channel.specs.Channel.{byteOf};
 ghost use Rattle.quantiser_level.specs.Level.{magnitude, nearest, quarters, level, levelOf};
 
-// What becomes of one sample: its byte, 1 where its product is clipped or else 0, and its product's magnitude.
+// What becomes of one sample.
 pub struct Level {
+    // its channel value
     pub byte: u8,
+    // 1 if its product is clipped, else 0
     pub clipped: usize,
+    // the magnitude of its product
     pub magnitude: f32,
 }
 
-// A magnitude's bits, no further down than the last float below 1/8 and no further up than the last below 8.
+// The bit pattern of a magnitude, clamped between the largest float below 1/8 and the largest below 8.
 fn clamped(bits: u32) -> u32
     ensures { λ r. ⌜ r ≡ max 0x3dff_ffff (min 0x40ff_ffff bits) ⌝ }
 {
@@ -35,8 +38,8 @@ fn rounded(v: u32) -> u32
     (v + 0x100_0000) >> 25
 }
 
-// The whole number nearest to 4|p|, or 32 where it is larger. The significand is shifted so that 4|p| has 25 bits of fraction; what is
-// below 1/8 gives 0, and what is 8 or more gives 32.
+// The whole number nearest to 4|p|, or 32 if that number is larger. The significand is shifted so that 4|p| has 25 bits of fraction. A
+// magnitude below 1/8 becomes 0, and one of 8 or more becomes 32.
 fn nearest_quarters(p: f32) -> u32
     requires { ⌜ T (not (isNan p)) ⌝ }
     ensures { λ n. ⌜ n ≡ min 32 (quarters p) ⌝ }
@@ -46,8 +49,7 @@ fn nearest_quarters(p: f32) -> u32
     rounded(significand << (bits / 0x80_0000 - 123))
 }
 
-// The output byte, n being the whole number nearest to 4|p|, or 32 where it is larger. 32, which stands for all that is clipped,
-// becomes 31.
+// The output byte. n is the whole number nearest to 4|p|, or 32 if that number is larger; 32 is clipped to 31.
 fn level_byte(p: f32, n: u32) -> u8
     requires { ⌜ n ≡ min 32 (quarters p) ⌝ }
     ensures { λ b. ⌜ b ≡ byteOf (level p) ⌝ }
@@ -68,7 +70,7 @@ fn absolute(p: f32) -> f32
     f32::from_bits(f32::to_bits(p) % 0x8000_0000)
 }
 
-// What becomes of the sample y. The product is a number where the scale is valid and y is a number.
+// What becomes of the sample y. The product is a number if the scale is valid and y is a number.
 pub fn quantise_one(scale: f32, y: f32) -> Level
     requires { ⌜ T (not (isNan (mul binary32 scale y))) ⌝ }
     ensures { λ l. ⌜ l ≡ levelOf (mul binary32 scale y) ⌝ }

@@ -1,5 +1,5 @@
 // Reads records from standard input, and prints a line for each. What is read next, what is printed and when it is written is decided and proved
-// in `records`: only reading and writing are here.
+// in `receive_stream`: this file only reads and writes.
 use code::LONGEST;
 use libc::STDIN_FILENO;
 use libc::STDOUT_FILENO;

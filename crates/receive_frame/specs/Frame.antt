@@ -1,5 +1,5 @@
--- Document 01, "Program `receive`": the line of a channel record, from the held description and the record's bytes. Nothing held is the
--- empty list.
+-- Document 01, "Program `receive`": the line of a channel record, from the held description and the record's bytes. The held description
+-- is the empty list if none is held.
 use mathlib.Core.List.{List, [], _∷_}
 use Prim.Native.Nat.{ℕ}
 use lib.Dec.{ltb, eqb}

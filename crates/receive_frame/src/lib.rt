@@ -55,8 +55,13 @@ fn put_decoded(
     limit: u32,
     payload: &mut [u8],
 ) -> usize
-    requires { do ⌜ Coded (now mask) code × (length (now payload) ≤ (← ⟦BYTES⟧)) × ((← ⟦LINE⟧) ≤ length (now line)) ⌝ }
-    ensures { λ next. ⌜ PutPost (now (line .entry)) 0 (lineOfAnswer (decodedBy (planOf After limit) (now (mask .entry)) code (now (channel .entry)) (now (payload .entry)))) (now (line .exit)) next ⌝ }
+    requires { do
+      ⌜ Coded (now mask) code
+          × (length (now payload) ≤ (← ⟦BYTES⟧))
+          × ((← ⟦LINE⟧) ≤ length (now line)) ⌝ }
+    ensures { λ next. ⌜ PutPost (now (line .entry)) 0
+        (lineOfAnswer (decodedBy (planOf After limit) (now (mask .entry)) code (now (channel .entry)) (now (payload .entry))))
+        (now (line .exit)) next ⌝ }
 {
     let plan = Plan {
         restart: Restart::After,

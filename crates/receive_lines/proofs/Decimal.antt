@@ -1,5 +1,4 @@
--- A number's decimal digits: one digit more for each division by ten; read back they give the number, and the first is not 0 unless the
--- number is.
+-- A number's decimal digits: one digit more for each division by ten; they can be read back, and the first is not 0 unless the number is.
 use mathlib.Core.Path.{_≡_, refl, sym, ap, _∙_, subst}
 use mathlib.Core.Bool.{Bool, true, false, cond}
 use mathlib.Core.List.{List, [], _∷_, _++_}
@@ -72,7 +71,7 @@ read-append : (x : ℕ) (ds es : List ℕ) → readFrom x (ds ++ es) ≡ readFro
 read-append x [] es = refl
 read-append x (d ∷ ds) es = read-append (x * 10 + (d - digit 0)) ds es
 
--- the digits read back give the number
+-- the digits, read back, are the number
 pub decimal-reads : (n : ℕ) → readFrom 0 (decimal n) ≡ n
 decimal-reads = decimal-ind (λ n ds. readFrom 0 ds ≡ n) (λ n h. omega arith) more
   where

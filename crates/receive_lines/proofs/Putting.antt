@@ -36,7 +36,7 @@ put-byte {w} {at} {x} h = record {
   after-is = set-split w at x h ∙ ap (λ (k : ℕ). take at w ++ (x ∷ drop k w)) (sym (add-one at));
 }
 
--- the same text
+-- text that equals another
 pub put-as : {w xs w′ : List ℕ} {at k : ℕ} → PutPost w at xs w′ k → (ys : List ℕ) → xs ≡ ys → PutPost w at ys w′ k
 put-as {w} {xs} {w′} {at} {k} p ys e = subst (λ (l : List ℕ). PutPost w at l w′ k) e p
 

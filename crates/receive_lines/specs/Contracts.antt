@@ -10,7 +10,7 @@ use Rattle.arrays.specs.Claims.{longestBytes}
 abbrev pub longestLine : ℕ
 longestLine = 2 + 2 * 21 + 1 + 2 * longestBytes + 1
 
--- text stands at `at` in what was `before` and is `after`, and `next` is the place past it
+-- the buffer `before` is `after` once `text` is put from index `at` on, and `next` is the index after the text
 pub record PutPost (before : List ℕ) (at : ℕ) (text after : List ℕ) (next : ℕ) : Type 0 where
   pub next-is : next ≡ at + length text
   pub fits : next ≤ length before

@@ -10,7 +10,7 @@ use Rattle.receive_lines.specs.Text.{text}
 abbrev pub digit : ℕ → ℕ
 digit d = code "0" + d
 
--- the decimal digits of n, where `places` of them suffice
+-- the decimal digits of n, if `places` digits suffice
 unfoldable pub decimalIn : ℕ → ℕ → List ℕ
 decimalIn zero n = []
 decimalIn (suc places) n = cond (ltb n 10) (digit n ∷ []) (decimalIn places (n / 10) ++ (digit (n % 10) ∷ []))
@@ -28,10 +28,11 @@ abbrev pub hex : List ℕ → List ℕ
 hex [] = []
 hex (byte ∷ bytes) = hexDigit (byte / 16) ∷ hexDigit (byte % 16) ∷ hex bytes
 
--- one space between fields, one line feed after each line
+-- a field after its space: one space between fields
 abbrev pub spaced : List ℕ → List ℕ
 spaced field = text " " ++ field
 
+-- the fields after a line's first word, and one line feed after each line
 abbrev pub fields : List (List ℕ) → List ℕ
 fields [] = text "\n"
 fields (field ∷ rest) = spaced field ++ fields rest

@@ -1,4 +1,4 @@
--- Text as bytes (ASCII), for the lines of document 01, "Program `receive`".
+-- Document 01, "Program `receive`": the text of its lines as bytes (ASCII).
 use mathlib.Core.List.{List}
 use mathlib.Core.List.{[] as nil, _∷_ as cons}
 use Prim.Native.Nat.{ℕ}

@@ -11,7 +11,7 @@ ghost use Rattle.receive_lines.specs.Contracts.{PutPost};
 // hexadecimal; and the line feed.
 pub const LINE: usize = 2 + 2 * 21 + 1 + 2 * BYTES + 1;
 
-// Puts bytes into a buffer, and answers the place past them.
+// Puts bytes into a buffer from index `at` on. Returns the index after the last of them.
 pub fn put_bytes(buffer: &mut [u8], at: usize, bytes: &[u8]) -> usize
     requires { ⌜ at + length (now bytes) ≤ length (now buffer) ⌝ }
     ensures { λ next. ⌜ PutPost (now (buffer .entry)) at (now (bytes .entry)) (now (buffer .exit)) next ⌝ }
@@ -20,7 +20,7 @@ pub fn put_bytes(buffer: &mut [u8], at: usize, bytes: &[u8]) -> usize
     at + bytes.len()
 }
 
-// Puts a number in decimal: the digits of its tenth, then its last digit.
+// Puts a number in decimal: the digits of n / 10, then the last digit.
 fn put_decimal(line: &mut [u8], at: usize, n: u64) -> usize
     requires { ⌜ at + length (decimal n) ≤ length (now line) ⌝ }
     ensures { λ next. ⌜ PutPost (now (line .entry)) at (decimal n) (now (line .exit)) next ⌝ }
@@ -37,12 +37,14 @@ fn put_decimal(line: &mut [u8], at: usize, n: u64) -> usize
 // Puts a space and a number, which has at most 20 digits.
 fn put_number(line: &mut [u8], at: usize, n: u64) -> usize
     requires { ⌜ at + 21 ≤ length (now line) ⌝ }
-    ensures { λ next. ⌜ PutPost (now (line .entry)) at (spaced (decimal n)) (now (line .exit)) next × (next ≤ at + 21) ⌝ }
+    ensures { λ next. ⌜ PutPost (now (line .entry)) at (spaced (decimal n)) (now (line .exit)) next
+        × (next ≤ at + 21) ⌝ }
 {
     line[at] = b' ';
     put_decimal(line, at + 1, n)
 }
 
+// A lower-case hexadecimal digit.
 fn hex_digit(d: u8) -> u8
     requires { ⌜ d < 16 ⌝ }
     ensures { λ r. ⌜ r ≡ hexDigit d ⌝ }
@@ -101,7 +103,7 @@ pub fn put_ok(line: &mut [u8], trial: u64, steps: u64, payload: &[u8]) -> usize
     put_bytes(line, at, b"\n")
 }
 
-// The line where the input ends inside a record.
+// The line `cut`: the input ends inside a record, or a length is below 4.
 pub fn put_cut(line: &mut [u8]) -> usize
     requires { do ⌜ (← ⟦LINE⟧) ≤ length (now line) ⌝ }
     ensures { λ next. ⌜ PutPost (now (line .entry)) 0 cutLine (now (line .exit)) next ⌝ }

@@ -20,6 +20,6 @@ answers-line {w} {text} {w′} {held} {next} {size} p h = record {
   answer-is = ap (λ (x : List ℕ). (x, take size held)) (take-put p);
 }
 
--- the same answer
+-- an answer that equals another
 pub answers-as : {a : List ℕ × List ℕ} {line held : List ℕ} {r : Response} → RespondPost a line held r → (b : List ℕ × List ℕ) → a ≡ b → RespondPost b line held r
 answers-as {a} {line} {held} {r} p b e = subst (λ (x : List ℕ × List ℕ). RespondPost x line held r) e p

@@ -1,4 +1,4 @@
--- What a record leaves held: itself, where it is a description that is accepted, else what was held.
+-- The description that is held after a record: the record itself if it is an accepted description, else the one held before.
 use mathlib.Core.Path.{_≡_, refl, ap, _∙_}
 use mathlib.Core.Bool.{Bool, true, false, cond}
 use mathlib.Core.List.{List}

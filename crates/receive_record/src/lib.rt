@@ -10,15 +10,19 @@ ghost use lib.ListN.{length, take};
 ghost use Rattle.receive_record.specs.Contracts.{RespondPre, RespondPost, headerOf};
 ghost use Rattle.receive_record.specs.Respond.{descriptionResponse, responded};
 
-// A record's length in bytes, counting its header, and its kind.
+// The start of a record.
 pub struct Header {
+    // the record's length in bytes, header included
     pub length: usize,
+    // the record's kind
     pub kind: u32,
 }
 
-// What a record does: how long its line is, and how long the description that is held afterwards, 0 where none is.
+// What was done with a record.
 pub struct Response {
+    // the length of its line
     pub line: usize,
+    // the length of the description that is held afterwards, 0 if none is
     pub held: usize,
 }
 
@@ -33,7 +37,7 @@ pub fn read_header(bytes: &[u8]) -> Header
     }
 }
 
-// A description: it is held where it is accepted.
+// Responds to a description: it is held if it is accepted.
 fn respond_description(held: &mut [u8], size: usize, bytes: &[u8], line: &mut [u8]) -> Response
     requires { do ⌜ RespondPre (← ⟦LONGEST⟧) (← ⟦LINE⟧) (now held) size (now bytes) (now line) ⌝ }
     ensures { λ a. ⌜ RespondPost (descriptionResponse (take size (now (held .entry))) (now (bytes .entry))) (now (line .exit)) (now (held .exit)) a ⌝ }
@@ -50,8 +54,8 @@ fn respond_description(held: &mut [u8], size: usize, bytes: &[u8], line: &mut [u
     }
 }
 
-// What a whole record does: its line is put at the start of `line`. The first `size` bytes of `held` are the description that is held;
-// nothing is held at the start, when `size` is 0.
+// Responds to a whole record: its line is put at the start of `line`. The first `size` bytes of `held` are the description that is held;
+// `size` is 0 if none is.
 pub fn respond(held: &mut [u8], size: usize, bytes: &[u8], line: &mut [u8]) -> Response
     requires { do ⌜ RespondPre (← ⟦LONGEST⟧) (← ⟦LINE⟧) (now held) size (now bytes) (now line) ⌝ }
     ensures { λ a. ⌜ RespondPost (responded (take size (now (held .entry))) (now (bytes .entry))) (now (line .exit)) (now (held .exit)) a ⌝ }

@@ -1,4 +1,4 @@
--- Text behind what waits in the output.
+-- Text put after what waits in the output.
 use mathlib.Core.Path.{_≡_, sym, ap, _∙_}
 use mathlib.Core.List.{List, _++_}
 use Prim.Native.Nat.{ℕ, _+_, _≤_}
@@ -9,7 +9,7 @@ use lib.Seq.{length-take-le, take-append-add, take-append-le}
 use Rattle.receive_lines.specs.Contracts.{PutPost}
 use Rattle.receive_lines.proofs.Putting.{length-put, take-put}
 
--- the first k bytes of a part that stands at `at`
+-- the first k bytes of a part from index `at` on
 pub take-behind : (output part : List ℕ) (at n k : ℕ) → at ≤ length output → k ≤ length part → take (at + k) (putMid at n output part) ≡ take at output ++ take k part
 take-behind output part at n k l m =
     ap (λ (j : ℕ). take (j + k) (putMid at n output part)) (sym (length-take-le at output l))

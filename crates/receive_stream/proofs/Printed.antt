@@ -37,7 +37,7 @@ printed-first held count r rest p =
     ∙ append-assoc (responded held r .0) (responses (responded held r .1) (recordsOf rest .0)) _
     ∙ ap (λ (k : ℕ). responded held r .0 ++ (responses (responded held r .1) (recordsOf rest .0) ++ ending (recordsOf rest .1) k)) many
 
--- the lines of records and of those behind them
+-- the lines of records and of those after them
 responses-append : (held : List ℕ) (rs more : List (List ℕ)) → responses held (rs ++ more) ≡ responses held rs ++ responses (heldAfter held rs) more
 unfolding responses
 responses-append held [] more = refl
@@ -45,7 +45,7 @@ responses-append held (r ∷ rs) more =
     ap (λ (x : List ℕ). responded held r .0 ++ x) (responses-append (responded held r .1) rs more)
     ∙ sym (append-assoc (responded held r .0) (responses (responded held r .1) rs) (responses (heldAfter (responded held r .1) rs) more))
 
--- each line is a record's response, in order: behind the lines of the records before it and before those of the records after it
+-- each line is a record's response, in order: after the lines of the records before it and before those of the records after it
 pub line-in-order : (input : List ℕ) (before : List (List ℕ)) (r : List ℕ) (after : List (List ℕ)) → recordsOf input .0 ≡ before ++ (r ∷ after)
     → let a = responded (heldAfter [] before) r in printed input ≡ responses [] before ++ (a .0 ++ (responses (a .1) after ++ ending (recordsOf input .1) (length (recordsOf input .0))))
 unfolding printedFrom responses

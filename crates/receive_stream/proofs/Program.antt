@@ -1,4 +1,4 @@
--- What the program writes: all that the input prints, in at most one turn for each byte and one more. And where `advance` answers, an input has a run.
+-- What the program writes: all that the input prints, in at most one turn for each byte and one more. And every input has a run if `advance` answers.
 use mathlib.Core.Path.{_≡_, refl, sym, ap, _∙_, subst}
 use mathlib.Core.Bool.{Bool, cond}
 use mathlib.Core.List.{List, [], _∷_, _++_, append-assoc, append-nil}
@@ -37,9 +37,9 @@ turns-most (turn (x ∷ piece) rest some few ends size read p r) = omega (arith,
 pub run-printed : {turns : ℕ} {bytes held output input text : List ℕ} → Run AdvancePost turns starting bytes held output input text → (text ≡ printed input) × (turns ≤ length input + 1)
 run-printed r = (run-yet r, turns-most r)
 
--- ---- an input has a run where `advance` answers as its contract says, by any rule of how many of the wanted bytes come in a turn
+-- ---- an input has a run if `advance` answers as its contract says, by any rule of how many of the wanted bytes come in a turn
 
--- what was there, and the piece behind it
+-- what had been read, and the piece after it
 there-and-piece : (bytes piece : List ℕ) (at : ℕ) → at + length piece ≤ length bytes → take (at + length piece) (splice bytes at piece) ≡ take at bytes ++ piece
 there-and-piece bytes piece at l =
     take-add at (length piece) (splice bytes at piece)
@@ -50,13 +50,13 @@ there-and-piece bytes piece at l =
 pub starts : (held output : List ℕ) → room ≤ length output → Between starting [] held output
 starts held output k = record { there-is = refl; wanted-is = λ _. refl; wanted-fits = omega arith; held-most = omega arith; counts = omega arith; output-room = k }
 
--- what `advance` promises: where its conditions hold it answers, and its buffers keep their sizes
+-- what `advance` promises: if its conditions hold it answers, and its buffers keep their sizes
 abbrev Answers : ℕ → Type 0
 Answers longest =
     (s : Stream) (got : ℕ) (bytes held output : List ℕ) → AdvancePre longest s got bytes held output
     → (held′ : List ℕ) × (output′ : List ℕ) × (s′ : Stream) × (length held′ ≡ length held) × AdvancePost s got bytes held output held′ output′ s′
 
--- where a run can go on
+-- a state from which a run can go on
 record CanRun (longest : ℕ) (s : Stream) (bytes held output input : List ℕ) : Type 0 where
   between : Between s (take (s .there) bytes) held output
   record-room : longestRecord ≤ length bytes
@@ -146,7 +146,7 @@ module _ {longest : ℕ} (answers : Answers longest) (size : ℕ → ℕ) (some 
 -- ---- an input of no bytes, with no more asked than room
 
 module _ (bytes held output : List ℕ) (record-room : longestRecord ≤ length bytes) (output-room : room ≤ length output) where
-  -- where the only turn leaves the stream: `end` is ready
+  -- the stream after the only turn: `end` is ready
   abbrev ended : Stream
   ended = record { there = 0; wanted = 0; held = 0; count = 0; turns = 1; waiting = 0; ready = length (endLine 0) }
 

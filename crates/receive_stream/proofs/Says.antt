@@ -1,4 +1,4 @@
--- What the bytes of a record that are there say of it.
+-- What is known of a record from the bytes read so far.
 use mathlib.Core.Path.{_≡_, refl, subst}
 use mathlib.Core.Logic.{_⊎_, inl, inr, ⊎-elim}
 use mathlib.Core.List.{List, _++_}

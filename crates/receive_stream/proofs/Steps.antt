@@ -1,4 +1,4 @@
--- What each way of going on prints, from what the bytes that are there say.
+-- What each way of going on prints, from what is known of the current record.
 use mathlib.Core.Path.{_≡_, refl, sym, ap, ap₂, _∙_, subst}
 use mathlib.Core.Bool.{Bool, cond}
 use mathlib.Core.Logic.{⊎-elim}
@@ -20,14 +20,14 @@ use Rattle.receive_stream.proofs.Whole.{none-whole, word-append}
 use Rattle.receive_stream.proofs.Printed.{printed-end, printed-cut, printed-first}
 use Rattle.receive_stream.proofs.Says.{says, some-missing, within}
 
--- ---- what is there and what is not read
+-- ---- what has been read and what has not
 
 -- a whole record: it has no byte more than its length
 is-record : (bytes : List ℕ) → aheadOf bytes ≡ Whole → (4 ≤ word bytes 0 → length bytes ≤ word bytes 0) → IsRecord bytes
 is-record bytes e f = let s = says bytes Whole e in record { least = s .0; length-is = omega (arith, f (s .1)) }
 
 module _ (held : List ℕ) (count : ℕ) (bytes : List ℕ) where
-  -- a length below 4, whatever comes behind
+  -- a length below 4, whatever follows
   short-cut : (rest : List ℕ) → aheadOf bytes ≡ Short → printedFrom held count (bytes ++ rest) ≡ cutLine ++ endLine count
   short-cut rest e =
       let s = says bytes Short e in
@@ -41,14 +41,14 @@ module _ (held : List ℕ) (count : ℕ) (bytes : List ℕ) where
 -- ---- the steps
 
 module _ {longest : ℕ} (s : Stream) (got : ℕ) (bytes held output : List ℕ) (pre : AdvancePre longest s got bytes held output) where
-  -- what is there once `got` bytes have been read
+  -- the bytes of the record once `got` more have been read
   abbrev there : List ℕ
   there = take (s .there + got) bytes
 
   abbrev printing : List ℕ → List ℕ
   printing rest = printedFrom (take (s .held) held) (s .count) (there ++ rest)
 
-  -- no byte of the next record is there
+  -- no byte of the next record has been read
   none-there : (s′ : Stream) → s′ .there ≡ 0 → length (take (s′ .there) bytes) ≡ s′ .there
   none-there s′ e = ap (λ (n : ℕ). length (take n bytes)) e ∙ sym e
 

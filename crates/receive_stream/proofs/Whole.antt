@@ -1,4 +1,4 @@
--- Where a whole record comes first in the input, and where none does.
+-- Inputs that begin with a whole record, and inputs that do not.
 use mathlib.Core.Path.{_≡_, refl, ap₂}
 use mathlib.Core.Bool.{Bool, true, false, _&&_, and-eq-true-iff}
 use mathlib.Core.List.{List, _++_}
@@ -27,7 +27,7 @@ whole-starts input e =
     let q = and-eq-true-iff (leb 4 (word input 0)) (leb (word input 0) (length input)) .0 (p .1) in
     record { header = leb-true _ _ (p .0); least = leb-true _ _ (q .0); most = leb-true _ _ (q .1) }
 
--- none where one of them fails
+-- no whole record, if one of them fails
 pub none-whole : (input : List ℕ) → (Starts input → ⊥) → startsWhole input ≡ false
 none-whole input f = go (startsWhole input) refl
   where
@@ -35,6 +35,6 @@ none-whole input f = go (startsWhole input) refl
     go true e = absurd (f (whole-starts input e))
     go false e = refl
 
--- the length stands in the first two bytes
+-- the length is in the first two bytes
 pub word-append : (r rest : List ℕ) → 4 ≤ length r → word (r ++ rest) 0 ≡ word r 0
 word-append r rest l = ap₂ (λ (x y : ℕ). x + 256 * y) (List·getD-append r rest 0 0 (omega arith)) (List·getD-append r rest 0 1 (omega arith))

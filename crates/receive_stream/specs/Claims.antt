@@ -8,16 +8,21 @@ use Rattle.code.specs.Description.{word}
 use Rattle.receive_record.specs.Respond.{responded}
 use Rattle.receive_stream.specs.Stream.{startsWhole}
 
--- a whole record: its length field counts its bytes, and length and kind are there
+-- a whole record
 pub record IsRecord (bytes : List ℕ) : Type 0 where
+  -- it has length and kind
   pub least : 4 ≤ length bytes
+  -- its length field is the number of its bytes
   pub length-is : word bytes 0 ≡ length bytes
 
--- Whole records in order, and what is left of the input: together they are the input, and no whole record comes first in what is left.
--- `records-of` and `records-only` of proofs/Split.antt prove that `recordsOf` gives these and no others.
+-- Whole records in order, and what is left of the input.
+-- `records-of` and `records-only` of proofs/Split.antt prove that `recordsOf` finds these and no others.
 pub record Split (input : List ℕ) (records : List (List ℕ)) (left : List ℕ) : Type 0 where
+  -- together they are the input
   pub joins : flatten records ++ left ≡ input
+  -- each record is whole
   pub each : (i : ℕ) → i < length records → IsRecord (getD records i [])
+  -- what is left begins with no whole record
   pub none : startsWhole left ≡ false
 
 -- the description that is held after records

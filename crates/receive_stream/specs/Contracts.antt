@@ -25,23 +25,23 @@ longestRecord = 65535
 abbrev pub mostTurns : ℕ
 mostTurns = 18446744073709551615
 
--- a stream of which nothing has been read
+-- the state before the first read
 abbrev pub starting : Stream
 starting = record { there = 0; wanted = 4; held = 0; count = 0; turns = 0; waiting = 0; ready = 0 }
 
--- what the bytes of a record that are there say
+-- what is known of a record from the bytes read so far
 abbrev pub aheadOf : List ℕ → Ahead
 aheadOf bytes =
     cond (ltb (length bytes) 4) (Missing (4 - length bytes))
     (cond (ltb (word bytes 0) 4) Short (cond (ltb (length bytes) (word bytes 0)) (Missing (word bytes 0 - length bytes)) Whole))
 
--- what is missing has room in the longest record
+-- what is missing fits the longest record
 abbrev pub Fits : List ℕ → Ahead → Type 0
 Fits bytes Whole = Unit
 Fits bytes (Missing n) = length bytes + n ≤ longestRecord
 Fits bytes Short = Unit
 
--- how much is written of what waits in an output of `size` bytes: all or nothing, and what is left leaves room
+-- how many of the waiting bytes are written now, in an output of `size` bytes: all or none, and what still waits leaves room for a step
 pub record ReadyPost (waiting size ready : ℕ) : Type 0 where
   pub most : ready ≤ waiting
   pub splits : (output : List ℕ) → take ready output ++ take (waiting - ready) output ≡ take waiting output
@@ -56,7 +56,7 @@ pub record RespondToPre (longest : ℕ) (s : Stream) (bytes held output : List �
   pub counts : s .count ≤ s .turns
   pub turns-most : s .turns < mostTurns
 
--- what it answers: the record's line behind what waited, and what is held, in the buffers as they are afterwards
+-- what `respond_to` answers: the record's line after what waited, and the held description, in the buffers as they are afterwards
 pub record RespondToPost (s : Stream) (bytes held output held′ output′ : List ℕ) (s′ : Stream) : Type 0 where
   pub there-is : s′ .there ≡ 0
   pub wanted-is : s′ .wanted ≡ 4
@@ -66,9 +66,10 @@ pub record RespondToPost (s : Stream) (bytes held output held′ output′ : Lis
   pub held-is : take (s′ .held) held′ ≡ responded (take (s .held) held) bytes .1
   pub ready-most : s′ .ready ≤ length output′
   pub output-room : s′ .waiting + room ≤ length output′
-  pub lines-are : take (s′ .ready) output′ ++ take (s′ .waiting) output′ ≡ take (s .waiting) output ++ responded (take (s .held) held) bytes .0
+  pub lines-are : take (s′ .ready) output′ ++ take (s′ .waiting) output′
+      ≡ take (s .waiting) output ++ responded (take (s .held) held) bytes .0
 
--- the stream is over: `text` is written behind what waited
+-- the stream is over: `text` is written after what waited
 pub record EndPost (s : Stream) (text output output′ : List ℕ) (s′ : Stream) : Type 0 where
   pub there-is : s′ .there ≡ 0
   pub wanted-is : s′ .wanted ≡ 0
@@ -80,7 +81,7 @@ pub record EndPost (s : Stream) (text output output′ : List ℕ) (s′ : Strea
   pub ready-most : s′ .ready ≤ length output′
   pub lines-are : take (s′ .ready) output′ ≡ take (s .waiting) output ++ text
 
--- between two reads: `partial` is there of a record
+-- between two reads: `partial` are the bytes of the current record read so far
 pub record Between (s : Stream) (partial held output : List ℕ) : Type 0 where
   pub there-is : length partial ≡ s .there
   pub wanted-is : 0 < s .wanted → aheadOf partial ≡ Missing (s .wanted)
@@ -89,15 +90,15 @@ pub record Between (s : Stream) (partial held output : List ℕ) : Type 0 where
   pub counts : s .count ≤ s .turns
   pub output-room : s .waiting + room ≤ length output
 
--- what is yet to be printed where `partial` is there of a record and `rest` is not read
+-- what remains to be printed if `partial` has been read of the current record and `rest` is unread
 abbrev pub yetPrinted : Stream → List ℕ → List ℕ → List ℕ → List ℕ → List ℕ
 yetPrinted s partial held output rest = take (s .waiting) output ++ printedFrom (take (s .held) held) (s .count) (partial ++ rest)
 
--- text, or nothing where the stream is over
+-- text, or nothing if the stream is over
 abbrev pub unlessOver : Stream → List ℕ → List ℕ
 unlessOver s text = cond (eqb (s .wanted) 0) [] text
 
--- what `advance` asks: `got` bytes have been read behind those that were there
+-- what `advance` asks: `got` more bytes of the current record have been read
 pub record AdvancePre (longest : ℕ) (s : Stream) (got : ℕ) (bytes held output : List ℕ) : Type 0 where
   pub between : Between s (take (s .there) bytes) held output
   pub going : 0 < s .wanted
@@ -106,11 +107,15 @@ pub record AdvancePre (longest : ℕ) (s : Stream) (got : ℕ) (bytes held outpu
   pub held-room : longest ≤ length held
   pub turns-most : s .turns < mostTurns
 
--- What it answers. Where no byte was read the stream is over. Whatever `rest` of the input is not read, and none is left where no byte was
--- read: what was yet to be printed is what is written now, and then what is yet to be printed, which is nothing where the stream is over.
+-- what `advance` answers
 pub record AdvancePost (s : Stream) (got : ℕ) (bytes held output held′ output′ : List ℕ) (s′ : Stream) : Type 0 where
   pub between : Between s′ (take (s′ .there) bytes) held′ output′
   pub ready-most : s′ .ready ≤ length output′
   pub turns-is : s′ .turns ≡ s .turns + 1
+  -- if no byte was read, the stream is over
   pub ends : got ≡ 0 → s′ .wanted ≡ 0
-  pub prints : (rest : List ℕ) → (got ≡ 0 → rest ≡ []) → yetPrinted s (take (s .there + got) bytes) held output rest ≡ take (s′ .ready) output′ ++ unlessOver s′ (yetPrinted s′ (take (s′ .there) bytes) held′ output′ rest)
+  -- For every unread `rest` (empty if nothing was read): what remained to be printed before the call equals what is written now, followed by
+  -- what remains after it (nothing if the stream is over).
+  pub prints : (rest : List ℕ) → (got ≡ 0 → rest ≡ [])
+      → yetPrinted s (take (s .there + got) bytes) held output rest
+      ≡ take (s′ .ready) output′ ++ unlessOver s′ (yetPrinted s′ (take (s′ .there) bytes) held′ output′ rest)

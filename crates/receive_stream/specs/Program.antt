@@ -6,12 +6,14 @@ use Prim.Native.Nat.{ℕ, zero, suc, _+_, _≤_, _<_}
 use lib.ListN.{length, take}
 use Rattle.receive_stream.specs.declared.Stream.{Stream}
 
--- `Run Step turns s bytes held output input text`: from the stream s on the program reads `input`, in so many turns, and writes `text`. In each
--- turn it reads a piece of the input behind the bytes of a record that are there: at most what is wanted, and nothing only where the input is
--- at its end. Then `advance` answers as `Step` says, from the bytes and from what `held` and `output` have, and what is ready is written. It
--- ends where nothing is wanted. `run-printed` of proofs/Program.antt says what the text is.
+-- `Run Step turns s bytes held output input text`: from the stream s on, the program reads `input` in `turns` turns and writes `text`. In each
+-- turn it reads a piece of the input, after the bytes of the current record read so far: at most what is wanted, and nothing only at the end of
+-- the input. Then `advance` answers as `Step` says, from the bytes and from what `held` and `output` hold, and what is ready is written. The
+-- program ends when nothing is wanted. `run-printed` of proofs/Program.antt says what the text is.
 pub data Run (Step : Stream → ℕ → List ℕ → List ℕ → List ℕ → List ℕ → List ℕ → Stream → Type 0) : ℕ → Stream → List ℕ → List ℕ → List ℕ → List ℕ → List ℕ → Type 0 where
+  -- nothing is wanted
   over : {s : Stream} {bytes held output input : List ℕ} → s .wanted ≡ 0 → Run Step zero s bytes held output input []
+  -- one turn, and then the others
   turn : {turns : ℕ} {s s′ : Stream} {bytes bytes′ held output held′ output′ text : List ℕ} (piece rest : List ℕ)
       → 0 < s .wanted → length piece ≤ s .wanted → (length piece ≡ 0 → rest ≡ [])
       → length bytes′ ≡ length bytes → take (s .there + length piece) bytes′ ≡ take (s .there) bytes ++ piece

@@ -15,23 +15,31 @@ const HEADER: usize = 4;
 // Room for what one step prints: a record's line, or `cut` and `end`.
 const ROOM: usize = 2 * LINE;
 
-// Where a stream is. The first `there` bytes of a record have been read, and at most `wanted` are read next, behind them; none where the
-// stream is over. The first `held` bytes of their buffer are the description that is held. `count` records were whole, in `turns` reads. The
-// first `ready` bytes of the output are to be written now; after that its first `waiting` bytes are lines that wait.
+// The state of a stream between two reads. The current record, the held description and the output have a buffer each.
 pub struct Stream {
+    // bytes of the current record read so far
     pub there: usize,
+    // most bytes to read next, 0 at the end of the stream
     pub wanted: usize,
+    // bytes of the description that is held, 0 if none is
     pub held: usize,
+    // whole records so far
     pub count: u64,
+    // reads so far
     pub turns: u64,
+    // bytes at the start of the output that wait, once the ready ones are written
     pub waiting: usize,
+    // bytes at the start of the output to be written now
     pub ready: usize,
 }
 
-// What the bytes of a record that are there say: it is whole, so many bytes are missing, or its length is below 4.
-pub enum Ahead {
+// What is known of a record from the bytes read so far.
+enum Ahead {
+    // it is complete
     Whole,
+    // this many bytes are still to come: of its header, or of the whole record
     Missing(usize),
+    // its length field is below 4
     Short,
 }
 
@@ -50,6 +58,7 @@ pub fn start() -> Stream
     }
 }
 
+// What is known of a record of which `bytes` have been read.
 fn ahead_of(bytes: &[u8]) -> Ahead
     ensures { λ a. ⌜ (a ≡ aheadOf (now (bytes .entry))) × Fits (now (bytes .entry)) a ⌝ }
 {
@@ -67,7 +76,7 @@ fn ahead_of(bytes: &[u8]) -> Ahead
     Ahead::Whole
 }
 
-// How much is written of what waits: all of it, where the next step may not fit behind it.
+// How many of the waiting bytes are written now: all of them if what the next step prints may not fit after them, else none.
 fn ready_of(waiting: usize, size: usize) -> usize
     requires { ⌜ waiting ≤ size ⌝ }
     ensures { λ ready. ⌜ ReadyPost waiting size ready ⌝ }
@@ -78,7 +87,8 @@ fn ready_of(waiting: usize, size: usize) -> usize
 // Responds to a whole record.
 fn respond_to(stream: Stream, bytes: &[u8], held: &mut [u8], output: &mut [u8]) -> Stream
     requires { do ⌜ RespondToPre (← ⟦LONGEST⟧) stream (now bytes) (now held) (now output) ⌝ }
-    ensures { λ s. ⌜ RespondToPost stream (now (bytes .entry)) (now (held .entry)) (now (output .entry)) (now (held .exit)) (now (output .exit)) s ⌝ }
+    ensures { λ s. ⌜ RespondToPost stream (now (bytes .entry)) (now (held .entry)) (now (output .entry))
+        (now (held .exit)) (now (output .exit)) s ⌝ }
 {
     let before = stream.waiting;
     let response = receive_record::respond(held, stream.held, bytes, &mut output[before..]);
@@ -95,9 +105,11 @@ fn respond_to(stream: Stream, bytes: &[u8], held: &mut [u8], output: &mut [u8]) 
     }
 }
 
-// Ends a stream with `end`, and all is written.
+// Ends a stream with the line `end`. All output is written.
 fn finish(stream: Stream, output: &mut [u8]) -> Stream
-    requires { do ⌜ (stream .waiting + (← ⟦LINE⟧) ≤ length (now output)) × (stream .turns < mostTurns) ⌝ }
+    requires { do
+      ⌜ (stream .waiting + (← ⟦LINE⟧) ≤ length (now output))
+          × (stream .turns < mostTurns) ⌝ }
     ensures { λ s. ⌜ EndPost stream (endLine (stream .count)) (now (output .entry)) (now (output .exit)) s ⌝ }
 {
     let waiting = stream.waiting;
@@ -113,7 +125,7 @@ fn finish(stream: Stream, output: &mut [u8]) -> Stream
     }
 }
 
-// Ends a stream with `cut` and `end`.
+// Ends a stream with the lines `cut` and `end`.
 fn cut(stream: Stream, output: &mut [u8]) -> Stream
     requires { ⌜ (stream .waiting + room ≤ length (now output)) × (stream .turns < mostTurns) ⌝ }
     ensures { λ s. ⌜ EndPost stream (cutLine ++ endLine (stream .count)) (now (output .entry)) (now (output .exit)) s ⌝ }
@@ -125,7 +137,7 @@ fn cut(stream: Stream, output: &mut [u8]) -> Stream
     finish(after, output)
 }
 
-// Goes on after `got` bytes have been read behind those that were there; none is read only where the input is at its end.
+// Goes on after `got` more bytes of the current record have been read. `got` is 0 only at the end of the input.
 pub fn advance(
     stream: Stream,
     got: usize,
@@ -134,7 +146,8 @@ pub fn advance(
     output: &mut [u8],
 ) -> Stream
     requires { do ⌜ AdvancePre (← ⟦LONGEST⟧) stream got (now bytes) (now held) (now output) ⌝ }
-    ensures { λ s. ⌜ AdvancePost stream got (now (bytes .entry)) (now (held .entry)) (now (output .entry)) (now (held .exit)) (now (output .exit)) s ⌝ }
+    ensures { λ s. ⌜ AdvancePost stream got (now (bytes .entry)) (now (held .entry)) (now (output .entry))
+        (now (held .exit)) (now (output .exit)) s ⌝ }
 {
     let there = stream.there + got;
     match ahead_of(&bytes[..there]) {

@@ -10,7 +10,7 @@ use Rattle.bits.specs.Claims.{Bits}
 use Rattle.bits.proofs.Lists.{bits-take, bits-drop}
 use Rattle.transform.specs.Contracts.{BitsAt}
 
--- the halves of such bits
+-- the halves of bits within an array
 module _ {room : ℕ} {w : List ℕ} {base h : ℕ} (p : BitsAt room w base (h + h)) where
   pub left-half : BitsAt room w base h
   left-half = record {

@@ -25,7 +25,7 @@ pub bits-transformed : (n : ℕ) (u : List ℕ) → Bits (transformed n u)
 unfolding transformed
 bits-transformed n u = bits-table (codeBit n u) (2 ^ n) (λ j. parity-lt _ (2 ^ n))
 
-pub getD-transformed : (n : ℕ) (u : List ℕ) (j : ℕ) → j < 2 ^ n → getD (transformed n u) j 0 ≡ codeBit n u j
+getD-transformed : (n : ℕ) (u : List ℕ) (j : ℕ) → j < 2 ^ n → getD (transformed n u) j 0 ≡ codeBit n u j
 unfolding transformed
 getD-transformed n u j l = getD-table (codeBit n u) (2 ^ n) j 0 l
 

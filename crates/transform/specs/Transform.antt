@@ -1,4 +1,4 @@
--- The polar transform of document 01, "Check and encoder"; document 000, section II-A: x = u·G^(⊗n), in natural order.
+-- Document 01, "Check and encoder"; document 000, section II-A: the polar transform, x = u·G^(⊗n), in natural order.
 -- x_j is the exclusive-or of every u_i for which each one bit of j is also one in i.
 use mathlib.Core.Bool.{Bool, true, _&&_, cond}
 use mathlib.Core.List.{List}

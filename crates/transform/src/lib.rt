@@ -11,10 +11,11 @@ ghost use Rattle.bits.specs.Packing.{packed, unpacked};
 ghost use Rattle.transform.specs.Transform.{transformed, xors};
 ghost use Rattle.transform.specs.Contracts.{BitsAt, BytesAt, transformedByte, folded, xorBytes};
 
-// Of two halves of h bytes from `base` on, puts their exclusive-or in the place of the first.
+// Replaces the first of two halves of h bytes, from `base` on, by the exclusive-or of both.
 fn xor_halves(bytes: &mut ByteArray, base: usize, h: usize)
     requires { do ⌜ BytesAt (← ⟦SIZE⟧) (now bytes) base (h + h) ⌝ }
-    ensures { λ _. ⌜ now (bytes .exit) ≡ splice (now (bytes .entry)) base (xorBytes h (segment (now (bytes .entry)) base h) (segment (now (bytes .entry)) (base + h) h)) ⌝ }
+    ensures { λ _. ⌜ now (bytes .exit)
+        ≡ splice (now (bytes .entry)) base (xorBytes h (segment (now (bytes .entry)) base h) (segment (now (bytes .entry)) (base + h) h)) ⌝ }
 {
     let mut j = 0;
     while j < h {
@@ -23,10 +24,11 @@ fn xor_halves(bytes: &mut ByteArray, base: usize, h: usize)
     }
 }
 
-// The same for bits.
+// Replaces the first of two halves of h bits, from `base` on, by the exclusive-or of both.
 pub fn combine(bits: &mut BitArray, base: usize, h: usize)
     requires { do ⌜ BitsAt (← ⟦SIZE⟧) (now bits) base (h + h) ⌝ }
-    ensures { λ _. ⌜ now (bits .exit) ≡ splice (now (bits .entry)) base (xors h (segment (now (bits .entry)) base h) (segment (now (bits .entry)) (base + h) h)) ⌝ }
+    ensures { λ _. ⌜ now (bits .exit)
+        ≡ splice (now (bits .entry)) base (xors h (segment (now (bits .entry)) base h) (segment (now (bits .entry)) (base + h) h)) ⌝ }
 {
     xor_halves(bits, base, h);
 }
@@ -39,7 +41,7 @@ fn fold(layer: u32, size: usize, base: usize, bytes: &mut ByteArray)
     if layer == 0 {
         return;
     }
-    // a pair has no call below it, so that half of all calls are spared
+    // a pair is combined without further calls, which spares half of all calls
     if layer == 1 {
         xor_halves(bytes, base, 1);
         return;
@@ -58,7 +60,7 @@ pub fn transform(layer: u32, size: usize, base: usize, bits: &mut BitArray)
     fold(layer, size, base, bits);
 }
 
-// The eight bits of a byte, transformed: at each layer the left half of each pair of halves gets the right half put in.
+// The eight bits of a byte, transformed: at each layer each left half becomes the exclusive-or of both halves.
 fn transform_byte(byte: u8) -> u8
     ensures { λ r. ⌜ r ≡ transformedByte byte ⌝ }
 {
@@ -82,7 +84,8 @@ fn transform_bytes(size: usize, bytes: &mut ByteArray)
 // Transforms the packed bits of the first 2^layer bytes. `size` is 2^layer.
 pub fn transform_packed(layer: u32, size: usize, bytes: &mut ByteArray)
     requires { do ⌜ (size ≡ 2 ^ layer) × BytesAt (← ⟦SIZE⟧) (now bytes) 0 size ⌝ }
-    ensures { λ _. ⌜ now (bytes .exit) ≡ splice (now (bytes .entry)) 0 (packed (transformed (layer + 3) (unpacked (segment (now (bytes .entry)) 0 size) (8 * size)))) ⌝ }
+    ensures { λ _. ⌜ now (bytes .exit)
+        ≡ splice (now (bytes .entry)) 0 (packed (transformed (layer + 3) (unpacked (segment (now (bytes .entry)) 0 size) (8 * size)))) ⌝ }
 {
     transform_bytes(size, bytes);
     fold(layer, size, 0, bytes);

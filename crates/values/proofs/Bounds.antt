@@ -29,7 +29,7 @@ abs-g a b sum = chosen (eqb sum 0)
     chosen true = abs-add a b
     chosen false = omega (arith, abs-minus b a)
 
-pub within-table : (m : ℕ) (x : ℕ → ℤ) (n : ℕ) → ((k : ℕ) → natAbs (x k) ≤ m) → Within m (table x n)
+within-table : (m : ℕ) (x : ℕ → ℤ) (n : ℕ) → ((k : ℕ) → natAbs (x k) ≤ m) → Within m (table x n)
 unfolding table
 within-table m x n h = record { at = each x n h }
   where

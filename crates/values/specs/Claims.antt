@@ -4,6 +4,6 @@ use Prim.Native.Nat.{ℕ, _≤_}
 use lib.IntN.{ℤ, pos, natAbs}
 use lib.ListN.{getD}
 
--- no magnitude above m (past the end `getD` gives 0)
+-- no magnitude is above m (`getD` is 0 at an index outside the list)
 pub record Within (m : ℕ) (xs : List ℤ) : Type 0 where
   pub at : (k : ℕ) → natAbs (getD xs k (pos 0)) ≤ m

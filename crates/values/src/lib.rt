@@ -5,6 +5,7 @@ ghost use lib.IntN.{pos, natAbs};
 ghost use Rattle.values.specs.Values.{decided, g, f, hard};
 ghost use Rattle.values.specs.Contracts.{ruleOf};
 
+// The magnitude of a value.
 pub fn magnitude(a: i32) -> i32
     requires { ⌜ natAbs a < 2 ^ 31 ⌝ }
     ensures { λ r. ⌜ r ≡ pos (natAbs a) ⌝ }
@@ -12,7 +13,7 @@ pub fn magnitude(a: i32) -> i32
     if a < 0 { 0 - a } else { a }
 }
 
-// 1 where the value is negative, else 0.
+// 1 if the value is negative, else 0.
 pub fn hard(a: i32) -> u8
     ensures { λ r. ⌜ r ≡ hard a ⌝ }
 {
@@ -44,7 +45,7 @@ pub fn g(a: i32, b: i32, sum: u8) -> i32
     if sum == 0 { a + b } else { b - a }
 }
 
-// The bit at a leaf, without a branch: the sign, turned round where the rule says so, at an information index.
+// The bit at a leaf, without a branch: 0 at a frozen index, otherwise the sign, inverted if the rule is the opposite decision.
 pub fn decide(rule: u8, value: i32) -> u8
     ensures { λ r. ⌜ r ≡ decided (ruleOf rule) value ⌝ }
 {

@@ -114,7 +114,7 @@ accepts-only e e′ f = true≢false (sym (ap accepts e) ∙ ap accepts e′ ∙
 
 -- whatever bytes the outputs held
 module _ (byte byte′ : ℕ) where
-  -- where full decoding accepts, every restart does, on the same trial
+  -- if full decoding accepts, every restart does, on the same trial
   follow : {lowests : List ℕ} {answer : Restart → List ℕ → Decoded × List ℕ} {t s : ℕ} {payload : List ℕ} (a : SameAnswer (maskOf middleD) middleCode lowests answer 1)
       → answer Root (byte ∷ []) ≡ (Accepted t s, payload) → (a .made ≡ t) × ((r : Restart) → answer r (byte′ ∷ []) ≡ (Accepted t (a .steps r), payload))
   follow {t = t} {s = s} a e =

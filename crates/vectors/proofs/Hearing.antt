@@ -136,7 +136,7 @@ pub twice-decodes : (T byte : ℕ) → 1 ≤ T → T ≤ 5
     → (hearingFull heardTwice T (byte ∷ []) ≡ (Accepted 1 24, 0x80 ∷ [])) × (hearingRestarted heardTwice T (byte ∷ []) ≡ (Accepted 1 24, 0x80 ∷ []))
 twice-decodes = both-decode heardTwice holds-both
 
--- and for C, in any buffer of the right size; there are such buffers
+-- and for C, in any buffer of the right size; a buffer of that size exists
 module _ (b : List ℕ) (size : length b ≡ hearingSize) where
   abbrev buffer : List ℕ
   buffer = bufferAfter (openedIn wideD b .1) calls

@@ -1,4 +1,4 @@
--- Demand 3 and the noiseless clause at document 01's D: every premise is met there, and what follows comes from the theorem, not from a
+-- Demand 3 and the noiseless clause at document 01's D: every premise is met, and what follows comes from the theorem, not from a
 -- computation. So no premise can become one that nothing meets.
 use mathlib.Core.Path.{_≡_, refl, sym, ap, ap₂, _∙_, subst}
 use mathlib.Core.Logic.{⊎-elim}

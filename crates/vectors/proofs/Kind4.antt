@@ -82,7 +82,7 @@ pub heard-at-2 : (byte : ℕ) → (decodedFull (D4 1) (silence code4) 2 (byte �
 unfolding judge refusedOr table number onesBelow packed describeUpTo checkOf covers parity transformed xors taken channelValue f g leftValues rightValues firstWhere node information insert ordered run decodedBy decodedWith
 heard-at-2 byte = (refl, refl)
 
--- demand 3 there, for every T that 14 allows
+-- demand 3 under it, for every T that 14 allows
 well-formed : (T byte : ℕ) → 1 ≤ T → T ≤ 5 → WellFormed code4 (silence code4) T (byte ∷ [])
 unfolding firstWhere channelValue
 well-formed T byte least most = record { channel-size = refl; in-range = refl; limit-least = least; limit-most = most; output-size = refl }

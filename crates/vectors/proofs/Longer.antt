@@ -51,7 +51,7 @@ pub long-rows :
 unfolding describeUpTo judge refusedOr onesBelow
 long-rows = (refl, refl, refl, refl, refl, refl, refl, refl, refl)
 
--- under D, and at n = 10, every operation answers as where n is at most 10
+-- under D, and at n = 10, every operation answers as if n were at most 10
 pub D-as-10 : AnswersAs 10 D
 D-as-10 = as-10 D (longCode 3) (long-rows .1)
 

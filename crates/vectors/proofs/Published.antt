@@ -51,7 +51,7 @@ pub ibm-3740-code : describe description ≡ Coding code
 unfolding describeUpTo judge refusedOr onesBelow
 ibm-3740-code = refl
 
--- the message has the published check behind the string
+-- the message has the published check after the string
 pub ibm-3740-message : messageOf code (unpacked digits 72) ≡ unpacked digits 72 ++ bitsOf 16 0x29B1
 unfolding checkOf unpacked table
 ibm-3740-message = refl

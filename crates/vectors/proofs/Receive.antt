@@ -35,7 +35,7 @@ pub example : printed (D ++ (channelV 2 ++ channelV 1)) ≡ text "code 8 3 1\nok
 unfolding judge refusedOr table number onesBelow packed describeUpTo checkOf covers parity transformed xors taken channelValue f g leftValues rightValues firstWhere node information insert ordered run decodedBy decodedWith decimalIn descriptionResponse decodingLine channelLine responded recordsIn responses printedFrom
 example = refl
 
--- cut inside the second record, and by a length of 3, behind which nothing is read
+-- cut inside the second record, and by a length of 3, after which nothing is read
 pub example-cut : (printed (D ++ take 13 (channelV 2)) ≡ text "code 8 3 1\ncut\nend 1\n") × (printed (0x03 ∷ 0x00 ∷ 0x01 ∷ 0x00 ∷ D) ≡ text "cut\nend 0\n")
 unfolding judge refusedOr onesBelow describeUpTo decimalIn descriptionResponse responded recordsIn responses printedFrom
 example-cut = (refl, refl)

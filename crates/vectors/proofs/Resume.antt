@@ -21,7 +21,7 @@ use Rattle.vectors.proofs.Descriptions.{D, starredV}
 abbrev output : List ℕ
 output = replicate 8 0x77
 
--- V with a prefix of six zeros gives eight zero bits in 8 steps; 31 is allowed at index 7, for a whole pass, and 32 or -32 there is refused
+-- V with a prefix of six zeros decodes to eight zero bits in 8 steps; 31 is allowed at index 7, for a whole pass, and 32 or -32 there is refused
 abbrev pub StarredResume : Type 0
 StarredResume =
     (resumed D (starredV 2) (replicate 6 0) output ≡ (Done 8, replicate 8 0))

@@ -85,7 +85,7 @@ EachFlips sets = (a : ℕ) → a < length sets → FlipSet (maskOf wideD) 8 2 (g
 pub ten-flip : EachFlips ten
 ten-flip = subst EachFlips (set-examples 0 .used-up .2) (flip-set-each (searchOf After 2 512) (maskOf wideD) wideCode (channelValues usedUpV))
 
--- and every such set is among them: 16 with T = 512 carries 11 trials, so that no set is left
+-- and every set of that kind is among them: 16 with T = 512 carries 11 trials, so no set is left
 abbrev AllIn : List (List ℕ) → Type 0
 AllIn sets = (is : List ℕ) → FlipSet (maskOf wideD) 8 2 is → List·Memᴰ is sets
 

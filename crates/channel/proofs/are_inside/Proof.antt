@@ -1,4 +1,4 @@
--- `channel::are_inside` meets its contract. The invariant: what is found so far is whether the first index outside is at or past the place.
+-- `channel::are_inside` meets its contract. The invariant: what is found so far is whether the first index outside is not below i.
 use mathlib.Core.Path.{_≡_, sym, ap, ap₂, _∙_}
 use mathlib.Core.Bool.{Bool, _&&_}
 use Prim.Native.Nat.{ℕ, _-_, _≤_}

@@ -1,4 +1,4 @@
--- `channel::find_outside` meets its contract. The invariant: no value passed is outside.
+-- `channel::find_outside` meets its contract. The invariant: no value below i is outside.
 use mathlib.Core.Path.{_≡_, sym, ap, _∙_}
 use mathlib.Core.Bool.{false}
 use Prim.Native.Nat.{ℕ, _+_, _-_, _≤_, _<_}

@@ -1,4 +1,4 @@
--- `crc::word_if` meets its contract: doubled where `out` is 1, and less the word itself.
+-- `crc::word_if` meets its contract: the word is doubled if `out` is 1, and then taken off once.
 use mathlib.Core.Path.{_≡_}
 use Prim.Native.Nat.{ℕ, zero, suc, _+_, _*_, _%_, _^_, _<_}
 use native.Mathlib.Omega.{arith}

@@ -16,7 +16,7 @@ use Rattle.bits.specs.Packing.{bytesFor, unusedBits}
 use Rattle.encoder.proofs.has_unused_bit.Statement.{statement}
 use Rattle.encoder.proofs.has_unused_bit.Tie as tie
 
--- the last byte is past the end
+-- byte k / 8 is after the last one
 none-unused : (payload : List ℕ) (k : ℕ) → length payload ≡ bytesFor k → k % 8 ≡ 0 → unusedBits payload k ≡ 0
 none-unused payload k e z =
     let past : length payload ≤ k / 8 = omega arith in

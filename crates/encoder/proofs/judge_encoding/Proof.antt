@@ -1,4 +1,4 @@
--- `encoder::judge_encoding` meets its contract: past each test that fails, what is left of the list decides.
+-- `encoder::judge_encoding` meets its contract: after each test that fails, the tests that are left decide.
 use mathlib.Core.Path.{_≡_, sym, ap, _∙_}
 use mathlib.Core.Bool.{not}
 use mathlib.Core.List.{List}

@@ -1,4 +1,4 @@
--- `quantiser::judge_quantising` meets its contract: past each test that fails, the judgement is that of the tests that are left.
+-- `quantiser::judge_quantising` meets its contract: after each test that fails, the tests that are left decide.
 use mathlib.Core.Path.{_≡_, sym, ap, _∙_}
 use mathlib.Core.Bool.{Bool, not}
 use mathlib.Core.List.{List}
@@ -22,7 +22,7 @@ use Rattle.quantiser.proofs.judge_quantising.Tie as tie
 abbrev from : ℕ → tie.Start → List (Bool × Refusal)
 from i s = drop i (quantisingRefusals (s .args .scale) (now (s .args .samples)) (now (s .args .output)))
 
--- the call's start, past each test
+-- the call's start, after each test
 abbrev s1 : tie.Else1 → tie.Start
 s1 c = c .before .before .before
 

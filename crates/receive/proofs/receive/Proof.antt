@@ -1,4 +1,4 @@
--- `receive::receive` meets its contract. The invariant: the buffers keep their sizes, and the stream stands between two reads.
+-- `receive::receive` meets its contract. The invariant: the buffers keep their sizes, and the stream is between two reads.
 use mathlib.Core.Path.{_≡_, sym, subst}
 use Prim.Native.Nat.{_-_, _≤_}
 use native.Mathlib.Omega.{arith}

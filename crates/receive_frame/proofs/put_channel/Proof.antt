@@ -1,4 +1,4 @@
--- `receive_frame::put_channel` meets its contract: past each test that fails, the line is that of the refusals that are left.
+-- `receive_frame::put_channel` meets its contract: after each test that fails, the refusals that are left decide.
 use mathlib.Core.Path.{_≡_, sym, ap₂, _∙_}
 use mathlib.Core.List.{List, [], _∷_}
 use Prim.Native.Nat.{ℕ}
@@ -23,7 +23,7 @@ use Rattle.receive_frame.proofs.put_channel.Tie as tie
 abbrev refuse : Refusal → List ℕ
 refuse x = noLine (numberOf x)
 
--- the line past both refusals, and past the first
+-- the line after both refusals, and after the first
 abbrev decoding : List ℕ → List ℕ → List ℕ
 decoding held bytes = decodingLine held (drop 6 bytes) (word bytes 4)
 

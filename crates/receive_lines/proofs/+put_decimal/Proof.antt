@@ -24,7 +24,7 @@ put-decimal-at t = and 1 put-decimal-kinds.ps (is 1 put-decimal-kinds.ps μ-put-
 abbrev put-decimal-below : ℕ → In 1 put-decimal-kinds.ps
 put-decimal-below t = and 1 put-decimal-kinds.ps (falls 1 put-decimal-kinds.ps _<_ μ-put-decimal t) put-decimal.Pre
 
--- what the callee asks and gives
+-- what the callee asks and promises
 abbrev Q : ℕ → put-decimal-lts.Claims
 Q t = (put-decimal-below t, put-decimal.Post)
 

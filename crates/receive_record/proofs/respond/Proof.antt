@@ -1,4 +1,4 @@
--- `receive_record::respond` meets its contract: past each test that fails, the answer is that of the kinds that are left.
+-- `receive_record::respond` meets its contract: after each test that fails, the kinds that are left decide.
 use mathlib.Core.Path.{_≡_, sym, ap, _∙_}
 use mathlib.Core.Bool.{Bool, cond}
 use mathlib.Core.List.{List}

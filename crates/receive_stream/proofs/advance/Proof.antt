@@ -13,7 +13,7 @@ use Rattle.receive_stream.proofs.Steps.{record-there, advance-whole, ad
 use Rattle.receive_stream.proofs.advance.Statement.{statement}
 use Rattle.receive_stream.proofs.advance.Tie as tie
 
--- what is there once the bytes have been read, and what it says
+-- the bytes of the record read so far, and what is known from them
 module _ (c : tie.After-ahead-of) where
   abbrev there : List ℕ
   there = let a = c .before .before .before .before .before .before .args in take (a .stream .there + a .got) (now (a .bytes))

@@ -1,4 +1,4 @@
--- `receive_stream::cut` meets its contract: `cut` stands behind what waits, and `end` behind both.
+-- `receive_stream::cut` meets its contract: `cut` is put after what waits, and `end` after both.
 use mathlib.Core.Path.{ap, _∙_}
 use mathlib.Core.List.{List, _++_, append-assoc}
 use Prim.Native.Nat.{ℕ, _-_}

@@ -1,4 +1,4 @@
--- `receive_stream::respond_to` meets its contract: the line stands behind what waits.
+-- `receive_stream::respond_to` meets its contract: the line is put after what waits.
 use mathlib.Core.Path.{ap, _∙_}
 use mathlib.Core.List.{List, _++_}
 use Prim.Native.Nat.{ℕ, _-_}

@@ -22,7 +22,7 @@ fold-at t = and 1 fold-kinds.ps (is 1 fold-kinds.ps μ t) fold.Pre
 abbrev fold-below : ℕ → In 1 fold-kinds.ps
 fold-below t = and 1 fold-kinds.ps (falls 1 fold-kinds.ps _<_ μ t) fold.Pre
 
--- what the callees ask and give
+-- what the callees ask and promise
 abbrev Q : ℕ → fold-lts.Claims
 Q t = (xor-halves-reads.Asked, xor-halves-reads.Learnt, fold-below t, fold.Post)
 
