@@ -39,18 +39,18 @@ module _ {room layer size base q : ℕ} {a : Arrays} {v : List ℤ} (rules : Lis
   forced-is =
       node-forced layer (forcedBits (a .bits) base size q) (rulesFrom rules base) v (omega (arith, ap length all, long, p .pow)) ∙ ap (forced layer) all
 
-  pub forced-worked : {sums : List ℕ} → sums ≡ splice (a .sums) base (transformed layer own) → NodePost layer size base q rules v a (arrays (a .work) (a .bits) sums (a .leaves)) (workOf [])
-  forced-worked {sums} e =
+  pub forced-worked : {sums : List ℕ} {done : Work} → sums ≡ splice (a .sums) base (transformed layer own) → done ≡ workOf [] → NodePost layer size base q rules v a (arrays (a .work) (a .bits) sums (a .leaves)) done
+  forced-worked {sums} {done} e of =
       let at : ℕ = base + length (forcedBits (a .bits) base size q) in
       record {
         node = record {
           laid =
-              subst (λ (o : Out). PlacedSums o base at (resultsOf a) (results (a .bits) sums (a .leaves)) (workOf [])) (sym forced-is)
+              subst (λ (o : Out). PlacedSums o base at (resultsOf a) (results (a .bits) sums (a .leaves)) done) (sym forced-is)
               (record {
                 placed = record {
                   bits = sym (splice-segment (a .bits) base size (omega (arith, p .fits, p .whole .bits)));
                   leaves = sym (splice-nil (a .leaves) at);
-                  work = refl;
+                  work = of;
                 };
                 sums = e;
               });
@@ -71,13 +71,14 @@ is-free layer base q e taken =
 pub one-value : {size : ℕ} (w : List ℤ) → size ≡ 1 → 1 < length w → segment w size size ≡ getD w 1 (pos 0) ∷ []
 one-value w e l = ap (λ (k : ℕ). segment w k k) e ∙ ap (take 1) (drop-cons w 1 (pos 0) l)
 
--- such a node is the one of the recursion
-pub by-value : {layer k size m base q : ℕ} {rules : List ℕ} {a : Arrays} {v x : List ℤ} {r : Results} {done : Work} → layer ≡ k → size ≡ m → v ≡ x → q ≤ base → NodePlaced k m base base rules x (resultsOf a) r done → NodePost layer size base q rules v a (arrays (a .work) (r .bits) (r .sums) (r .leaves)) done
-by-value {layer} {k} {size} {m} {base} {q} {rules} {a} {v} {x} {r} {done} el es ev l y = record {
+-- a small node is the one of the recursion
+pub by-value : {layer k size m base q : ℕ} {rules : List ℕ} {a : Arrays} {v x : List ℤ} {r : Results} {done did : Work} → layer ≡ k → size ≡ m → v ≡ x → q ≤ base → done ≡ did → NodePlaced k m base base rules x (resultsOf a) r did → NodePost layer size base q rules v a (arrays (a .work) (r .bits) (r .sums) (r .leaves)) done
+by-value {layer} {k} {size} {m} {base} {q} {rules} {a} {v} {x} {r} {done} {did} el es ev l of y = record {
   node =
       none-forced (omega arith) l
       (subst₂ (λ (i j : ℕ). NodePlaced i j base base rules v (resultsOf a) r done) (sym el) (sym es)
-      (subst (λ (u : List ℤ). NodePlaced k m base base rules u (resultsOf a) r done) (sym ev) y));
+      (subst (λ (w : Work). NodePlaced k m base base rules v (resultsOf a) r w) (sym of)
+      (subst (λ (u : List ℤ). NodePlaced k m base base rules u (resultsOf a) r did) (sym ev) y)));
   kept = refl;
   whole = refl;
 }

@@ -41,15 +41,15 @@ module _ {room q : ℕ} {c : Code} {channel : List ℕ} {a : Arrays} (rules : Li
   prefix-long : length (take q (a .bits)) ≡ q
   prefix-long = length-take-le q (a .bits) (omega (arith, p .q-most, p .whole .bits))
 
-  -- where all are forced nothing is done
-  pub pass-forced : length channel ≤ q → PassPost room o q a a (workOf [])
-  pass-forced l =
-      subst (λ (x : Out). PassPost room x q a a (workOf []))
+  -- if all are forced nothing is done
+  pub pass-forced : {done : Work} → length channel ≤ q → done ≡ workOf [] → PassPost room o q a a done
+  pass-forced {done} l of =
+      subst (λ (x : Out). PassPost room x q a a done)
       (sym (node-forced (c .n) (take q (a .bits)) (ruleAt rules) (channelValues channel) (omega (arith, prefix-long, p .long))))
       (record {
         bits = sym (splice-segment (a .bits) 0 q (omega (arith, p .q-most, p .whole .bits)));
         leaves = sym (splice-nil (a .leaves) q);
-        work = refl;
+        work = of;
         whole = p .whole;
       })
 

@@ -51,14 +51,14 @@ fn decode_node(
 {
     if base + size <= q {
         rebuild(layer, size, base, bits, sums);
-        return Work { steps: 0 };
+        return Work::none();
     }
     if is_free_four(layer, base, q) {
         return decode_four(base, rules, work, bits, sums, leaves);
     }
     if layer == 0 {
         leaf(base, work[1], rules, bits, sums, leaves);
-        return Work { steps: 0 };
+        return Work::none();
     }
     let h = size / 2;
     let left = left_values(base + h <= q, h, work);
@@ -88,7 +88,7 @@ pub fn pass(
 {
     let size = channel.len();
     if size <= q {
-        return Work { steps: 0 };
+        return Work::none();
     }
     let h = size / 2;
     let left = root_left_values(h <= q, channel, h, work);

@@ -14,8 +14,7 @@ use Rattle.values.specs.Values.{rightValues, leftValues}
 use Rattle.values.proofs.Lengths.{length-right, length-left}
 use Rattle.pass_tree.specs.declared.Work.{Work}
 use Rattle.pass_tree.specs.Node.{workOf, plusWork}
-use Rattle.pass_tree.specs.Contracts.{computedUnless}
-use Rattle.pass_tree.proofs.StepsMost.{counted}
+use Rattle.pass_tree.specs.Contracts.{computedUnless, counted}
 use Rattle.pass_ends.specs.Contracts.{Results, results, Sized, NodePlaced}
 use Rattle.pass_ends.proofs.Halves.{none-forced, Split, sized₁, combine-at, halves-laid}
 

@@ -81,7 +81,7 @@ pub fn decode_two(
     leaf(base + 1, g(a, b, first), rules, bits, sums, leaves);
     steps += 1;
     combine(sums, base, 1);
-    Work { steps }
+    Work::of(steps)
 }
 
 // A node of layer 2 with no forced bit; its values stand from index 4 on, as those of layer s do from 2^s on. Most calls of a pass are at or
@@ -114,5 +114,5 @@ pub fn decode_four(
     let r = decode_two(base + 2, g(a, c, s), g(b, d, t), rules, bits, sums, leaves);
     steps += 2;
     combine(sums, base, 2);
-    Work { steps }.plus(l.plus(r))
+    Work::of(steps).plus(l.plus(r))
 }

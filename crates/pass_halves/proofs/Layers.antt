@@ -19,8 +19,8 @@ use Rattle.values.proofs.Bounds.{back-within}
 use Rattle.channel.specs.Channel.{channelValue, channelValues}
 use Rattle.pass_tree.specs.declared.Work.{Work}
 use Rattle.pass_tree.specs.Node.{workOf}
-use Rattle.pass_tree.specs.Contracts.{computedUnless}
-use Rattle.pass_tree.proofs.StepsMost.{counted, same-steps}
+use Rattle.pass_tree.specs.Contracts.{computedUnless, counted}
+use Rattle.pass_tree.proofs.StepsMost.{same-steps}
 use Rattle.pass_halves.specs.Contracts.{addable, ValuesPost, ValuesPre, nodeValues}
 
 -- ---- what a turn reads
@@ -77,20 +77,21 @@ module _ {h j steps : ℕ} {work work′ : List ℤ} {z : ℤ} (fits : SFits w32
   right-turn sums inv r s e = turn inv (e ∙ (λ t. g (r .first t) (r .second t) (s t)))
 
 -- all values of a half are computed
-pub computed : {h j steps : ℕ} {work work′ : List ℤ} {x : ℕ → ℤ} → Computing x h work work′ steps j → h ≤ j → h + h ≤ length work → ValuesPost (table x h) h work work′ (counted steps)
-computed {h} {j} {steps} {x = x} inv all fits = record {
+pub computed : {h j steps : ℕ} {work work′ : List ℤ} {x : ℕ → ℤ} {done : Work} → Computing x h work work′ steps j → h ≤ j → h + h ≤ length work → done ≡ counted steps → ValuesPost (table x h) h work work′ done
+computed {h} {j} {steps} {x = x} inv all fits of = record {
   stored = filling-done (inv .filling) all fits;
-  counted = let e : steps ≡ length (table x h) = omega (arith, inv .counted, inv .filling .reached, length-table x h) in same-steps e;
+  counted = let e : steps ≡ length (table x h) = omega (arith, inv .counted, inv .filling .reached, length-table x h) in of ∙ same-steps e;
 }
 
--- the same where it is not forced, and none where it is
-pub computed-all : {forced : Bool} {h j steps : ℕ} {work work′ : List ℤ} {x : ℕ → ℤ} → forced ≡ false → Computing x h work work′ steps j → h ≤ j → h + h ≤ length work → ValuesPost (computedUnless forced (table x h)) h work work′ (counted steps)
-computed-all {h = h} {steps = steps} {work = work} {work′ = work′} {x = x} e inv all fits =
-    subst (λ (t : Bool). ValuesPost (computedUnless t (table x h)) h work work′ (counted steps)) (sym e) (computed inv all fits)
+-- all values of a half that is not forced
+pub computed-all : {forced : Bool} {h j steps : ℕ} {work work′ : List ℤ} {x : ℕ → ℤ} {done : Work} → forced ≡ false → Computing x h work work′ steps j → h ≤ j → h + h ≤ length work → done ≡ counted steps → ValuesPost (computedUnless forced (table x h)) h work work′ done
+computed-all {h = h} {work = work} {work′ = work′} {x = x} {done = done} e inv all fits of =
+    subst (λ (t : Bool). ValuesPost (computedUnless t (table x h)) h work work′ done) (sym e) (computed inv all fits of)
 
-pub computed-none : {forced : Bool} {h : ℕ} {work : List ℤ} (values : List ℤ) → forced ≡ true → ValuesPost (computedUnless forced values) h work work (workOf [])
-computed-none {h = h} {work = work} values e =
-    subst (λ (t : Bool). ValuesPost (computedUnless t values) h work work (workOf [])) (sym e) (record { stored = sym (splice-nil work h); counted = refl })
+-- no value of a half that is forced
+pub computed-none : {forced : Bool} {h : ℕ} {work : List ℤ} {done : Work} (values : List ℤ) → forced ≡ true → done ≡ workOf [] → ValuesPost (computedUnless forced values) h work work done
+computed-none {h = h} {work = work} {done = done} values e of =
+    subst (λ (t : Bool). ValuesPost (computedUnless t values) h work work done) (sym e) (record { stored = sym (splice-nil work h); counted = of })
 
 -- what a half's values leave of the array: its length, and all values above them
 module _ {values work work′ : List ℤ} {h : ℕ} {done : Work} (c : ValuesPost values h work work′ done) (short : length values ≤ h) (fits : h + h ≤ length work) where

@@ -18,17 +18,17 @@ pub fn left_values(forced: bool, h: usize, work: &mut ValueArray) -> Work
     requires { do ⌜ ValuesPre (← ⟦SIZE⟧) (now work) h ⌝ }
     ensures { λ r. ⌜ ValuesPost (computedUnless forced (leftValues h (nodeValues (now (work .entry)) h))) h (now (work .entry)) (now (work .exit)) r ⌝ }
 {
-    let mut steps = 0;
     if forced {
-        return Work { steps };
+        return Work::none();
     }
+    let mut steps = 0;
     let mut j = 0;
     while j < h {
         work[h + j] = f(work[2 * h + j], work[3 * h + j]);
         steps += 1;
         j += 1;
     }
-    Work { steps }
+    Work::of(steps)
 }
 
 // The values of its right half, by the left sums from `base` on.
@@ -43,7 +43,7 @@ pub fn right_values(h: usize, base: usize, sums: &BitArray, work: &mut ValueArra
         steps += 1;
         j += 1;
     }
-    Work { steps }
+    Work::of(steps)
 }
 
 // The same at the root, whose values are the channel's bytes.
@@ -51,17 +51,17 @@ pub fn root_left_values(forced: bool, channel: &[u8], h: usize, work: &mut Value
     requires { do ⌜ RootPre (← ⟦SIZE⟧) (now channel) (now work) h ⌝ }
     ensures { λ r. ⌜ ValuesPost (computedUnless forced (leftValues h (channelValues (now (channel .entry))))) h (now (work .entry)) (now (work .exit)) r ⌝ }
 {
-    let mut steps = 0;
     if forced {
-        return Work { steps };
+        return Work::none();
     }
+    let mut steps = 0;
     let mut j = 0;
     while j < h {
         work[h + j] = f(channel_value(channel[j]), channel_value(channel[h + j]));
         steps += 1;
         j += 1;
     }
-    Work { steps }
+    Work::of(steps)
 }
 
 pub fn root_right_values(channel: &[u8], h: usize, sums: &BitArray, work: &mut ValueArray) -> Work
@@ -79,5 +79,5 @@ pub fn root_right_values(channel: &[u8], h: usize, sums: &BitArray, work: &mut V
         steps += 1;
         j += 1;
     }
-    Work { steps }
+    Work::of(steps)
 }

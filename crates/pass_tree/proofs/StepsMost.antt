@@ -14,9 +14,6 @@ use Rattle.pass_tree.specs.Node.{Out, node}
 use Rattle.pass_tree.specs.declared.Work.{Work}
 use Rattle.pass_tree.proofs.Node.{leftOf, left, right, leaf-cases, node-cases}
 
-abbrev pub counted : ℕ → Work
-counted n = record { steps = n }
-
 abbrev pub steps-of : Work → ℕ
 steps-of w = w .steps
 

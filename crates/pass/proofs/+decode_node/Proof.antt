@@ -1,5 +1,5 @@
 -- `pass::decode_node` meets its contract: each need is a law of proofs/Recursion.antt. The measure is the layer.
-use mathlib.Core.Path.{_≡_, sym, ap, ap₂, _∙_, subst₂}
+use mathlib.Core.Path.{_≡_, refl, sym, ap, ap₂, _∙_, subst₂}
 use mathlib.Core.List.{List, [], _∷_}
 use Prim.Native.Nat.{ℕ, _+_, _-_, _/_, _^_, _≤_, _<_}
 use native.Mathlib.Omega.{arith}
@@ -20,6 +20,7 @@ use Rattle.values.specs.Claims.{Within}
 use Rattle.pass_tree.specs.Node.{plusWork}
 use Rattle.pass_tree.specs.Claims.{most}
 use Rattle.pass_tree.proofs.StepsMost.{steps-of}
+use Rattle.pass_tree.proofs.Work.none.Reads as none-reads
 use Rattle.pass_tree.proofs.Work.plus.Reads as plus-reads
 use Rattle.pass_halves.proofs.left_values.Reads as left-values-reads
 use Rattle.pass_halves.proofs.right_values.Reads as right-values-reads
@@ -51,6 +52,8 @@ abbrev Q : ℕ → lts.Claims
 Q t = (
   rebuild-reads.Asked,
   rebuild-reads.Learnt,
+  none-reads.Asked,
+  none-reads.Learnt,
   is-free-four-reads.Asked,
   is-free-four-reads.Learnt,
   decode-four-reads.Asked,
@@ -80,8 +83,9 @@ module _ (t : ℕ) where
 
   returns : lts.Need-returns (Q t) (at t) node.Post
   returns c =
-      let s = c .before .before .before .before in
-      forced-worked (now (s .args .rules)) (s .pre .1 .0) (c .before .before .before .if1 .taken) (c .rebuild .ensures)
+      let r = c .before in
+      let s = r .before .before .before .before in
+      forced-worked (now (s .args .rules)) (s .pre .1 .0) (r .before .before .before .if1 .taken) (r .rebuild .ensures) (c .none .ensures)
 
   -- ---- a node of layer 2 without a forced bit
 
@@ -106,7 +110,7 @@ module _ (t : ℕ) where
   returns-2 : lts.Need-returns-2 (Q t) (at t) node.Post
   returns-2 c =
       let k = c .before .before .before .before .before in
-      by-value (free k .0) (four k) (ap (λ (m : ℕ). segment (now (start₂ k .args .work)) m m) (four k)) (free k .1) (c .decode-four .ensures)
+      by-value (free k .0) (four k) (ap (λ (m : ℕ). segment (now (start₂ k .args .work)) m m) (four k)) (free k .1) refl (c .decode-four .ensures)
 
   -- ---- a leaf
 
@@ -125,12 +129,13 @@ module _ (t : ℕ) where
 
   returns-3 : lts.Need-returns-3 (Q t) (at t) node.Post
   returns-3 c =
-      let k = c .before .before .before .before .before in
+      let f = c .before in
+      let k = f .before .before .before .before .before in
       let p = start₃ k .pre .1 .0 in
       let work = now (start₃ k .args .work) in
-      let value = back-is w32 (getD work 1 (pos 0)) (record { sfits = c .before .before .before .before .leaf-arg .given }) in
+      let value = back-is w32 (getD work 1 (pos 0)) (record { sfits = f .before .before .before .before .leaf-arg .given }) in
       by-value (k .if3 .taken) (one k) (one-value work (one k) (omega (arith, p .whole .work)) ∙ ap (λ (x : ℤ). x ∷ []) (sym value))
-      (omega (arith, k .before .before .before .if1 .left, one k)) (c .leaf .ensures .1)
+      (omega (arith, k .before .before .before .if1 .left, one k)) (c .none2 .ensures) (f .leaf .ensures .1)
 
   -- ---- two halves
 
@@ -207,12 +212,14 @@ pub +decode-node-spec : {M : Type 1} → statement M
     node.Post
     (λ c. omega (arith, c .pre .1 .0 .fits))
     (rebuild-requires t)
+    (λ c κs. search needs)
     (returns t)
     (λ c κs. search needs)
     (decode-four-requires t)
     (returns-2 t)
     (λ c. search needs)
     (leaf-requires t)
+    (λ c κs. search needs)
     (returns-3 t)
     (λ c. omega (arith, start t c .pre .1 .0 .fits))
     (left-values-requires t)

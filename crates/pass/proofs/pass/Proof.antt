@@ -17,7 +17,10 @@ use Rattle.pass.proofs.pass.Statement.{statement}
 use Rattle.pass.proofs.pass.Tie as tie
 
 returns : tie.Need-returns
-returns c = let s = c .before .before in pass-forced (now (s .args .rules)) (s .pre) (fits (s .pre .n-most)) (c .if1 .taken)
+returns c =
+    let t = c .before in
+    let s = t .before .before in
+    pass-forced (now (s .args .rules)) (s .pre) (fits (s .pre .n-most)) (t .if1 .taken) (c .none .ensures)
 
 -- at the root
 module _ (e : tie.Else1) where
@@ -80,6 +83,7 @@ pub pass-spec : {M : Type 1} → statement M
 pass-spec =
     tie.close
     (tie.spec
+    (λ c κs. search needs)
     returns
     left-requires
     (λ c. search needs)

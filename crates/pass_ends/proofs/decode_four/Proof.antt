@@ -20,7 +20,8 @@ use Rattle.values.proofs.Bounds.{within-right, within-left, back-within}
 use Rattle.pass_tree.specs.declared.Work.{Work}
 use Rattle.pass_tree.specs.Node.{plusWork}
 use Rattle.pass_tree.specs.Claims.{most}
-use Rattle.pass_tree.proofs.StepsMost.{counted, steps-of, same-steps}
+use Rattle.pass_tree.specs.Contracts.{counted}
+use Rattle.pass_tree.proofs.StepsMost.{steps-of, same-steps}
 use Rattle.pass_ends.proofs.Halves.{laid-most}
 use Rattle.pass_ends.proofs.Free.{free-sized, free-combine, free-laid}
 use Rattle.pass_ends.proofs.decode_four.Statement.{statement}
@@ -129,11 +130,12 @@ total a b = let e : 4 + (a .steps + b .steps) ≡ 2 + a .steps + (2 + b .steps) 
 
 returns : tie.Need-returns
 returns c =
-    let r = c .before .before .before .before in
+    let o = c .before .before in
+    let r = o .before .before .before in
     let k = l (n r) in
     let p = start r .pre in
-    let work = c .plus2 .ensures ∙ ap (plusWork (counted 4)) (c .before .plus .ensures) ∙ total _ _ in
-    free-laid 1 _ (now (start r .args .rules)) (v (start r)) (p .0) (p .1) (left-own (m k)) (k .decode-two .ensures) (right-own (n r)) (r .decode-two2 .ensures) work (c .before .before .combine .ensures)
+    let work = c .plus2 .ensures ∙ ap₂ plusWork (o .of .ensures) (c .before .plus .ensures) ∙ total _ _ in
+    free-laid 1 _ (now (start r .args .rules)) (v (start r)) (p .0) (p .1) (left-own (m k)) (k .decode-two .ensures) (right-own (n r)) (r .decode-two2 .ensures) work (o .before .combine .ensures)
 
 pub decode-four-spec : {M : Type 1} → statement M
 decode-four-spec =
@@ -156,6 +158,7 @@ decode-four-spec =
     decode-two-requires-2
     (λ c. search needs)
     combine-requires
-    (λ c κs. omega (arith, few (c .before .before)))
-    (λ c κs. omega (arith, ap steps-of (c .plus .ensures), few (c .before .before .before)))
+    (λ c κs. search needs)
+    (λ c κs. omega (arith, few (c .before .before .before)))
+    (λ c κs. omega (arith, ap steps-of (c .plus .ensures), ap steps-of (c .before .of .ensures), few (c .before .before .before .before)))
     returns)

@@ -81,9 +81,9 @@ combine-requires c κs =
 
 returns : tie.Need-returns
 returns c =
-    let r = c .before .before in
+    let r = c .before .before .before in
     let p = s (k r) .pre in
-    free-laid 0 _ (now (s (k r) .args .rules)) (v (s (k r))) (p .0) (p .1) (left-own (k r)) (k r .leaf .ensures .1) (right-own r) (r .leaf2 .ensures .1) refl (c .combine .ensures)
+    free-laid 0 _ (now (s (k r) .args .rules)) (v (s (k r))) (p .0) (p .1) (left-own (k r)) (k r .leaf .ensures .1) (right-own r) (r .leaf2 .ensures .1) (c .of .ensures) (c .before .combine .ensures)
 
 pub decode-two-spec : {M : Type 1} → statement M
 decode-two-spec =
@@ -97,4 +97,5 @@ decode-two-spec =
     leaf-requires-2
     (λ c. search needs)
     combine-requires
+    (λ c κs. search needs)
     returns)

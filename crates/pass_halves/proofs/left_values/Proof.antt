@@ -17,8 +17,9 @@ abbrev μ-loop : tie.MeasureT-loop
 
 returns : tie.Need-returns Inv-loop μ-loop
 returns c =
-    let s = c .before .args in
-    computed-none (leftValues (s .h) (nodeValues (now (s .work)) (s .h))) (c .if1 .taken)
+    let t = c .before in
+    let s = t .before .args in
+    computed-none (leftValues (s .h) (nodeValues (now (s .work)) (s .h))) (t .if1 .taken) (c .none .ensures)
 
 f-requires : tie.Need-f-requires Inv-loop μ-loop
 f-requires c κs =
@@ -35,8 +36,9 @@ loop-again c =
 returns-2 : tie.Need-returns-2 Inv-loop μ-loop
 unfolding leftValues
 returns-2 c =
-    let p = c .before .before .before .pre in
-    computed-all (c .before .before .if1 .left) (c .before .loop .inv) (omega arith) (omega (arith, p .whole, p .fits))
+    let l = c .before .before in
+    let p = l .before .before .pre in
+    computed-all (l .before .if1 .left) (l .loop .inv) (omega arith) (omega (arith, p .whole, p .fits)) (c .of .ensures)
 
 pub left-values-spec : {M : Type 1} → statement M
 left-values-spec =
@@ -44,6 +46,7 @@ left-values-spec =
     (tie.spec
     Inv-loop
     μ-loop
+    (λ c κs. search needs)
     returns
     (λ c. computing-none)
     (λ c. search needs)
@@ -62,4 +65,5 @@ left-values-spec =
     (λ c. search needs)
     (λ c. search needs)
     loop-again
+    (λ c κs. search needs)
     returns-2)

@@ -32,7 +32,10 @@ loop-again c =
 
 returns : tie.Need-returns Inv-loop μ-loop
 unfolding rightValues
-returns c = let p = c .before .before .pre .0 in computed (c .before .loop .inv) (omega arith) (omega (arith, p .whole, p .fits))
+returns c =
+    let l = c .before .before in
+    let p = l .before .pre .0 in
+    computed (l .loop .inv) (omega arith) (omega (arith, p .whole, p .fits)) (c .of .ensures)
 
 pub right-values-spec : {M : Type 1} → statement M
 right-values-spec =
@@ -59,4 +62,5 @@ right-values-spec =
     (λ c. search needs)
     (λ c. search needs)
     loop-again
+    (λ c κs. search needs)
     returns)

@@ -17,8 +17,9 @@ abbrev μ-loop : tie.MeasureT-loop
 
 returns : tie.Need-returns Inv-loop μ-loop
 returns c =
-    let s = c .before .before .args in
-    computed-none (leftValues (s .h) (channelValues (now (s .channel)))) (c .if1 .taken)
+    let t = c .before in
+    let s = t .before .before .args in
+    computed-none (leftValues (s .h) (channelValues (now (s .channel)))) (t .if1 .taken) (c .none .ensures)
 
 -- what a turn reads
 module _ (c : tie.After-channel-value2 Inv-loop μ-loop) where
@@ -40,8 +41,9 @@ loop-again c = left-turn (record { sfits = c .f .ok }) (omega arith) (l (c .befo
 returns-2 : tie.Need-returns-2 Inv-loop μ-loop
 unfolding leftValues
 returns-2 c =
-    let p = c .before .before .before .before .pre in
-    computed-all (c .before .before .if1 .left) (c .before .loop .inv) (omega arith) (omega (arith, p .whole, p .fits))
+    let l = c .before .before in
+    let p = l .before .before .before .pre in
+    computed-all (l .before .if1 .left) (l .loop .inv) (omega arith) (omega (arith, p .whole, p .fits)) (c .of .ensures)
 
 pub root-left-values-spec : {M : Type 1} → statement M
 root-left-values-spec =
@@ -49,6 +51,7 @@ root-left-values-spec =
     (tie.spec
     Inv-loop
     μ-loop
+    (λ c κs. search needs)
     returns
     (λ c. computing-none)
     (λ c. search needs)
@@ -64,4 +67,5 @@ root-left-values-spec =
     (λ c. search needs)
     (λ c. search needs)
     loop-again
+    (λ c κs. search needs)
     returns-2)

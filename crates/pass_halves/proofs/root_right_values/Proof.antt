@@ -40,7 +40,10 @@ loop-again c =
 
 returns : tie.Need-returns Inv-loop μ-loop
 unfolding rightValues
-returns c = let p = c .before .before .before .pre in computed (c .before .loop .inv) (omega arith) (omega (arith, p .whole, p .fits))
+returns c =
+    let l = c .before .before in
+    let p = l .before .before .pre in
+    computed (l .loop .inv) (omega arith) (omega (arith, p .whole, p .fits)) (c .of .ensures)
 
 pub root-right-values-spec : {M : Type 1} → statement M
 root-right-values-spec =
@@ -63,4 +66,5 @@ root-right-values-spec =
     (λ c. search needs)
     (λ c. search needs)
     loop-again
+    (λ c κs. search needs)
     returns)
