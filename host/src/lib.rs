@@ -6,8 +6,10 @@
 //! - `bench`: the benchmark, beside plain C and the package `plain`
 //! - `simulation`: what flipping gains under noise, and what restarting saves beside the papers
 //! - `silence`: whether a code accepts zero values as a frame
+//! - `promises`: the texts of contracts and statements, and which of them moved since a commit
 
 pub mod bench;
+pub mod promises;
 pub mod reference;
 pub mod silence;
 pub mod simulation;

@@ -4,7 +4,8 @@
 //! and `faulty` make inputs, `cab` calls on a hearing, `streams` what `receive` reads, `passing` frames
 //! that a chosen trial accepts, `paper` has those that the documents name, `examples` those of flip sets
 //! by hand, `hex` reads bytes, `met` counts refusals, and `outcomes` what became of frames; `files` has
-//! the repository's files, and `belief` what must be believed of the definitions.
+//! the repository's files, `belief` what must be believed of the definitions, and `words` how long the parts
+//! of functions are.
 
 pub mod belief;
 pub mod cab;
@@ -29,3 +30,4 @@ pub mod sealed;
 pub mod sets;
 pub mod stack;
 pub mod streams;
+pub mod words;

@@ -3,79 +3,29 @@
 
 use std::fs;
 
+use host::promises::{cited, Roots};
+use host::testing::belief::source::here;
 use host::testing::belief::{Cited, Crates};
 use host::testing::files::repository;
-
-/// The public operations, each with its crate.
-const OPERATIONS: [(&str, &str); 16] = [
-    ("code", "read_description"),
-    ("encoder", "encode"),
-    ("pass_resume", "resume"),
-    ("flip_decoder", "decode_full"),
-    ("flip_decoder", "decode_half"),
-    ("flip_decoder", "decode_restarted"),
-    ("sets_decoder", "decode_sets_full"),
-    ("sets_decoder", "decode_sets_half"),
-    ("sets_decoder", "decode_sets_restarted"),
-    ("hearing_state", "open"),
-    ("hearing_state", "add"),
-    ("hearing_state", "clear"),
-    ("hearing_state", "decode_full"),
-    ("hearing_state", "decode_restarted"),
-    ("hearing_preview", "preview"),
-    ("quantiser", "quantise"),
-];
-
-/// What `receive` prints and how it runs, and the statements of the main theorems.
-const DEFINITIONS: [(&str, &str); 16] = [
-    ("receive_stream", "printed"),
-    ("receive_stream", "Run"),
-    ("flip_demands", "Demand3"),
-    ("flip_demands", "NoiselessDecoding"),
-    ("theorems_start", "Trial1Fails"),
-    ("theorems_start", "SilenceFails"),
-    ("theorems_start", "SilenceLater"),
-    ("sets_demands", "SetsDemand3"),
-    ("sets_demands", "SetsNoiseless"),
-    ("sets_demands", "StaysAccepted"),
-    ("theorems_largest", "OldAnswers"),
-    ("theorems_half", "ThreeDecode"),
-    ("theorems_half", "ThreeDecodeSets"),
-    ("theorems_half", "StaysAccepted"),
-    ("hearing_demands", "HeldAfter"),
-    ("hearing_demands", "BufferAfter"),
-];
 
 /// One sitting.
 const MOST_LINES: usize = 860;
 
 fn crates() -> Crates {
-    Crates::read(&repository().join("crates")).expect("the crates")
+    Crates::read(&here())
 }
 
-/// All that promises and main theorems cite.
-fn cited(crates: &Crates) -> Cited {
-    let mut cited = Cited::default();
-    for (of, name) in OPERATIONS {
-        crates.cite_function(of, name, &mut cited);
-    }
-    let exports = crates.exports("polar");
-    assert!(!exports.is_empty());
-    for name in exports {
-        crates.cite_function("polar", &name, &mut cited);
-    }
-    for (of, name) in DEFINITIONS {
-        match crates.definition(of, name) {
-            Some(definition) => crates.cite("this test", definition, &mut cited),
-            None => cited.faults.push(format!("{of}: {name} is not found")),
-        }
-    }
+/// All that promises and main theorems cite, and what is wrong with it.
+fn all_cited(crates: &Crates) -> Cited {
+    let roots = Roots::find(crates);
+    let mut cited = cited(crates, &roots.names);
+    cited.faults.extend(roots.missing);
     cited
 }
 
 #[test]
 fn promises_cite_only_what_is_to_be_believed() {
-    let faults = cited(&crates()).faults;
+    let faults = all_cited(&crates()).faults;
     assert!(faults.is_empty(), "\n{}\n", faults.join("\n"));
 }
 
@@ -83,7 +33,7 @@ fn promises_cite_only_what_is_to_be_believed() {
 #[test]
 fn definitions_that_no_promise_needs() {
     let crates = crates();
-    for name in crates.others(&cited(&crates).names) {
+    for name in crates.others(&all_cited(&crates).names) {
         println!("no promise needs {name}");
     }
 }

@@ -1,14 +1,11 @@
 //! The largest n stands in one place of each language, and what follows from it is named and not
 //! spelt out.
 
-use std::fs;
-use std::path::Path;
-
 use host::reference::description::{record, LONGEST_DESCRIPTION};
 use host::reference::sizes::{
     DEEPEST, HEARING_SIZE, LAYERS, LONGEST, LONGEST_BYTES, MOST_STEPS, MOST_TRIALS,
 };
-use host::testing::files::{repository, text};
+use host::testing::files::{below, text};
 
 /// The largest n, the longest code, its mask, its steps and trials, the longest description of each
 /// kind, and a hearing's state, as they could be spelt out.
@@ -97,20 +94,11 @@ fn spelt<'a>(spellings: &'a [String], path: &str, line: &str) -> Option<&'a str>
 
 /// The files below a folder whose names have one of these ends, as paths from the repository.
 fn files(folder: &str, ends: &[&str]) -> Vec<String> {
-    let mut files = Vec::new();
-    for entry in fs::read_dir(repository().join(folder)).expect("a folder") {
-        let entry = entry.expect("an entry");
-        let path = format!("{folder}/{}", entry.file_name().to_string_lossy());
-        if entry.file_type().expect("a type").is_dir() {
-            files.extend(self::files(&path, ends));
-        } else if Path::new(&path)
-            .extension()
-            .is_some_and(|of| ends.iter().any(|end| of == *end))
-        {
-            files.push(path);
-        }
-    }
-    files
+    let has_end = |path: &String| {
+        let (_, of) = path.rsplit_once('.').unwrap_or_default();
+        ends.contains(&of)
+    };
+    below(folder).into_iter().filter(has_end).collect()
 }
 
 #[test]

@@ -7,24 +7,28 @@
 
 mod code;
 mod name;
+mod proof;
+pub mod source;
 mod spec;
+mod texts;
 
 pub use code::Code;
-pub use name::{Import, Name, Place};
+pub use name::{Import, Kind, Name, Place};
+pub use proof::Proof;
 pub use spec::{Definition, Spec};
+pub use texts::Text;
 
 use std::collections::{BTreeMap, BTreeSet};
-use std::fs;
-use std::io::Result;
-use std::path::Path;
 
 use name::words;
+use source::Files;
 
-/// The specs and the code of all crates.
+/// The specs, the code and the proofs of all crates.
 #[derive(Default)]
 pub struct Crates {
     specs: BTreeMap<Place, Spec>,
     code: BTreeMap<String, Code>,
+    proofs: BTreeMap<Place, Proof>,
 }
 
 /// What some roots cite, directly or through other definitions, and what is wrong with that.
@@ -35,33 +39,17 @@ pub struct Cited {
 }
 
 impl Crates {
-    /// Reads a folder that has a folder for each crate.
-    pub fn read(folder: &Path) -> Result<Crates> {
+    pub fn read(files: &Files) -> Crates {
         let mut crates = Crates::default();
-        for entry in fs::read_dir(folder)? {
-            let path = entry?.path();
-            let name = stem(&path);
-            for file in ["src/lib.rt", "src/main.rt"].map(|file| path.join(file)) {
-                if file.exists() {
-                    crates.add_code(&name, &fs::read_to_string(file)?);
-                }
-            }
-            let specs = path.join("specs");
-            if specs.exists() {
-                crates.read_specs(&name, &specs)?;
+        for (path, text) in files {
+            match source::parts(path) {
+                Some((of, "src", _)) => crates.add_code(of, text),
+                Some((of, "specs", file)) => crates.add_spec(&Place::new(of, file), text),
+                Some((of, _, file)) => crates.add_proof(&Place::proofs(of, file), text),
+                None => {}
             }
         }
-        Ok(crates)
-    }
-
-    fn read_specs(&mut self, name: &str, folder: &Path) -> Result<()> {
-        for entry in fs::read_dir(folder)? {
-            let path = entry?.path();
-            if path.extension().is_some_and(|end| end == "antt") {
-                self.add_spec(&Place::new(name, &stem(&path)), &fs::read_to_string(path)?);
-            }
-        }
-        Ok(())
+        crates
     }
 
     pub fn add_code(&mut self, name: &str, text: &str) {
@@ -72,6 +60,10 @@ impl Crates {
         self.specs.insert(place.clone(), Spec::read(place, text));
     }
 
+    pub fn add_proof(&mut self, place: &Place, text: &str) {
+        self.proofs.insert(place.clone(), Proof::read(text));
+    }
+
     /// The exported functions of a crate.
     pub fn exports(&self, name: &str) -> Vec<String> {
         let functions = self.code.get(name).map(|code| &code.functions);
@@ -79,10 +71,24 @@ impl Crates {
         exported.map(|f| f.name.clone()).collect()
     }
 
+    /// The function of a crate that has a name.
+    pub fn function(&self, of: &str, name: &str) -> Option<Name> {
+        let functions = &self.code.get(of)?.functions;
+        let found = functions.iter().find(|function| function.name == name);
+        found.map(|_| Place::code(of).name(name))
+    }
+
     /// The definition of a crate that has a name, in a file that is to be believed.
     pub fn definition(&self, of: &str, name: &str) -> Option<Name> {
         let mut believed = self.believed().filter(|(place, _)| place.of == of);
         let found = believed.find(|(_, spec)| spec.definition(name).is_some());
+        found.map(|(place, _)| place.name(name))
+    }
+
+    /// The public theorem of a crate that has a name.
+    pub fn theorem(&self, of: &str, name: &str) -> Option<Name> {
+        let mut proofs = self.proofs.iter().filter(|(place, _)| place.of == of);
+        let found = proofs.find(|(_, proof)| proof.theorem(name).is_some());
         found.map(|(place, _)| place.name(name))
     }
 
@@ -191,11 +197,6 @@ fn citations(text: &str, imports: &[Import], own: impl Fn(&str) -> Option<Name>)
     words(text)
         .filter_map(|word| own(word).or_else(|| of(word)))
         .collect()
-}
-
-fn stem(path: &Path) -> String {
-    let stem = path.file_stem().unwrap_or_default();
-    stem.to_string_lossy().into_owned()
 }
 
 #[cfg(test)]

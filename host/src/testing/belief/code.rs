@@ -6,21 +6,23 @@ use crate::testing::belief::name::Import;
 pub struct Code {
     pub imports: Vec<Import>,
     pub functions: Vec<Function>,
-    types: Vec<Type>,
+    pub types: Vec<Type>,
 }
 
-/// A function and the text of its contract.
+/// A function, the text before its body, and its contract alone.
 #[derive(Debug, PartialEq, Eq)]
 pub struct Function {
     pub name: String,
     pub is_exported: bool,
+    pub head: String,
     pub contract: String,
 }
 
 #[derive(Debug, PartialEq, Eq)]
-struct Type {
-    name: String,
-    variants: Vec<String>,
+pub struct Type {
+    pub name: String,
+    pub variants: Vec<String>,
+    pub text: String,
 }
 
 impl Code {
@@ -33,15 +35,20 @@ impl Code {
         for (index, line) in lines.iter().enumerate() {
             let is_exported = index > 0 && lines[index - 1] == "#[no_mangle]";
             if let Some(name) = name_after(line, &["fn"]) {
+                let head = head(&lines[index..]);
                 code.functions.push(Function {
                     name,
                     is_exported,
-                    contract: contract(&lines[index..]),
+                    contract: contract(&head),
+                    head: head.join("\n"),
                 });
             }
             if let Some(name) = name_after(line, &["struct", "enum"]) {
-                let variants = variants(&lines[index + 1..]);
-                code.types.push(Type { name, variants });
+                code.types.push(Type {
+                    name,
+                    variants: variants(&lines[index + 1..]),
+                    text: declaration(&lines[index..]),
+                });
             }
         }
         code
@@ -67,17 +74,37 @@ fn name_at_start(text: &str) -> String {
     text.chars().take_while(is_part).collect()
 }
 
-/// The contract of the function that begins here: what stands between its signature and its body.
-fn contract(lines: &[&str]) -> String {
-    let is_body = |line: &&&str| !line.starts_with(' ') && line.ends_with('{');
-    let before = lines.iter().take_while(|line| !is_body(line));
+/// The function that begins here, without its body and without comments.
+fn head<'a>(lines: &[&'a str]) -> Vec<&'a str> {
+    let is_body = |line: &&str| !line.starts_with(' ') && line.ends_with('{');
+    let body = lines.iter().position(is_body).unwrap_or(lines.len());
+    let last = lines.get(body).map(|line| line.trim_end_matches('{'));
+    let head = lines[..body].iter().copied().chain(last);
+    head.filter(|line| is_code(line)).collect()
+}
+
+/// Of the lines before a body, those of the contract.
+fn contract(head: &[&str]) -> String {
     let is_clause = |line: &&&str| {
         ["requires", "ensures"]
             .iter()
             .any(|word| line.trim().starts_with(word))
     };
-    let contract = before.skip_while(|line| !is_clause(line));
+    let contract = head.iter().skip_while(|line| !is_clause(line));
     contract.copied().collect::<Vec<_>>().join("\n")
+}
+
+/// The type that begins here, without comments.
+fn declaration(lines: &[&str]) -> String {
+    let is_end = |line: &&str| *line == "}" || line.ends_with(';');
+    let end = lines.iter().position(is_end).unwrap_or(0);
+    let lines = lines[..=end].iter().filter(|line| is_code(line));
+    lines.copied().collect::<Vec<_>>().join("\n")
+}
+
+/// Whether a line is neither empty nor a comment.
+fn is_code(line: &str) -> bool {
+    !line.trim().is_empty() && !line.trim().starts_with("//")
 }
 
 /// The variants of the type whose body begins here, or its fields.
@@ -122,15 +149,17 @@ pub extern \"C\" fn polar_first(
     #[test]
     fn functions_and_contracts() {
         let code = Code::read(TEXT);
-        let function = |name: &str, is_exported, contract: &str| Function {
+        let function = |name: &str, is_exported, signature: &str, contract: &str| Function {
             name: name.to_string(),
             is_exported,
+            head: [signature, contract].concat(),
             contract: contract.to_string(),
         };
         let contract = "    requires { ⌜ before ⌝ }\n    ensures { λ x. ⌜ after ⌝ }";
+        let first = "pub extern \"C\" fn polar_first(\n    d: &[u8],\n) -> u64\n";
         let expected = [
-            function("plain", false, ""),
-            function("polar_first", true, contract),
+            function("plain", false, "fn plain(x: u8) -> u8 ", ""),
+            function("polar_first", true, first, contract),
         ];
         assert_eq!(code.functions, expected);
         assert_eq!(code.imports.len(), 1);
@@ -142,6 +171,9 @@ pub extern \"C\" fn polar_first(
         for name in ["Answer", "Done", "Refused", "Failed"] {
             assert!(code.declares("Answer", name), "{name}");
         }
+        let text = &code.types[0].text;
+        assert!(text.starts_with("pub enum Answer {") && text.ends_with("    Failed,\n}"));
+        assert!(!text.contains("not made"));
         assert!(!code.declares("Answer", "Refusal"));
         assert!(!code.declares("Done", "Done"));
     }

@@ -9,11 +9,25 @@ const APART: [&str; 3] = ["Claims", "Contracts", "Lib"];
 const UNPROMISED: [&str; 2] = ["probe", "receive"];
 
 /// A module below a crate's specs. `declared.T` has the type T that the crate's code declares, and
-/// `declared.T.the-variants` its variants.
+/// `declared.T.the-variants` its variants. Besides, `src` is the crate's code and `proofs.F` a file of
+/// its proofs.
 #[derive(Clone, Debug, PartialEq, Eq, PartialOrd, Ord)]
 pub struct Place {
     pub of: String,
     pub module: String,
+}
+
+/// What a name stands for.
+#[derive(Clone, Copy, Debug, PartialEq, Eq)]
+pub enum Kind {
+    /// A function's contract.
+    Contract,
+    /// A type that the code declares.
+    Type,
+    /// A definition of specs/.
+    Definition,
+    /// What a theorem of proofs/ says.
+    Theorem,
 }
 
 impl Place {
@@ -21,6 +35,41 @@ impl Place {
         Place {
             of: of.to_string(),
             module: module.to_string(),
+        }
+    }
+
+    /// The code of a crate.
+    pub fn code(of: &str) -> Place {
+        Place::new(of, "src")
+    }
+
+    /// A type that the code of a crate declares.
+    pub fn declaration(of: &str, declared: &str) -> Place {
+        Place::new(of, &format!("declared.{declared}"))
+    }
+
+    /// A file of proofs.
+    pub fn proofs(of: &str, file: &str) -> Place {
+        Place::new(of, &format!("proofs.{file}"))
+    }
+
+    /// What stands here.
+    pub fn kind(&self) -> Kind {
+        match self.module.split('.').next() {
+            Some("src") => Kind::Contract,
+            Some("declared") => Kind::Type,
+            Some("proofs") => Kind::Theorem,
+            _ => Kind::Definition,
+        }
+    }
+
+    /// The file below crates/, or the folder of the code.
+    pub fn file(&self) -> String {
+        let Place { of, module } = self;
+        match self.kind() {
+            Kind::Contract | Kind::Type => format!("{of}/src"),
+            Kind::Definition => format!("{of}/specs/{module}.antt"),
+            Kind::Theorem => format!("{of}/{}.antt", module.replace('.', "/")),
         }
     }
 
@@ -42,10 +91,10 @@ impl Place {
     }
 
     /// The place of a path: `Rattle.bits.specs.Mask` from other crates, and
-    /// `Rattle.bits.specs.Mask` from the crate itself.
+    /// `Rattle.bits.specs.Mask` from the crate itself; likewise for proofs.
     fn of_path(path: &str) -> Option<Place> {
         let (of, module) = path.strip_prefix("Rattle·")?.split_once('.')?;
-        let of = of.strip_suffix("·specs").unwrap_or(of);
+        let (of, _) = of.split_once('·').unwrap_or((of, ""));
         Some(Place::new(
             of,
             module.strip_prefix("specs.").unwrap_or(module),
@@ -62,11 +111,10 @@ pub struct Name {
 
 impl Display for Name {
     fn fmt(&self, to: &mut Formatter) -> fmt::Result {
-        let (of, name) = (&self.place.of, &self.name);
+        let (file, name) = (self.place.file(), &self.name);
         match self.place.declared() {
-            Some(declared) if declared == name => write!(to, "{of}/src: {name}"),
-            Some(declared) => write!(to, "{of}/src: {declared}::{name}"),
-            None => write!(to, "{of}/specs/{}.antt: {name}", self.place.module),
+            Some(declared) if declared != name => write!(to, "{file}: {declared}::{name}"),
+            _ => write!(to, "{file}: {name}"),
         }
     }
 }
@@ -158,14 +206,20 @@ mod tests {
         ] {
             assert_eq!(Import::read(line), expected);
         }
+        let line = "use Rattle.bits.proofs.Mask.{mask-bit}";
+        let proved = Place::proofs("bits", "Mask").name("mask-bit");
+        assert_eq!(
+            Import::read(line),
+            [Import::One("mask-bit".to_string(), proved)]
+        );
         assert_eq!(expected[1].name_of("ones"), Some(mask.name("onesIn")));
         assert_eq!(expected[1].name_of("onesIn"), None);
     }
 
     #[test]
     fn whole_modules() {
-        let variants = Place::new("flip_decoder", "declared.Decoded.the-variants");
-        let line = "use Rattle.flip.specs.declared.Decoded.the-variants as decode";
+        let variants = Place::new("flip_run", "declared.Decoded.the-variants");
+        let line = "use Rattle.flip_run.specs.declared.Decoded.the-variants as decode";
         let imports = Import::read(line);
         assert_eq!(
             imports,
@@ -210,6 +264,26 @@ mod tests {
             "decode.Done",
         ];
         assert_eq!(found, expected);
+    }
+
+    #[test]
+    fn places_and_their_files() {
+        for (place, kind, file) in [
+            (Place::code("bits"), Kind::Contract, "bits/src"),
+            (Place::declaration("code", "Code"), Kind::Type, "code/src"),
+            (
+                Place::new("bits", "Mask"),
+                Kind::Definition,
+                "bits/specs/Mask.antt",
+            ),
+            (
+                Place::proofs("bits", "Mask"),
+                Kind::Theorem,
+                "bits/proofs/Mask.antt",
+            ),
+        ] {
+            assert_eq!((place.kind(), place.file()), (kind, file.to_string()));
+        }
     }
 
     #[test]

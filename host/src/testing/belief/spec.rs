@@ -31,7 +31,7 @@ impl Spec {
         for block in text.split("\n\n") {
             let (uses, lines): (Vec<&str>, Vec<&str>) = block
                 .lines()
-                .filter(|line| !line.trim().is_empty() && !line.trim().starts_with("--"))
+                .filter(|line| is_code(line))
                 .partition(|line| line.starts_with("use "));
             spec.imports.extend(uses.into_iter().flat_map(Import::read));
             spec.lines += lines.len();
@@ -57,6 +57,11 @@ impl Spec {
     }
 }
 
+/// Whether a line is neither empty nor a comment.
+pub fn is_code(line: &str) -> bool {
+    !line.trim().is_empty() && !line.trim().starts_with("--")
+}
+
 /// The names that a block defines.
 fn defined(lines: &[&str]) -> Vec<String> {
     let mut names = Vec::new();
@@ -74,7 +79,7 @@ fn defined(lines: &[&str]) -> Vec<String> {
 }
 
 /// The name that a first line of a definition gives.
-fn head(line: &str) -> Option<String> {
+pub fn head(line: &str) -> Option<String> {
     let words: Vec<&str> = line.split_whitespace().collect();
     let after = |keyword: &str| {
         let place = words.iter().position(|word| *word == keyword)?;

@@ -1,0 +1,137 @@
+//! What promises begin with: the public operations, the main statements and their theorems.
+
+use crate::testing::belief::{Cited, Crates, Kind, Name, Place};
+
+/// The public operations, each with its crate.
+const OPERATIONS: [(&str, &str); 16] = [
+    ("code", "read_description"),
+    ("encoder", "encode"),
+    ("pass_resume", "resume"),
+    ("flip_decoder", "decode_full"),
+    ("flip_decoder", "decode_half"),
+    ("flip_decoder", "decode_restarted"),
+    ("sets_decoder", "decode_sets_full"),
+    ("sets_decoder", "decode_sets_half"),
+    ("sets_decoder", "decode_sets_restarted"),
+    ("hearing_state", "open"),
+    ("hearing_state", "add"),
+    ("hearing_state", "clear"),
+    ("hearing_state", "decode_full"),
+    ("hearing_state", "decode_restarted"),
+    ("hearing_preview", "preview"),
+    ("quantiser", "quantise"),
+];
+
+/// The crate whose exports are public operations too.
+const EXPORTING: &str = "polar";
+
+/// What `receive` prints and how it runs, and the statements of the main theorems.
+const DEFINITIONS: [(&str, &str); 16] = [
+    ("receive_stream", "printed"),
+    ("receive_stream", "Run"),
+    ("flip_demands", "Demand3"),
+    ("flip_demands", "NoiselessDecoding"),
+    ("theorems_start", "Trial1Fails"),
+    ("theorems_start", "SilenceFails"),
+    ("theorems_start", "SilenceLater"),
+    ("sets_demands", "SetsDemand3"),
+    ("sets_demands", "SetsNoiseless"),
+    ("sets_demands", "StaysAccepted"),
+    ("theorems_largest", "OldAnswers"),
+    ("theorems_half", "ThreeDecode"),
+    ("theorems_half", "ThreeDecodeSets"),
+    ("theorems_half", "StaysAccepted"),
+    ("hearing_demands", "HeldAfter"),
+    ("hearing_demands", "BufferAfter"),
+];
+
+/// The main theorems.
+const THEOREMS: [(&str, &str); 16] = [
+    ("receive_stream", "run-printed"),
+    ("flip_demands", "demand-3"),
+    ("flip_demands", "noiseless-decoding"),
+    ("theorems_start", "trial-1-fails"),
+    ("theorems_start", "silence-fails"),
+    ("theorems_start", "silence-later"),
+    ("sets_demands", "sets-demand-3"),
+    ("sets_demands", "sets-noiseless"),
+    ("sets_demands", "stays-accepted"),
+    ("theorems_largest", "old-answers"),
+    ("theorems_half", "three-decode"),
+    ("theorems_half", "three-decode-sets"),
+    ("theorems_half", "stays-accepted"),
+    ("hearing_demands", "held-after"),
+    ("hearing_demands", "buffer-after"),
+    ("vectors", "starred"),
+];
+
+/// The names found, and what is not found.
+#[derive(Debug, Default, PartialEq)]
+pub struct Roots {
+    pub names: Vec<Name>,
+    pub missing: Vec<String>,
+}
+
+impl Roots {
+    pub fn find(crates: &Crates) -> Roots {
+        let mut roots = Roots::default();
+        for (of, name) in OPERATIONS {
+            roots.add(of, name, crates.function(of, name));
+        }
+        for (of, name) in DEFINITIONS {
+            roots.add(of, name, crates.definition(of, name));
+        }
+        for (of, name) in THEOREMS {
+            roots.add(of, name, crates.theorem(of, name));
+        }
+        roots.add_exports(crates.exports(EXPORTING));
+        roots
+    }
+
+    fn add(&mut self, of: &str, name: &str, found: Option<Name>) {
+        match found {
+            Some(name) => self.names.push(name),
+            None => self.missing.push(format!("{of}: {name} is not found")),
+        }
+    }
+
+    fn add_exports(&mut self, exports: Vec<String>) {
+        if exports.is_empty() {
+            self.missing.push(format!("{EXPORTING} exports nothing"));
+        }
+        let place = Place::code(EXPORTING);
+        let names = exports.iter().map(|name| place.name(name));
+        self.names.extend(names);
+    }
+}
+
+/// All that contracts and statements cite, and the statements themselves, without what theorems cite
+/// besides.
+pub fn cited(crates: &Crates, roots: &[Name]) -> Cited {
+    let mut cited = Cited::default();
+    for root in roots {
+        match root.place.kind() {
+            Kind::Contract => crates.cite_function(&root.place.of, &root.name, &mut cited),
+            Kind::Definition => crates.cite("the list of statements", root.clone(), &mut cited),
+            Kind::Type | Kind::Theorem => {}
+        }
+    }
+    cited
+}
+
+#[cfg(test)]
+mod tests {
+    use super::*;
+
+    #[test]
+    fn what_is_not_found() {
+        let mut crates = Crates::default();
+        crates.add_code("code", "pub fn read_description(d: &[u8]) -> u8 {\n}\n");
+        let roots = Roots::find(&crates);
+        assert_eq!(roots.names, [Place::code("code").name("read_description")]);
+        let rest = OPERATIONS.len() - 1 + DEFINITIONS.len() + THEOREMS.len();
+        assert_eq!(roots.missing.len(), rest + 1);
+        assert_eq!(roots.missing[0], "encoder: encode is not found");
+        assert_eq!(roots.missing[rest], "polar exports nothing");
+    }
+}
