@@ -14,8 +14,12 @@ ghost use Rattle.bits.specs.Packing.{packedByte, packed};
 // Looks at the next bit of the mask: `looks` bits were looked at before it, and `ones` of those are ones. No other function reads the mask, so
 // each look is counted.
 fn look(mask: &[u8], looks: &mut usize, ones: &mut usize) -> u8
-    requires { ⌜ (8 * length (now mask) < 2 ^ 64) × (now looks < 8 * length (now mask)) × (now ones ≡ onesBelow (now mask) (now looks)) ⌝ }
-    ensures { λ b. ⌜ (b ≡ maskBit (now (mask .entry)) (now (looks .entry))) × (now (looks .exit) ≡ now (looks .entry) + 1) × (now (ones .exit) ≡ onesBelow (now (mask .entry)) (now (looks .entry) + 1)) ⌝ }
+    requires { ⌜ (8 * length (now mask) < 2 ^ 64)
+        × (now looks < 8 * length (now mask))
+        × (now ones ≡ onesBelow (now mask) (now looks)) ⌝ }
+    ensures { λ b. ⌜ (b ≡ maskBit (now (mask .entry)) (now (looks .entry)))
+        × (now (looks .exit) ≡ now (looks .entry) + 1)
+        × (now (ones .exit) ≡ onesBelow (now (mask .entry)) (now (looks .entry) + 1)) ⌝ }
 {
     let information = bits::mask_bit(mask, *looks);
     *looks += 1;
@@ -33,8 +37,13 @@ fn placed_bit(message: &[u8], c: usize, information: u8) -> u8
 
 // The bits for the indices of mask byte m, packed: the next eight looks.
 fn placed_byte(mask: &[u8], message: &[u8], m: usize, looks: &mut usize, ones: &mut usize) -> u8
-    requires { ⌜ PlacePre (now mask) (now message) × (m < length (now mask)) × (now looks ≡ 8 * m) × (now ones ≡ onesBelow (now mask) (8 * m)) ⌝ }
-    ensures { λ byte. ⌜ (byte ≡ packedByte (placed (now (mask .entry)) (now (message .entry)) (8 * length (now (mask .entry)))) m) × (now (looks .exit) ≡ 8 * (m + 1)) × (now (ones .exit) ≡ onesBelow (now (mask .entry)) (8 * (m + 1))) ⌝ }
+    requires { ⌜ PlacePre (now mask) (now message)
+        × (m < length (now mask))
+        × (now looks ≡ 8 * m)
+        × (now ones ≡ onesBelow (now mask) (8 * m)) ⌝ }
+    ensures { λ byte. ⌜ (byte ≡ packedByte (placed (now (mask .entry)) (now (message .entry)) (8 * length (now (mask .entry)))) m)
+        × (now (looks .exit) ≡ 8 * (m + 1))
+        × (now (ones .exit) ≡ onesBelow (now (mask .entry)) (8 * (m + 1))) ⌝ }
 {
     let mut byte: u8 = 0;
     let mut b: usize = 0;
@@ -51,7 +60,8 @@ fn placed_byte(mask: &[u8], message: &[u8], m: usize, looks: &mut usize, ones: &
 // looks at a bit of the mask.
 pub fn place(mask: &[u8], message: &[u8], u: &mut [u8]) -> usize
     requires { ⌜ PlacePre (now mask) (now message) × (length (now mask) ≤ length (now u)) ⌝ }
-    ensures { λ looks. ⌜ (looks ≡ 8 * length (now (mask .entry))) × (now (u .exit) ≡ splice (now (u .entry)) 0 (packed (placed (now (mask .entry)) (now (message .entry)) (8 * length (now (mask .entry)))))) ⌝ }
+    ensures { λ looks. ⌜ (looks ≡ 8 * length (now (mask .entry)))
+        × (now (u .exit) ≡ splice (now (u .entry)) 0 (packed (placed (now (mask .entry)) (now (message .entry)) (8 * length (now (mask .entry)))))) ⌝ }
 {
     let mut looks: usize = 0;
     let mut ones: usize = 0;
@@ -76,8 +86,10 @@ fn take_bit(message: &mut [u8], c: usize, information: u8, bit: u8)
 // Copies the bits at the information indices, in ascending order, to the start of the message. Returns the number of looks at a bit of the
 // mask.
 pub fn take_out(mask: &[u8], u: &[u8], message: &mut [u8]) -> usize
-    requires { ⌜ (8 * length (now mask) ≤ length (now u)) × (8 * length (now mask) ≤ length (now message)) ⌝ }
-    ensures { λ looks. ⌜ (looks ≡ 8 * length (now (mask .entry))) × (now (message .exit) ≡ splice (now (message .entry)) 0 (taken (now (mask .entry)) (now (u .entry)) (8 * length (now (mask .entry))))) ⌝ }
+    requires { ⌜ (8 * length (now mask) ≤ length (now u))
+        × (8 * length (now mask) ≤ length (now message)) ⌝ }
+    ensures { λ looks. ⌜ (looks ≡ 8 * length (now (mask .entry)))
+        × (now (message .exit) ≡ splice (now (message .entry)) 0 (taken (now (mask .entry)) (now (u .entry)) (8 * length (now (mask .entry))))) ⌝ }
 {
     let mut looks: usize = 0;
     let mut ones: usize = 0;
