@@ -53,7 +53,8 @@ answered k (Failed made steps) message output = (Decoded.Failed made steps, outp
 
 -- a run ended with its verdict; if a trial passed, `message` begins with its payload
 abbrev pub Ran : List ℕ → Code → Verdict → Ended → List ℕ → Type 0
-Ran mask c (passed trial steps bits) e message = (e ≡ Passed trial steps) × (take (c .k) message ≡ take (c .k) (messageIn mask c bits)) × Bits (take (c .k) message)
+Ran mask c (passed trial steps bits) e message =
+    (e ≡ Passed trial steps) × (take (c .k) message ≡ take (c .k) (messageIn mask c bits)) × Bits (take (c .k) message)
 Ran mask c (failed made steps) e message = e ≡ Failed made steps
 
 -- how trial 1 ended: it passed, and so a run ended, whatever later trials it has; or it failed

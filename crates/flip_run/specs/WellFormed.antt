@@ -1,4 +1,4 @@
--- Document 01, "Flip decoding, full and restarted": a decoder's input is well-formed where nothing before 16 applies. `well-formed-exactly`
+-- Document 01, "Flip decoding, full and restarted": a decoder's input is well-formed if nothing before 16 applies. `well-formed-exactly`
 -- of flip_decoder/proofs/WellFormed.antt proves that this is so.
 use mathlib.Core.Path.{_≡_}
 use mathlib.Core.List.{List}

@@ -26,7 +26,7 @@ module _ (b : List ℕ) (i q : ℕ) where
       let zs : List ℕ = replicate (q - (i + 1)) 0 in
       omega (arith, length-take q (flipped b i q), length-append (take i b) ((1 - getD b i 0) ∷ zs), length-take i b, length-replicate {A = ℕ} (q - (i + 1)) 0)
 
-  -- with bits where those are bits
+  -- if all are bits, they are bits
   pub bits-forced : Bits b → Bits (forcedPrefix b i q)
   bits-forced p = bits-take q (flipped b i q) (bits-append (take i b) _ (bits-take i b p) (bits-cons (omega arith) (bits-zeros (q - (i + 1)))))
     where

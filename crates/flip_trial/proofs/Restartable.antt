@@ -1,4 +1,4 @@
--- Where later trials may resume: at the root; at N/2 where the lowest flipped index is N/2 or above; and past the lowest flipped index, at
+-- Where later trials may resume: at the root; at N/2 if the lowest flipped index is N/2 or above; and past the lowest flipped index, at
 -- the first information index above it, or at N.
 use mathlib.Core.Path.{_≡_, refl, sym, ap, _∙_}
 use mathlib.Core.Bool.{Bool, true, false, cond, true≢false}

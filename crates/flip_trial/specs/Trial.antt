@@ -1,4 +1,4 @@
--- Document 01, "Flip decoding, full and restarted", and document 02, requests 2.1 and 2.4: one trial, and when it passes.
+-- Document 01, "Flip decoding, full and restarted": one trial, and when it passes.
 use mathlib.Core.Bool.{Bool, false, _||_, cond}
 use mathlib.Core.List.{List, [], _∷_, _++_}
 use Prim.Native.Nat.{ℕ, _+_, _-_, _/_}
@@ -46,17 +46,17 @@ trialFrom q mask c v is = node (c .n) (forcedPrefix (firstTrial mask c v .bits) 
 abbrev pub resumeAt : List ℕ → ℕ → ℕ → ℕ
 resumeAt mask N i = i + 1 + firstWhere (λ k. eqb (maskBit mask (i + 1 + k)) 1) (N - (i + 1))
 
--- half restart, i being the lowest flipped index: N/2 where i is N/2 or above, otherwise 0
+-- half restart (document 02, request 2.4), i being the lowest flipped index: N/2 if i is N/2 or above, otherwise 0
 abbrev pub halfAt : ℕ → ℕ → ℕ
 halfAt N i = cond (leb (N / 2) i) (N / 2) 0
 
--- where later trials resume: full decoding repeats each from the root, half restart as above, restarted decoding resumes past the lowest
--- flipped index
+-- the index at which later trials resume: 0 in full decoding, that of half restart, or the first information index above the lowest flipped one
 abbrev pub restartAt : Restart → List ℕ → ℕ → ℕ → ℕ
 restartAt Root mask N i = 0
 restartAt Half mask N i = halfAt N i
 restartAt After mask N i = resumeAt mask N i
 
+-- a later trial that resumes at the index of its restart
 abbrev pub laterTrial : Restart → List ℕ → Code → List ℤ → List ℕ → Out
 laterTrial restart mask c v is = trialFrom (restartAt restart mask (codeLength c) (lowest is)) mask c v is
 

@@ -48,7 +48,7 @@ fn first_from(mask: &[u8], from: usize) -> usize
     j
 }
 
-// Where half restart resumes, of N indices.
+// The index at which half restart resumes, of `size` indices.
 fn half_index(size: usize, lowest: usize) -> usize
     ensures { λ q. ⌜ q ≡ halfAt size lowest ⌝ }
 {
@@ -56,7 +56,7 @@ fn half_index(size: usize, lowest: usize) -> usize
     if middle <= lowest { middle } else { 0 }
 }
 
-// Where a trial with this lowest flipped index resumes.
+// The index at which a trial with this lowest flipped index resumes.
 pub fn restart_index(restart: Restart, mask: &[u8], lowest: usize) -> usize
     requires { do ⌜ (8 * length (now mask) ≤ (← ⟦SIZE⟧)) × (lowest < 8 * length (now mask)) ⌝ }
     ensures { λ q. ⌜ q ≡ restartAt restart (now (mask .entry)) (8 * length (now (mask .entry))) lowest ⌝ }

@@ -17,7 +17,7 @@ use Rattle.transform.specs.Contracts.{BitsAt}
 use Rattle.pass_tree.specs.Node.{workOf, Out, forced}
 use Rattle.pass_tree.specs.declared.Work.{Work}
 use Rattle.pass_tree.proofs.Node.{node-forced}
-use Rattle.pass_ends.specs.Contracts.{Arrays, arrays, results, resultsOf, forcedBits, rulesFrom, nodeOf, PlacedSums, Results, NodePlaced}
+use Rattle.pass_ends.specs.Contracts.{Arrays, arrays, results, resultsOf, forcedBits, rulesFrom, nodeOf, StoredSums, Results, NodeStored}
 use Rattle.pass_ends.proofs.Halves.{none-forced}
 use Rattle.pass.specs.Contracts.{NodePre, NodePost}
 
@@ -45,7 +45,7 @@ module _ {room layer size base q : ℕ} {a : Arrays} {v : List ℤ} (rules : Lis
       record {
         node = record {
           laid =
-              subst (λ (o : Out). PlacedSums o base at (resultsOf a) (results (a .bits) sums (a .leaves)) done) (sym forced-is)
+              subst (λ (o : Out). StoredSums o base at (resultsOf a) (results (a .bits) sums (a .leaves)) done) (sym forced-is)
               (record {
                 placed = record {
                   bits = sym (splice-segment (a .bits) base size (omega (arith, p .fits, p .whole .bits)));
@@ -72,13 +72,13 @@ pub one-value : {size : ℕ} (w : List ℤ) → size ≡ 1 → 1 < length w → 
 one-value w e l = ap (λ (k : ℕ). segment w k k) e ∙ ap (take 1) (drop-cons w 1 (pos 0) l)
 
 -- a small node is the one of the recursion
-pub by-value : {layer k size m base q : ℕ} {rules : List ℕ} {a : Arrays} {v x : List ℤ} {r : Results} {done did : Work} → layer ≡ k → size ≡ m → v ≡ x → q ≤ base → done ≡ did → NodePlaced k m base base rules x (resultsOf a) r did → NodePost layer size base q rules v a (arrays (a .work) (r .bits) (r .sums) (r .leaves)) done
+pub by-value : {layer k size m base q : ℕ} {rules : List ℕ} {a : Arrays} {v x : List ℤ} {r : Results} {done did : Work} → layer ≡ k → size ≡ m → v ≡ x → q ≤ base → done ≡ did → NodeStored k m base base rules x (resultsOf a) r did → NodePost layer size base q rules v a (arrays (a .work) (r .bits) (r .sums) (r .leaves)) done
 by-value {layer} {k} {size} {m} {base} {q} {rules} {a} {v} {x} {r} {done} {did} el es ev l of y = record {
   node =
       none-forced (omega arith) l
-      (subst₂ (λ (i j : ℕ). NodePlaced i j base base rules v (resultsOf a) r done) (sym el) (sym es)
-      (subst (λ (w : Work). NodePlaced k m base base rules v (resultsOf a) r w) (sym of)
-      (subst (λ (u : List ℤ). NodePlaced k m base base rules u (resultsOf a) r did) (sym ev) y)));
+      (subst₂ (λ (i j : ℕ). NodeStored i j base base rules v (resultsOf a) r done) (sym el) (sym es)
+      (subst (λ (w : Work). NodeStored k m base base rules v (resultsOf a) r w) (sym of)
+      (subst (λ (u : List ℤ). NodeStored k m base base rules u (resultsOf a) r did) (sym ev) y)));
   kept = refl;
   whole = refl;
 }

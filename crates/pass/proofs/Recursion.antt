@@ -29,7 +29,7 @@ use Rattle.pass_tree.proofs.Bounds.{most-below}
 use Rattle.pass_tree.proofs.StepsMost.{steps-of, left-most}
 use Rattle.pass_halves.specs.Contracts.{ValuesPost, ValuesPre, nodeValues, addable}
 use Rattle.pass_halves.proofs.Layers.{computed-whole, computed-kept}
-use Rattle.pass_ends.specs.Contracts.{Arrays, arrays, resultsOf, Whole, forcedBits, nodeOf, Placed}
+use Rattle.pass_ends.specs.Contracts.{Arrays, arrays, resultsOf, Whole, forcedBits, nodeOf, Stored}
 use Rattle.pass_ends.proofs.Halves as by-halves
 use Rattle.pass.specs.Contracts.{NodePre, NodePost}
 
@@ -152,7 +152,7 @@ module _ {room layer size n h base q : ℕ} {a : Arrays} {v : List ℤ} (rules :
           combine-at = by-halves.combine-at rules v split left-own (c₂ .node) right-own (c₄ .node)
 
           module _ {done : Work} (total : done ≡ plusWork (plusWork done₁ done₂) (plusWork done₃ done₄)) where
-            pub placed : Placed (nodeOf layer size base q rules (a .bits) v) base (base + length F) (resultsOf a) (resultsOf a₄) done
+            pub placed : Stored (nodeOf layer size base q rules (a .bits) v) base (base + length F) (resultsOf a) (resultsOf a₄) done
             placed = by-halves.placed rules v split left-own (c₂ .node) right-own (c₄ .node) (c₁ .counted) (c₃ .counted) total
 
             -- after the sums are combined

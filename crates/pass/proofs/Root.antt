@@ -67,7 +67,7 @@ module _ {room q : ℕ} {c : Code} {channel : List ℕ} {a : Arrays} (rules : Li
   root-is =
       ap₂ (λ (f : List ℕ) (r : ℕ → Rule). node (c .n) f r (channelValues channel)) forced-at-root (λ t i. ruleAt rules (zero-add i t))
 
--- the root's two halves, where not all bits are forced
+-- the root's two halves, if not all bits are forced
 pub record Rooted (room q m h : ℕ) (c : Code) (channel : List ℕ) (a : Arrays) : Type 0 where
   pub pre : PassPre room c q channel a
   pub fits : codeLength c ≤ room

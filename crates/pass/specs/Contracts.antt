@@ -15,7 +15,7 @@ use Rattle.channel.specs.Channel.{channelValues}
 use Rattle.pass_tree.specs.Claims.{most}
 use Rattle.pass_tree.specs.declared.Work.{Work}
 use Rattle.pass_tree.specs.Node.{Out, node}
-use Rattle.pass_ends.specs.Contracts.{ruleAt, Arrays, resultsOf, Whole, forcedBits, NodePlaced}
+use Rattle.pass_ends.specs.Contracts.{ruleAt, Arrays, resultsOf, Whole, forcedBits, NodeStored}
 
 -- the bytes say the given rules, for the first n indices
 pub record Ruled (n : ℕ) (rule : ℕ → Rule) (rules : List ℕ) : Type 0 where
@@ -32,7 +32,7 @@ pub record NodePre (room layer size base q : ℕ) (a : Arrays) (v : List ℤ) : 
 
 -- its results, with all values above its own left as they were
 pub record NodePost (layer size base q : ℕ) (rules : List ℕ) (v : List ℤ) (a a′ : Arrays) (done : Work) : Type 0 where
-  pub node : NodePlaced layer size base q rules v (resultsOf a) (resultsOf a′) done
+  pub node : NodeStored layer size base q rules v (resultsOf a) (resultsOf a′) done
   pub kept : drop size (a′ .work) ≡ drop size (a .work)
   pub whole : length (a′ .work) ≡ length (a .work)
 

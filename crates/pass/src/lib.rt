@@ -69,7 +69,7 @@ fn decode_node(
     left.plus(l).plus(right.plus(r))
 }
 
-// A whole pass whose first q bits, which stand in `bits`, are forced. Where all are forced nothing is done.
+// A whole pass whose first q bits are forced; they are the first q of `bits`. If all are forced nothing is done.
 pub fn pass(
     code: Code,
     q: usize,

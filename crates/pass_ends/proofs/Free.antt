@@ -15,7 +15,7 @@ use Rattle.values.proofs.Lengths.{length-right, length-left}
 use Rattle.pass_tree.specs.declared.Work.{Work}
 use Rattle.pass_tree.specs.Node.{workOf, plusWork}
 use Rattle.pass_tree.specs.Contracts.{computedUnless, counted}
-use Rattle.pass_ends.specs.Contracts.{Results, results, Sized, NodePlaced}
+use Rattle.pass_ends.specs.Contracts.{Results, results, Sized, NodeStored}
 use Rattle.pass_ends.proofs.Halves.{none-forced, Split, sized₁, combine-at, halves-laid}
 
 -- two halves at layer n
@@ -32,20 +32,20 @@ module _ {room : ℕ} (n base : ℕ) (rules : List ℕ) (v : List ℤ) {r : Resu
   }
 
   -- after the left half
-  module _ {v₁ : List ℤ} {r₁ : Results} {done₂ : Work} (own₁ : v₁ ≡ leftValues h v) (l : NodePlaced n h base base rules v₁ r r₁ done₂) where
+  module _ {v₁ : List ℤ} {r₁ : Results} {done₂ : Work} (own₁ : v₁ ≡ leftValues h v) (l : NodeStored n h base base rules v₁ r r₁ done₂) where
     pub free-sized : Sized room r₁
     free-sized = sized₁ rules v split (λ _. own₁) l
 
     -- after the right half
-    module _ {v₃ : List ℤ} {r₂ : Results} {done₄ : Work} (own₃ : v₃ ≡ rightValues h v (segment (r₁ .sums) base h)) (g : NodePlaced n h (base + h) (base + h) rules v₃ r₁ r₂ done₄) where
-      after : NodePlaced n h (base + h) base rules v₃ r₁ r₂ done₄
+    module _ {v₃ : List ℤ} {r₂ : Results} {done₄ : Work} (own₃ : v₃ ≡ rightValues h v (segment (r₁ .sums) base h)) (g : NodeStored n h (base + h) (base + h) rules v₃ r₁ r₂ done₄) where
+      after : NodeStored n h (base + h) base rules v₃ r₁ r₂ done₄
       after = none-forced (omega arith) (omega arith) g
 
       pub free-combine : BitsAt room (r₂ .sums) base (h + h)
       free-combine = combine-at rules v split (λ _. own₁) l own₃ after
 
       -- each half has h values
-      pub free-laid : {sums : List ℕ} {done : Work} → done ≡ plusWork (plusWork (counted h) done₂) (plusWork (counted h) done₄) → sums ≡ splice (r₂ .sums) base (xors h (segment (r₂ .sums) base h) (segment (r₂ .sums) (base + h) h)) → NodePlaced (suc n) (h + h) base base rules v r (results (r₂ .bits) sums (r₂ .leaves)) done
+      pub free-laid : {sums : List ℕ} {done : Work} → done ≡ plusWork (plusWork (counted h) done₂) (plusWork (counted h) done₄) → sums ≡ splice (r₂ .sums) base (xors h (segment (r₂ .sums) base h) (segment (r₂ .sums) (base + h) h)) → NodeStored (suc n) (h + h) base base rules v r (results (r₂ .bits) sums (r₂ .leaves)) done
       free-laid total e =
           halves-laid rules v split (λ _. own₁) l own₃ after
           (ap counted (sym (length-left h v)) ∙ ap (λ (t : Bool). workOf (computedUnless t (leftValues h v))) (sym (lt-leb (base + h) base (omega (arith, pow-pos n)))))

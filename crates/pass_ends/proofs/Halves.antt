@@ -25,7 +25,7 @@ use Rattle.pass_tree.specs.Contracts.{computedUnless}
 use Rattle.pass_tree.proofs.Node.{leftOf, left, right, halves, length-bits, length-sums, length-leaves, node-forced, node-halves}
 use Rattle.pass_tree.proofs.StepsMost.{steps-most}
 use Rattle.pass_tree.proofs.Sums.{bits-sums}
-use Rattle.pass_ends.specs.Contracts.{ruleAt, Results, results, Sized, Arrays, resultsOf, Whole, forcedBits, rulesFrom, nodeOf, Placed, PlacedSums, NodePlaced}
+use Rattle.pass_ends.specs.Contracts.{ruleAt, Results, results, Sized, Arrays, resultsOf, Whole, forcedBits, rulesFrom, nodeOf, Stored, StoredSums, NodeStored}
 use Rattle.pass_ends.proofs.Combined.{combined-sums}
 
 length-none : {A : Type 0} (l : List A) → length l ≡ 0 → l ≡ []
@@ -36,7 +36,7 @@ pub sized-of : {room : ℕ} {a : Arrays} → Whole room a → Sized room (result
 sized-of w = record { bits = w .bits; sums = w .sums; leaves = w .leaves }
 
 -- every array keeps its length
-pub laid-sized : {room layer size base q : ℕ} {rules : List ℕ} {v : List ℤ} {r r′ : Results} {done : Work} → size ≡ 2 ^ layer → base + size ≤ room → Sized room r → NodePlaced layer size base q rules v r r′ done → Sized room r′
+pub laid-sized : {room layer size base q : ℕ} {rules : List ℕ} {v : List ℤ} {r r′ : Results} {done : Work} → size ≡ 2 ^ layer → base + size ≤ room → Sized room r → NodeStored layer size base q rules v r r′ done → Sized room r′
 laid-sized {room} {layer} {size} {base} {q} {rules} {v} {r} pow fits z l =
     let P : List ℕ = forcedBits (r .bits) base size q in
     let rule : ℕ → Rule = rulesFrom rules base in
@@ -55,17 +55,17 @@ laid-sized {room} {layer} {size} {base} {q} {rules} {v} {r} pow fits z l =
       leaves = ap length (l .laid .placed .leaves) ∙ length-splice (r .leaves) (base + length P) (o .leaves) _ refl (omega arith) ∙ zl;
     }
 
-pub laid-most : {layer size base q : ℕ} {rules : List ℕ} {v : List ℤ} {r r′ : Results} {done : Work} → NodePlaced layer size base q rules v r r′ done → done .steps ≤ layer * 2 ^ layer
+pub laid-most : {layer size base q : ℕ} {rules : List ℕ} {v : List ℤ} {r r′ : Results} {done : Work} → NodeStored layer size base q rules v r r′ done → done .steps ≤ layer * 2 ^ layer
 laid-most {layer} {size} {base} {q} {rules} {v} {r} l =
     subst (λ (w : Work). w .steps ≤ layer * 2 ^ layer) (sym (l .laid .placed .work)) (steps-most layer (forcedBits (r .bits) base size q) (rulesFrom rules base) v)
 
--- where no bit is forced it does not matter which earlier ones are
-pub none-forced : {layer size base q q′ : ℕ} {rules : List ℕ} {v : List ℤ} {r r′ : Results} {done : Work} → q ≤ base → q′ ≤ base → NodePlaced layer size base q rules v r r′ done → NodePlaced layer size base q′ rules v r r′ done
+-- if no bit of a node is forced it does not matter which earlier ones are
+pub none-forced : {layer size base q q′ : ℕ} {rules : List ℕ} {v : List ℤ} {r r′ : Results} {done : Work} → q ≤ base → q′ ≤ base → NodeStored layer size base q rules v r r′ done → NodeStored layer size base q′ rules v r r′ done
 none-forced {layer} {size} {base} {q} {q′} {rules} {v} {r} {r′} {done} l l′ x =
     let e : q - base ≡ q′ - base = omega arith in
     record {
       laid =
-          subst (λ (k : ℕ). let F = take k (segment (r .bits) base size) in PlacedSums (node layer F (rulesFrom rules base) v) base (base + length F) r r′ done) e
+          subst (λ (k : ℕ). let F = take k (segment (r .bits) base size) in StoredSums (node layer F (rulesFrom rules base) v) base (base + length F) r r′ done) e
           (x .laid);
     }
 
@@ -120,8 +120,8 @@ module _ {room layer size n h base q : ℕ} {r : Results} (rules : List ℕ) (v 
       let X : List ℕ = drop base (r .bits) in
       ap (take (q - base)) (sym (take-take h size X (omega (arith, d .two)))) ∙ take-swap (q - base) h (take size X)
 
-  -- after the left half, whose values are the definition's where they are needed
-  module _ {v₁ : List ℤ} {r₁ : Results} {done₂ : Work} (own₁ : q < base + h → v₁ ≡ leftValues h v) (l : NodePlaced n h base q rules v₁ r r₁ done₂) where
+  -- after the left half, whose values are the definition's if they are needed
+  module _ {v₁ : List ℤ} {r₁ : Results} {done₂ : Work} (own₁ : q < base + h → v₁ ≡ leftValues h v) (l : NodeStored n h base q rules v₁ r r₁ done₂) where
     left-is : nodeOf n h base q rules (r .bits) v₁ ≡ L
     left-is = ap (λ (f : List ℕ). node n f rule v₁) left-forced ∙ go (leb h (length F)) refl
       where
@@ -132,8 +132,8 @@ module _ {room layer size n h base q : ℕ} {r : Results} (rules : List ℕ) (v 
         go false e =
             ap (node n (take h F) rule) (own₁ (leb-false (base + h) q (test ∙ e)) ∙ ap (λ (t : Bool). computedUnless t (leftValues h v)) (sym e))
 
-    left-laid : PlacedSums L base (base + length (take h F)) r r₁ done₂
-    left-laid = subst₂ (λ (o : Out) (f : List ℕ). PlacedSums o base (base + length f) r r₁ done₂) left-is left-forced (l .laid)
+    left-laid : StoredSums L base (base + length (take h F)) r r₁ done₂
+    left-laid = subst₂ (λ (o : Out) (f : List ℕ). StoredSums o base (base + length f) r r₁ done₂) left-is left-forced (l .laid)
 
     pub sized₁ : Sized room r₁
     sized₁ = laid-sized (d .pow) (omega (arith, d .two, s .fits)) z l
@@ -159,14 +159,14 @@ module _ {room layer size n h base q : ℕ} {r : Results} (rules : List ℕ) (v 
         ap₂ take e kept ∙ sym (drop-of-take h (q - base) (segment (r .bits) base size))
 
     -- after the right half
-    module _ {v₃ : List ℤ} {r₂ : Results} {done₄ : Work} (own₃ : v₃ ≡ rightValues h v (segment (r₁ .sums) base h)) (g : NodePlaced n h (base + h) q rules v₃ r₁ r₂ done₄) where
+    module _ {v₃ : List ℤ} {r₂ : Results} {done₄ : Work} (own₃ : v₃ ≡ rightValues h v (segment (r₁ .sums) base h)) (g : NodeStored n h (base + h) q rules v₃ r₁ r₂ done₄) where
       right-is : nodeOf n h (base + h) q rules (r₁ .bits) v₃ ≡ R
       right-is =
           ap₂ (λ (f : List ℕ) (x : List ℤ). node n f (rulesFrom rules (base + h)) x) right-forced (own₃ ∙ ap (rightValues h v) left-sums)
           ∙ ap (λ (k : ℕ → Rule). node n (drop h F) k (rightValues h v (L .sums))) (λ t i. ruleAt rules (add-assoc base h i t))
 
-      right-laid : PlacedSums R (base + h) (base + h + length (drop h F)) r₁ r₂ done₄
-      right-laid = subst₂ (λ (o : Out) (f : List ℕ). PlacedSums o (base + h) (base + h + length f) r₁ r₂ done₄) right-is right-forced (g .laid)
+      right-laid : StoredSums R (base + h) (base + h + length (drop h F)) r₁ r₂ done₄
+      right-laid = subst₂ (λ (o : Out) (f : List ℕ). StoredSums o (base + h) (base + h + length f) r₁ r₂ done₄) right-is right-forced (g .laid)
 
       drop-short : length (drop h F) ≤ 2 ^ n
       drop-short = omega (arith, length-drop h F, F-is, d .two, d .pow)
@@ -221,10 +221,10 @@ module _ {room layer size n h base q : ℕ} {r : Results} (rules : List ℕ) (v 
           bits-at-splice (r .sums) base (L .sums ++ R .sums) both-sums (omega (arith, length-append (L .sums) (R .sums), length-L-sums, length-R-sums)) (z .sums) (omega (arith, d .two, s .fits))
           (bits-append (L .sums) (R .sums) (bits-sums n (take h F) rule (leftOf h F v)) (bits-sums n (drop h F) (λ i. rule (h + i)) (rightValues h v (L .sums))))
 
-      -- each half's values were counted, where they were computed
+      -- each half's values were counted, if they were computed
       module _ {done₁ done₃ done : Work} (counted₁ : done₁ ≡ workOf (computedUnless (leb (base + h) q) (leftValues h v))) (counted₃ : done₃ ≡ workOf (rightValues h v (segment (r₁ .sums) base h)))
           (total : done ≡ plusWork (plusWork done₁ done₂) (plusWork done₃ done₄)) where
-        all-placed : Placed (halves n h F rule v) base (base + length F) r r₂ done
+        all-placed : Stored (halves n h F rule v) base (base + length F) r r₂ done
         all-placed = record {
           bits = both-bits;
           leaves = both-leaves;
@@ -235,14 +235,14 @@ module _ {room layer size n h base q : ℕ} {r : Results} (rules : List ℕ) (v 
               (ap₂ plusWork (counted₃ ∙ ap (λ (x : List ℕ). workOf (rightValues h v x)) left-sums) (right-laid .placed .work));
         }
 
-        pub placed : Placed (nodeOf layer size base q rules (r .bits) v) base (base + length F) r r₂ done
-        placed = subst (λ (o : Out). Placed o base (base + length F) r r₂ done) (sym halves-are) all-placed
+        pub placed : Stored (nodeOf layer size base q rules (r .bits) v) base (base + length F) r r₂ done
+        placed = subst (λ (o : Out). Stored o base (base + length F) r r₂ done) (sym halves-are) all-placed
 
         -- after the sums are combined
-        pub halves-laid : {sums : List ℕ} → sums ≡ splice (r₂ .sums) base (xors h (segment (r₂ .sums) base h) (segment (r₂ .sums) (base + h) h)) → NodePlaced layer size base q rules v r (results (r₂ .bits) sums (r₂ .leaves)) done
+        pub halves-laid : {sums : List ℕ} → sums ≡ splice (r₂ .sums) base (xors h (segment (r₂ .sums) base h) (segment (r₂ .sums) (base + h) h)) → NodeStored layer size base q rules v r (results (r₂ .bits) sums (r₂ .leaves)) done
         halves-laid {sums} e = record {
           laid =
-              subst (λ (o : Out). PlacedSums o base (base + length F) r (results (r₂ .bits) sums (r₂ .leaves)) done) (sym halves-are)
+              subst (λ (o : Out). StoredSums o base (base + length F) r (results (r₂ .bits) sums (r₂ .leaves)) done) (sym halves-are)
               (record {
                 placed = let p = all-placed in record { bits = p .bits; leaves = p .leaves; work = p .work };
                 sums = combined-sums (r .sums) base (L .sums) (R .sums) length-L-sums length-R-sums (omega (arith, d .two, s .fits, z .sums)) both-sums e;

@@ -29,7 +29,7 @@ pub record Sized (room : ℕ) (r : Results) : Type 0 where
   pub sums : length (r .sums) ≡ room
   pub leaves : length (r .leaves) ≡ room
 
--- the same with the values below the root
+-- what a call works on: the values below the root, and results
 pub record Arrays : Type 0 where
   pub work : List ℤ
   pub bits : List ℕ
@@ -61,16 +61,16 @@ abbrev pub nodeOf : ℕ → ℕ → ℕ → ℕ → List ℕ → List ℕ → Li
 nodeOf layer size base q rules bits v = node layer (forcedBits bits base size q) (rulesFrom rules base) v
 
 -- o in its place: bits from `base` on, leaf values from `at` on, and the work
-pub record Placed (o : Out) (base at : ℕ) (r r′ : Results) (done : Work) : Type 0 where
+pub record Stored (o : Out) (base at : ℕ) (r r′ : Results) (done : Work) : Type 0 where
   pub bits : r′ .bits ≡ splice (r .bits) base (o .bits)
   pub leaves : r′ .leaves ≡ splice (r .leaves) at (o .leaves)
   pub work : done ≡ o .work
 
--- the same with the sums
-pub record PlacedSums (o : Out) (base at : ℕ) (r r′ : Results) (done : Work) : Type 0 where
-  pub placed : Placed o base at r r′ done
+-- the results of a node in their places, its sums among them
+pub record StoredSums (o : Out) (base at : ℕ) (r r′ : Results) (done : Work) : Type 0 where
+  pub placed : Stored o base at r r′ done
   pub sums : r′ .sums ≡ splice (r .sums) base (o .sums)
 
--- such a node in its place: its leaf values stand after the indices that are forced. Where q is `base` none of its bits is forced.
-pub record NodePlaced (layer size base q : ℕ) (rules : List ℕ) (v : List ℤ) (r r′ : Results) (done : Work) : Type 0 where
-  pub laid : PlacedSums (nodeOf layer size base q rules (r .bits) v) base (base + length (forcedBits (r .bits) base size q)) r r′ done
+-- a node of `size` indices from `base` on in its place: its leaf values stand after the indices that are forced. If q is `base` none is forced.
+pub record NodeStored (layer size base q : ℕ) (rules : List ℕ) (v : List ℤ) (r r′ : Results) (done : Work) : Type 0 where
+  pub laid : StoredSums (nodeOf layer size base q rules (r .bits) v) base (base + length (forcedBits (r .bits) base size q)) r r′ done

@@ -21,7 +21,7 @@ ghost use Rattle.transform.specs.Contracts.{BitsAt};
 ghost use Rattle.values.specs.Claims.{Within};
 ghost use Rattle.pass_tree.specs.Node.{workOf};
 ghost use Rattle.pass_tree.specs.Claims.{most};
-ghost use Rattle.pass_ends.specs.Contracts.{results, Sized, NodePlaced};
+ghost use Rattle.pass_ends.specs.Contracts.{results, Sized, NodeStored};
 
 // The sums of a node whose bits are all forced: no value is computed.
 pub fn rebuild(layer: u32, size: usize, base: usize, bits: &BitArray, sums: &mut BitArray)
@@ -48,7 +48,8 @@ pub fn leaf(
       ⌜ Sized (← ⟦SIZE⟧) (results (now bits) (now sums) (now leaves))
           × (base + 1 ≤ (← ⟦SIZE⟧)) ⌝ }
     ensures { λ bit. ⌜ (bit ≡ getD (now (sums .exit)) base 0)
-        × NodePlaced 0 1 base base (now (rules .entry)) (value ∷ []) (results (now (bits .entry)) (now (sums .entry)) (now (leaves .entry)))
+        × NodeStored 0 1 base base (now (rules .entry)) (value ∷ [])
+        (results (now (bits .entry)) (now (sums .entry)) (now (leaves .entry)))
         (results (now (bits .exit)) (now (sums .exit)) (now (leaves .exit))) (workOf []) ⌝ }
 {
     let bit = decide(rules[base], value);
@@ -59,7 +60,7 @@ pub fn leaf(
 }
 
 // A node of layer 1 with no forced bit, whose values are a and b.
-pub fn decode_two(
+fn decode_two(
     base: usize,
     a: i32,
     b: i32,
@@ -72,7 +73,8 @@ pub fn decode_two(
       ⌜ Sized (← ⟦SIZE⟧) (results (now bits) (now sums) (now leaves))
           × (base + 2 ≤ (← ⟦SIZE⟧))
           × (natAbs a + natAbs b < 2 ^ 31) ⌝ }
-    ensures { λ r. ⌜ NodePlaced 1 2 base base (now (rules .entry)) (a ∷ b ∷ []) (results (now (bits .entry)) (now (sums .entry)) (now (leaves .entry)))
+    ensures { λ r. ⌜ NodeStored 1 2 base base (now (rules .entry)) (a ∷ b ∷ [])
+        (results (now (bits .entry)) (now (sums .entry)) (now (leaves .entry)))
         (results (now (bits .exit)) (now (sums .exit)) (now (leaves .exit))) r ⌝ }
 {
     let mut steps = 0;
@@ -98,7 +100,7 @@ pub fn decode_four(
       ⌜ Sized (← ⟦SIZE⟧) (results (now bits) (now sums) (now leaves))
           × (base + 4 ≤ (← ⟦SIZE⟧))
           × Within (most deepest 2) (segment (now work) 4 4) ⌝ }
-    ensures { λ r. ⌜ NodePlaced 2 4 base base (now (rules .entry)) (segment (now (work .entry)) 4 4)
+    ensures { λ r. ⌜ NodeStored 2 4 base base (now (rules .entry)) (segment (now (work .entry)) 4 4)
         (results (now (bits .entry)) (now (sums .entry)) (now (leaves .entry)))
         (results (now (bits .exit)) (now (sums .exit)) (now (leaves .exit))) r ⌝ }
 {

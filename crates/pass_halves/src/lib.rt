@@ -13,7 +13,7 @@ ghost use Rattle.channel.specs.Channel.{channelValues};
 ghost use Rattle.pass_tree.specs.Contracts.{computedUnless};
 ghost use Rattle.pass_halves.specs.Contracts.{nodeValues, ValuesPre, RootPre, ValuesPost};
 
-// The values of a node's left half, from its own 2h values; none where the half is forced.
+// The values of a node's left half, from its own 2h values; none if the half is forced.
 pub fn left_values(forced: bool, h: usize, work: &mut ValueArray) -> Work
     requires { do ⌜ ValuesPre (← ⟦SIZE⟧) (now work) h ⌝ }
     ensures { λ r. ⌜ ValuesPost (computedUnless forced (leftValues h (nodeValues (now (work .entry)) h))) h (now (work .entry)) (now (work .exit)) r ⌝ }
@@ -31,10 +31,11 @@ pub fn left_values(forced: bool, h: usize, work: &mut ValueArray) -> Work
     Work::of(steps)
 }
 
-// The values of its right half, by the left sums from `base` on.
+// The values of a node's right half, by the sums of its left half, which stand from `base` on.
 pub fn right_values(h: usize, base: usize, sums: &BitArray, work: &mut ValueArray) -> Work
     requires { do ⌜ ValuesPre (← ⟦SIZE⟧) (now work) h × (base + h ≤ (← ⟦SIZE⟧)) ⌝ }
-    ensures { λ r. ⌜ ValuesPost (rightValues h (nodeValues (now (work .entry)) h) (segment (now (sums .entry)) base h)) h (now (work .entry)) (now (work .exit)) r ⌝ }
+    ensures { λ r. ⌜ ValuesPost (rightValues h (nodeValues (now (work .entry)) h) (segment (now (sums .entry)) base h)) h
+        (now (work .entry)) (now (work .exit)) r ⌝ }
 {
     let mut steps = 0;
     let mut j = 0;
@@ -46,7 +47,7 @@ pub fn right_values(h: usize, base: usize, sums: &BitArray, work: &mut ValueArra
     Work::of(steps)
 }
 
-// The same at the root, whose values are the channel's bytes.
+// The values of the root's left half, from the channel's bytes; none if the half is forced.
 pub fn root_left_values(forced: bool, channel: &[u8], h: usize, work: &mut ValueArray) -> Work
     requires { do ⌜ RootPre (← ⟦SIZE⟧) (now channel) (now work) h ⌝ }
     ensures { λ r. ⌜ ValuesPost (computedUnless forced (leftValues h (channelValues (now (channel .entry))))) h (now (work .entry)) (now (work .exit)) r ⌝ }
@@ -64,9 +65,11 @@ pub fn root_left_values(forced: bool, channel: &[u8], h: usize, work: &mut Value
     Work::of(steps)
 }
 
+// The values of the root's right half, from the channel's bytes, by the sums of its left half.
 pub fn root_right_values(channel: &[u8], h: usize, sums: &BitArray, work: &mut ValueArray) -> Work
     requires { do ⌜ RootPre (← ⟦SIZE⟧) (now channel) (now work) h ⌝ }
-    ensures { λ r. ⌜ ValuesPost (rightValues h (channelValues (now (channel .entry))) (segment (now (sums .entry)) 0 h)) h (now (work .entry)) (now (work .exit)) r ⌝ }
+    ensures { λ r. ⌜ ValuesPost (rightValues h (channelValues (now (channel .entry))) (segment (now (sums .entry)) 0 h)) h
+        (now (work .entry)) (now (work .exit)) r ⌝ }
 {
     let mut steps = 0;
     let mut j = 0;

@@ -1,4 +1,4 @@
--- Well-formed input: resume accepts exactly where nothing of 12, 13 and 17 to 19 applies.
+-- Well-formed input: resume accepts exactly if nothing of 12, 13 and 17 to 19 applies.
 use mathlib.Core.Path.{_≡_, refl, _∙_}
 use mathlib.Core.Bool.{Bool, true}
 use mathlib.Core.Logic.{_↔_}

@@ -1,4 +1,4 @@
--- Document 01, "Resume": the input is well-formed where nothing of 12, 13 and 17 to 19 applies. Resume accepts exactly there:
+-- Document 01, "Resume": the input is well-formed if nothing of 12, 13 and 17 to 19 applies. Resume accepts exactly there:
 -- `well-formed-exactly` of proofs/WellFormed.antt.
 use mathlib.Core.Path.{_≡_}
 use mathlib.Core.Bool.{Bool, true, false}

@@ -23,7 +23,7 @@ use Rattle.pass_resume.specs.declared.Resumed.the-variants.{Done, Refuse
 abbrev pub badBit : ℕ → ℕ → Bool
 badBit byte marked = ltb 1 byte || (eqb byte 1 && eqb marked 0)
 
--- the first index of such a byte, or the prefix's length
+-- the first index of a bad prefix byte, or the prefix's length
 abbrev pub firstBad : List ℕ → List ℕ → ℕ
 firstBad mask prefix = firstWhere (λ i. badBit (getD prefix i 0) (maskBit mask i)) (length prefix)
 
@@ -49,11 +49,11 @@ resumedBy mask c channel prefix output =
     let o = resumePass mask c channel prefix in
     refusedOr (judge (resumingRefusals mask c channel prefix output)) (λ x. (Refused x, output)) (Done (o .work .steps), o .bits)
 
--- the same for a description, with `largest` as the largest n: its refusals first
+-- resume with a description, whose refusals come first, and `largest` as the largest n
 abbrev pub resumedUpTo : ℕ → List ℕ → List ℕ → List ℕ → List ℕ → Resumed × List ℕ
 resumedUpTo largest d channel prefix output =
     onDescription (describeUpTo largest d) (λ x. (Refused x, output)) (λ c. resumedBy (maskOf d) c channel prefix output)
 
--- the same with `deepest` as the largest n
+-- resume with `deepest` as the largest n
 unfoldable pub resumed : List ℕ → List ℕ → List ℕ → List ℕ → Resumed × List ℕ
 resumed d channel prefix output = resumedUpTo deepest d channel prefix output

@@ -13,9 +13,11 @@ ghost use Rattle.code.specs.Claims.{Coded};
 ghost use Rattle.pass_resume.specs.Resume.{badBit, firstBad, resumePass, prefixRefusals, resumingRefusals, resumedBy, resumed};
 ghost use Rattle.pass_resume.specs.Contracts.{ResumePre};
 
-// What resume answers: the steps made, or the refusal.
+// What resume answers.
 pub enum Resumed {
+    // The pass was made, in this many steps.
     Done { steps: u32 },
+    // The refusal.
     Refused(Refusal),
 }
 
@@ -26,7 +28,7 @@ fn is_bad(byte: u8, marked: u8) -> bool
     1 < byte || byte == 1 && marked == 0
 }
 
-// The first index of such a byte, or the prefix's length.
+// The first index of a bad prefix byte, or the prefix's length.
 fn first_bad(mask: &[u8], prefix: &[u8]) -> usize
     requires { ⌜ length (now prefix) ≤ 8 * length (now mask) ⌝ }
     ensures { λ r. ⌜ r ≡ firstBad (now (mask .entry)) (now (prefix .entry)) ⌝ }
@@ -104,14 +106,8 @@ fn judge_resuming(
     }
 }
 
-// Resumes under a code.
-pub fn resume_by(
-    mask: &[u8],
-    code: Code,
-    channel: &[u8],
-    prefix: &[u8],
-    output: &mut [u8],
-) -> Resumed
+// Resume under a code.
+fn resume_by(mask: &[u8], code: Code, channel: &[u8], prefix: &[u8], output: &mut [u8]) -> Resumed
     requires { ⌜ Coded (now mask) code ⌝ }
     ensures { λ r. ⌜ (r, now (output .exit)) ≡ resumedBy (now (mask .entry)) code (now (channel .entry)) (now (prefix .entry)) (now (output .entry)) ⌝ }
 {

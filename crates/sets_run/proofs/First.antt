@@ -1,4 +1,4 @@
--- What trial 1 generates, by the array of its leaf values; and where no later trial is allowed.
+-- What trial 1 generates, by the array of its leaf values; and a limit of 1.
 use mathlib.Core.Path.{_≡_, refl, sym, ap, ap₂, _∙_, subst}
 use mathlib.Core.Bool.{Bool, cond}
 use mathlib.Core.Logic.{inl}

@@ -105,7 +105,7 @@ module _ {s : Search} {mask : List ℕ} {c : Code} {channel is : List ℕ} {valu
       (same-extensions mask (codeLength c) (leavesFrom q values (a .leaves)) (leavesOf (s .restart) mask c v is)
       (λ j l e. ap natAbs (held-at j l ∙ ap (λ (xs : List ℤ). getD xs j (pos 0)) (sym (all-leaves s mask c v is (flips .some))))) is (inr flips) (codeLength c) (omega arith))
 
--- Trial 1's leaf values are needed only where sets have more than one index: no set of the largest size generates any.
+-- Trial 1's leaf values are needed only if sets have more than one index: no set of the largest size generates any.
 module _ {s : Search} {mask : List ℕ} {c : Code} {channel is : List ℕ} {values : List ℤ} {a : Arrays} {done : Work} (on : SetsPre s mask c channel) (flips : Flips mask (codeLength c) is)
     (kept : 1 < s .w → FirstLeaves longest mask c channel values) (post : TrialPost longest c (resumedAt s mask c is) (laterTrial (s .restart) mask c (channelValues channel) is) a done)
     {size q′ : ℕ} (size-is : size ≡ codeLength c) (q-is : q′ ≡ resumedAt s mask c is) where

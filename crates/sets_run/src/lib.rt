@@ -64,7 +64,8 @@ fn generate(
           × LeavesPre search (8 * length (now mask)) q (now flips) (now values) (now leaves)
           × PoolPre low count (search .limit - 1) (now keys) ⌝ }
     ensures { λ r. ⌜ Inserted low count (search .limit - 1) r
-        (map keyOf (generatedFrom search (8 * length (now (mask .entry))) q (now (mask .entry)) (now (values .entry)) (now (leaves .entry)) (now (flips .entry))))
+        (map keyOf (generatedFrom search (8 * length (now (mask .entry))) q (now (mask .entry))
+        (now (values .entry)) (now (leaves .entry)) (now (flips .entry))))
         (now (keys .entry)) (now (keys .exit)) ⌝ }
 {
     if search.w as usize <= flips.len() {

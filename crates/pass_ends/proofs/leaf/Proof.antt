@@ -16,7 +16,7 @@ use Rattle.laws.proofs.Segment.{set-splice}
 use Rattle.values.specs.Values.{decided}
 use Rattle.pass_tree.specs.Node.{workOf, Out, leaf}
 use Rattle.pass_tree.proofs.Node.{node-leaf}
-use Rattle.pass_ends.specs.Contracts.{ruleAt, Results, forcedBits, rulesFrom, nodeOf, PlacedSums, NodePlaced}
+use Rattle.pass_ends.specs.Contracts.{ruleAt, Results, forcedBits, rulesFrom, nodeOf, StoredSums, NodeStored}
 use Rattle.pass_ends.proofs.leaf.Statement.{statement}
 use Rattle.pass_ends.proofs.leaf.Tie as tie
 
@@ -25,8 +25,8 @@ stored : {A : Type 0} (w : List A) (i : ℕ) (x y : A) → i < length w → x �
 stored w i x y l e = ap (set w i) e ∙ set-splice w i y l
 
 -- it is a node of one index whose bit is not forced
-leaf-laid : (rules : List ℕ) (base : ℕ) (value : ℤ) {r r′ : Results} → PlacedSums (leaf (ruleAt rules base) value) base base r r′ (workOf []) → NodePlaced 0 1 base base rules (value ∷ []) r r′ (workOf [])
-leaf-laid rules base value {r} {r′} l = record { laid = subst₂ (λ (o : Out) (k : ℕ). PlacedSums o base k r r′ (workOf [])) (sym is) at l }
+leaf-laid : (rules : List ℕ) (base : ℕ) (value : ℤ) {r r′ : Results} → StoredSums (leaf (ruleAt rules base) value) base base r r′ (workOf []) → NodeStored 0 1 base base rules (value ∷ []) r r′ (workOf [])
+leaf-laid rules base value {r} {r′} l = record { laid = subst₂ (λ (o : Out) (k : ℕ). StoredSums o base k r r′ (workOf [])) (sym is) at l }
   where
     at : base ≡ base + length (forcedBits (r .bits) base 1 base)
     at = omega (arith, length-take (base - base) (segment (r .bits) base 1))
