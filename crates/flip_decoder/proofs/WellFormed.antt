@@ -52,7 +52,7 @@ module _ (plan : Plan) (c : Code) (channel output : List ℕ) where
         output-size = differs-past (length output) (bytesFor (c .k)) (s15 .0);
       }
 
--- a run gives no refusal before 16
+-- a run answers no refusal before 16
 pub answer-of-run : (mask : List ℕ) (c : Code) (output : List ℕ) (v : Verdict) → ofRun (answerOf mask c output v .0) ≡ true
 answer-of-run mask c output (passed trial steps bits) = refl
 answer-of-run mask c output (failed made steps) = refl
@@ -71,7 +71,7 @@ module _ (plan : Plan) (mask : List ℕ) (c : Code) (channel output : List ℕ) 
   unfolding decodedBy
   refused-answer x h = refused-by (λ x. (Refused x, output)) (answerOf mask c output verdict) _ x h
 
-  -- and where the answer is that of a run, nothing before 16 applies
+  -- if the answer is that of a run, nothing before 16 applies
   pub answer-well-formed : (z : Decoded × List ℕ) → ofRun (z .0) ≡ true → decodedBy plan mask c channel output ≡ z → WellFormed c channel (plan .limit) output × (answerOf mask c output verdict ≡ z)
   unfolding decodedBy
   answer-well-formed z f e =
@@ -95,7 +95,7 @@ module _ (plan : Plan) (d channel output : List ℕ) where
   unfolding decodedWith
   decoded-by c e = ap by e
 
-  -- the input is well-formed exactly where nothing before 16 is the answer; every decoder has a plan
+  -- the input is well-formed exactly if nothing before 16 is the answer; every decoder has a plan
   pub well-formed-exactly : WellFormedUnder d (λ c. WellFormed c channel (plan .limit) output) ↔ (ofRun (decodedWith plan d channel output .0) ≡ true)
   unfolding decodedWith decodedBy
   well-formed-exactly =

@@ -3,7 +3,7 @@ use mathlib.Core.Bool.{Bool, true, false}
 use Rattle.flip_run.specs.declared.Decoded.{Decoded}
 use Rattle.flip_run.specs.declared.Decoded.the-variants.{Accepted, Failed, Refused}
 
--- an answer that a run of trials gives: no refusal before 16. The input of a decoder is well-formed exactly where it gives one:
+-- whether an answer comes from a run of trials: no refusal before 16. The input of a decoder is well-formed exactly if its answer does:
 -- `well-formed-exactly` of proofs/WellFormed.antt.
 abbrev pub ofRun : Decoded → Bool
 ofRun (Accepted trial steps) = true

@@ -1,4 +1,4 @@
--- The decoders of every restart give the same answer, and each skips exactly the steps that its restarts save.
+-- The decoders of every restart answer the same, and each skips exactly the steps that its restarts save.
 use mathlib.Core.Path.{_≡_, refl, sym, ap, ap₂, _∙_, subst}
 use mathlib.Core.Bool.{Bool}
 use mathlib.Core.Logic.{_⊎_, inl, inr, ⊎-elim}
@@ -69,7 +69,7 @@ module _ (mask : List ℕ) (c : Code) (v : List ℤ) (sets : List (List ℕ)) (f
   abbrev of : Restart → Verdict
   of r = run ok 0 0 (os r)
 
-  -- full decoding's verdict, in steps of its own
+  -- the verdict of each restart is full decoding's, but for the steps
   same : (x : Verdict) → of Root ≡ x → (r : Restart) → of r ≡ inSteps (stepsIn (of r)) x
   same x e r = same-but-steps x (of r) (subst (λ (y : Verdict). SameButSteps y (of r)) e (run-same ok (os Root) (os r) (same-trials mask c v Root r sets flips)))
 
@@ -126,7 +126,7 @@ module _ (d : List ℕ) (c : Code) (channel : List ℕ) (limit : ℕ) (code : de
   pub every : EveryRestart mask c (singles mask c v limit) (WellFormed c channel limit) (λ r o. decodedWith (planOf r limit) d channel o)
   every = every-restart mask c v (singles mask c v limit) (flips-singles mask c v limit) (λ r o w. answer r d c channel limit o code w)
 
-  -- where the limit is allowed
+  -- if the limit is allowed
   module _ (least : 1 ≤ limit) (allowed : limit ≤ informationCount c + 1) where
     -- a set for each trial after the first, up to the limit
     many : length (singles mask c v limit) + 1 ≡ limit

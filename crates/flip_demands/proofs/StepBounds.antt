@@ -31,7 +31,7 @@ run-bounded (Accepted trial steps, bytes) p = p refl
 run-bounded (Failed made steps, bytes) p = p refl
 run-bounded (Refused x, bytes) p = tt
 
--- the answer to the trials of any sets, where few enough are made
+-- the answer to the trials of any sets, if few enough are made
 pub few-bounded : {mask : List ℕ} {c : Code} {sets : List (List ℕ)} {Fitting : List ℕ → Type 0} {answer : Restart → List ℕ → Decoded × List ℕ} → Coded mask c
     → (x : EveryRestart mask c sets Fitting answer) → x .made ≤ mostTrials → (r : Restart) (o : List ℕ) → Fitting o → Bounded (answer r o)
 few-bounded coded x few r o f =

@@ -18,10 +18,11 @@ use Rattle.flip_run.specs.declared.Decoded.the-variants.{Accepted, Failed}
 use Rattle.flip_run.specs.Trials.{flipOrder, Verdict, passed, failed}
 use Rattle.flip_decoder.specs.Decode.{planOf, decodedWith}
 
--- the bits of each trial, and those of trial t, from 1
+-- the bits of each trial
 abbrev pub bitsOfEach : List Out → List (List ℕ)
 bitsOfEach os = map (λ o. o .bits) os
 
+-- the bits of trial t, from 1
 abbrev pub bitsOfTrial : List Out → ℕ → List ℕ
 bitsOfTrial os zero = []
 bitsOfTrial os (suc t) = getD (bitsOfEach os) t []
@@ -31,13 +32,16 @@ abbrev pub stepsOf : List Out → ℕ
 stepsOf [] = 0
 stepsOf (o ∷ os) = o .work .steps + stepsOf os
 
--- `trial` passes with these bits, every trial before it failed, and the steps are those of the trials made
+-- `trial` is the first that passes
 pub record PassedAt (ok : List ℕ → Bool) (os : List Out) (trial steps : ℕ) (bits : List ℕ) : Type 0 where
   pub least : 1 ≤ trial
   pub most : trial ≤ length os
+  -- these are its bits
   pub bits-are : bits ≡ bitsOfTrial os trial
   pub passes : ok bits ≡ true
+  -- every trial before it failed
   pub earlier : (t : ℕ) → 1 ≤ t → t < trial → ok (bitsOfTrial os t) ≡ false
+  -- the steps are those of the trials made
   pub steps-are : steps ≡ stepsOf (take trial os)
 
 -- every trial is made and failed
@@ -67,14 +71,16 @@ abbrev pub skippedBy : Restart → List ℕ → Code → List ℕ → ℕ
 skippedBy restart mask c [] = 0
 skippedBy restart mask c (i ∷ is) = skipped (c .n) (restartAt restart mask (codeLength c) i) + skippedBy restart mask c is
 
--- What the decoders of two restarts give under d, each with its own output. `made` trials are made; `steps` and `steps′` are what each
--- reports. `compare` of proofs/Compare.antt proves it.
+-- The answers of the decoders of two restarts under d, each with its own output. `compare` of proofs/Compare.antt proves it.
 pub record Compare (a b : Restart) (d : List ℕ) (c : Code) (channel : List ℕ) (limit : ℕ) (output output′ : List ℕ) : Type 0 where
+  -- the trials that each makes
   pub made : ℕ
+  -- the steps that the first reports
   pub steps : ℕ
+  -- the steps that the second reports
   pub steps′ : ℕ
   pub most : made ≤ limit
-  -- the same trial number, with the same payload in each buffer, or refusal 16 with the same T, and each buffer as it was
+  -- one trial number, and one payload in both buffers; or refusal 16 with one T, and each buffer as it was
   pub answers :
       ((payload : List ℕ)
       × (decodedWith (planOf a limit) d channel output ≡ (Accepted made steps, payload))

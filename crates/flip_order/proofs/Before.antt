@@ -12,7 +12,7 @@ use Rattle.laws.proofs.Indices.{lt-cases}
 use Rattle.flip_order.specs.Order.{magnitude, before}
 
 module _ (leaves : List ℤ) where
-  -- a smaller magnitude, or the same with a lower index
+  -- a smaller magnitude, or an equal one with a lower index
   abbrev pub First : ℕ → ℕ → Type 0
   First i j = (magnitude leaves i < magnitude leaves j) ⊎ ((magnitude leaves i ≡ magnitude leaves j) × (i < j))
 

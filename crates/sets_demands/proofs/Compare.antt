@@ -1,4 +1,4 @@
--- The decoders by sets of every restart give the same answer, and each skips exactly the steps that its restarts save.
+-- The decoders by sets of every restart answer the same, and each skips exactly the steps that its restarts save.
 use mathlib.Core.Path.{_≡_, ap, _∙_}
 use mathlib.Core.List.{List}
 use Prim.Native.Nat.{ℕ, _≤_}

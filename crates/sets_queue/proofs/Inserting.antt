@@ -1,4 +1,4 @@
--- A key inserted among keys in order: where it stands, what the list then holds, and that it is in order.
+-- A key inserted among keys in order: its place, what the list then holds, and that it is in order.
 use mathlib.Core.Path.{_≡_, refl, sym, ap, subst₂}
 use mathlib.Core.Bool.{Bool, true, false, cond}
 use mathlib.Core.Logic.{_⊎_, inl, inr, ⊎-elim}

@@ -1,4 +1,4 @@
--- Sets as keys: the order of keys is that of the sets, and a key gives its set back.
+-- Sets as keys: the order of keys is that of the sets, and the set of a key is found again.
 use mathlib.Core.Path.{_≡_, refl, sym, ap, ap₂, _∙_, subst}
 use mathlib.Core.Logic.{⊎-elim}
 use mathlib.Core.Bool.{Bool, true, false, _&&_, _||_, cond}

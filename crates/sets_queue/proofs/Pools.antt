@@ -113,7 +113,7 @@ module _ {key low count p : ℕ} {keys ks : List ℕ} (pool : Pool keys low coun
       take-front [] ys = refl
       take-front (x ∷ xs) ys = ap (λ (zs : List ℕ). x ∷ zs) (take-front xs ys)
 
-  -- the array where the keys from p on stand one place higher, as far as the room goes
+  -- the array whose keys from p on stand one place higher, as far as the room goes
   module _ {room : ℕ} {keys′ : List ℕ} (on : PoolPre low count room keys) (below : p < room) (s : Shifted p (min count (room - 1)) keys keys′) where
     abbrev m : ℕ
     m = room - low

@@ -1,4 +1,4 @@
--- Where sets are tried while trials remain, none is left: every set that can be flipped has been tried.
+-- If sets are tried while trials remain, none is left: every set that can be flipped has been tried.
 use mathlib.Core.Path.{_≡_, refl, sym, ap, _∙_, subst}
 use mathlib.Core.Bool.{Bool, true, _&&_, cond, and-eq-true-iff}
 use mathlib.Core.Logic.{⊎-elim}
@@ -118,7 +118,7 @@ module _ (s : Search) (mask : List ℕ) (c : Code) (v : List ℤ) where
         (member-generated js (getD is (suc k) 0) (omega (arith, p .most)) (p .flips .below (suc k) l) (p .flips .information (suc k) l)
         (omega (arith, past, p .flips .ascending k (suc k) (omega arith) l))))
 
-    -- "Where no untried set is left, that ends the trials made": where fewer sets are tried than the limit allows, every set that can be
+    -- "Where no untried set is left, that ends the trials made": if fewer sets are tried than the limit allows, every set that can be
     -- flipped has been tried
     pub all-tried : List·Memᴰ is (flipSets s mask c v)
     all-tried =

@@ -1,4 +1,4 @@
--- The untried sets stand in order, so that the first of them, which is tried next, comes before all others.
+-- The untried sets stand in order, so the first of them, which is tried next, comes before all others.
 use mathlib.Core.Path.{_≡_, refl, sym, ap, ap₂, _∙_, subst}
 use mathlib.Core.Bool.{Bool, true, false, _&&_, _||_, and-eq-true-iff, true≢false}
 use mathlib.Core.Logic.{_⊎_, inl, inr, ⊎-elim}
@@ -162,7 +162,7 @@ module _ (generate : List ℕ → List Candidate) where
   first-tried (suc m) zero (x ∷ untried) l = (x, untried, refl, refl)
   first-tried (suc m) (suc t) (x ∷ untried) l = first-tried m t (insertAll (generate (x .flips)) untried) (omega arith)
 
--- no two of them have the same set
+-- no two of them have one set
 module _ (generate : List ℕ → List Candidate) (extends : (is : List ℕ) (x : Candidate) → List·Memᴰ x (generate is) → (j : ℕ) × (x .flips ≡ is ++ (j ∷ [])))
     (generate-apart : (is : List ℕ) → Apart (generate is)) where
   search-all : {done : List (List ℕ)} {x : Candidate} {untried : List Candidate} → Searching done (x ∷ untried) → Searching (x .flips ∷ done) (insertAll (generate (x .flips)) untried)

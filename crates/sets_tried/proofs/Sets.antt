@@ -28,7 +28,7 @@ member-at (x ∷ xs) (suc a) l = List·Memᴰ·tail (member-at xs a (omega arith
 
 -- a property that what is generated from a set that has it has too
 module _ (P : List ℕ → Type 0) (generate : List ℕ → List Candidate) (more : (is : List ℕ) → P is → (x : Candidate) → List·Memᴰ x (generate is) → P (x .flips)) where
-  -- where all untried sets have it, each set that is tried has it
+  -- if all untried sets have it, each set that is tried has it
   pub tried-each : (m : ℕ) (untried : List Candidate) → ((x : Candidate) → List·Memᴰ x untried → P (x .flips)) → (is : List ℕ) → List·Memᴰ is (tried generate m untried) → P is
   unfolding tried
   tried-each zero untried each is p = absurd (List·Memᴰ·not-nil p)
@@ -51,7 +51,7 @@ module _ (s : Search) (mask : List ℕ) (c : Code) (v : List ℤ) where
 
 -- ---- sets that all differ
 
--- no two of some candidates have the same set
+-- no two of some candidates have one set
 pub data Apart : List Candidate → Type 0 where
   none : Apart []
   one : {x : Candidate} {xs : List Candidate} → ((y : Candidate) → List·Memᴰ y xs → x .flips ≡ y .flips → ⊥) → Apart xs → Apart (x ∷ xs)
