@@ -24,10 +24,11 @@ use Rattle.flip_trial.specs.Trial.{trialPasses}
 use Rattle.flip_run.specs.declared.Plan.{Plan}
 use Rattle.flip_run.specs.declared.Decoded.{Decoded}
 use Rattle.flip_run.specs.declared.Decoded.the-variants.{Refused}
-use Rattle.flip_run.specs.Trials.{trials, Verdict, passed, failed, run, answerOf}
-use Rattle.flip_decoder.specs.Decode.{runRefusals, decodingRefusals, decodedBy, decodedWith}
-use Rattle.flip_decoder.specs.Claims.{ofRun}
+use Rattle.flip_run.specs.Trials.{trials, Verdict, run, answerOf}
 use Rattle.flip_run.specs.WellFormed.{WellFormed}
+use Rattle.flip_run.specs.Claims.{ofRun}
+use Rattle.flip_run.proofs.Answers.{answer-of-run}
+use Rattle.flip_decoder.specs.Decode.{runRefusals, decodingRefusals, decodedBy, decodedWith}
 
 module _ (plan : Plan) (c : Code) (channel output : List ℕ) where
   pub well-formed-fine : WellFormed c channel (plan .limit) output → judge (decodingRefusals plan c channel output) ≡ Fine
@@ -51,11 +52,6 @@ module _ (plan : Plan) (c : Code) (channel output : List ℕ) where
         limit-most = limits .1;
         output-size = differs-past (length output) (bytesFor (c .k)) (s15 .0);
       }
-
--- a run answers no refusal before 16
-pub answer-of-run : (mask : List ℕ) (c : Code) (output : List ℕ) (v : Verdict) → ofRun (answerOf mask c output v .0) ≡ true
-answer-of-run mask c output (passed trial steps bits) = refl
-answer-of-run mask c output (failed made steps) = refl
 
 module _ (plan : Plan) (mask : List ℕ) (c : Code) (channel output : List ℕ) where
   abbrev verdict : Verdict

@@ -12,12 +12,12 @@ use Rattle.code.specs.declared.Code.{Code}
 use Rattle.code.specs.Code.{informationCount}
 use Rattle.code.specs.Description.{maskOf, describeUpTo, onDescription}
 use Rattle.channel.specs.Channel.{channelValues, channelRefusals}
-use Rattle.flip_trial.specs.declared.Restart.{Restart}
 use Rattle.flip_trial.specs.declared.Restart.the-variants.{Root, Half, After}
 use Rattle.flip_trial.specs.Trial.{trialPasses}
 use Rattle.flip_run.specs.declared.Plan.{Plan}
 use Rattle.flip_run.specs.declared.Decoded.{Decoded}
 use Rattle.flip_run.specs.declared.Decoded.the-variants.{Refused}
+use Rattle.flip_run.specs.Plan.{planOf}
 use Rattle.flip_run.specs.Trials.{trials, run, answerOf}
 
 -- 14 the trial limit is outside 1..K + 1; 15 the output is not of the packed payload's size
@@ -45,10 +45,6 @@ decodedUpTo largest plan d channel output =
 -- the answer and the output afterwards for a description, with `deepest` as the largest n
 unfoldable pub decodedWith : Plan → List ℕ → List ℕ → List ℕ → Decoded × List ℕ
 decodedWith plan d channel output = decodedUpTo deepest plan d channel output
-
--- a plan by its parts
-abbrev pub planOf : Restart → ℕ → Plan
-planOf restart limit = record { restart = restart; limit = limit }
 
 -- full decoding repeats each trial from the root
 abbrev pub decodedFull : List ℕ → List ℕ → ℕ → List ℕ → Decoded × List ℕ

@@ -14,10 +14,12 @@ use Rattle.code.proofs.Facts.{described}
 use Rattle.flip_trial.specs.declared.Restart.{Restart}
 use Rattle.flip_run.specs.declared.Decoded.{Decoded}
 use Rattle.flip_run.specs.declared.Decoded.the-variants.{Accepted, Failed, Refused}
-use Rattle.flip_decoder.specs.Claims.{ofRun}
-use Rattle.flip_decoder.specs.Decode.{planOf, decodedWith}
+use Rattle.flip_run.specs.Plan.{planOf}
+use Rattle.flip_run.specs.Claims.{ofRun}
+use Rattle.flip_decoder.specs.Decode.{decodedWith}
 use Rattle.flip_decoder.proofs.WellFormed.{well-formed-exactly}
-use Rattle.flip_demands.proofs.Compare.{EveryRestart, every, most}
+use Rattle.flip_demands.specs.Claims.{EveryRestart}
+use Rattle.flip_demands.proofs.Compare.{every, most}
 
 -- the trials and steps of an answer
 abbrev pub Bounded : Decoded × List ℕ → Type 0

@@ -23,8 +23,8 @@ use Rattle.flip_trial.specs.Trial.{trialPasses}
 use Rattle.flip_run.specs.declared.Decoded.{Decoded}
 use Rattle.flip_run.specs.declared.Decoded.the-variants.{Refused}
 use Rattle.flip_run.specs.Trials.{Verdict, run, answerOf}
-use Rattle.flip_decoder.specs.Claims.{ofRun}
-use Rattle.flip_decoder.proofs.WellFormed.{answer-of-run}
+use Rattle.flip_run.specs.Claims.{ofRun}
+use Rattle.flip_run.proofs.Answers.{answer-of-run}
 use Rattle.sets.specs.declared.Search.{Search}
 use Rattle.sets.specs.Tried.{setTrials}
 use Rattle.sets.specs.DecodeSets.{mostLimit, searchRefusals, setRefusals, setsBy, setsWith}

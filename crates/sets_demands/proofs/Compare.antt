@@ -13,7 +13,8 @@ use Rattle.flip_trial.specs.declared.Restart.the-variants.{Root}
 use Rattle.flip_trial.specs.Trial.{trialPasses}
 use Rattle.flip_run.specs.Trials.{run, answerOf}
 use Rattle.flip_demands.proofs.Trials.{FlipsEach, trialsOf}
-use Rattle.flip_demands.proofs.Compare.{EveryRestart, every-restart}
+use Rattle.flip_demands.specs.Claims.{EveryRestart}
+use Rattle.flip_demands.proofs.Compare.{every-restart}
 use Rattle.sets.specs.Tried.{flipSets}
 use Rattle.sets.specs.DecodeSets.{searchOf, setsWith}
 use Rattle.sets.specs.WellFormed.{WellFormed}

@@ -103,7 +103,7 @@ module _ {key low count p : ℕ} {keys ks : List ℕ} (pool : Pool keys low coun
       ap (λ (k : ℕ). getD new k 0) e ∙ new-past (suc (a - (p - low))) ∙ getD-drop (p - low) ks (a - (p - low)) 0 ∙ ap (λ (k : ℕ). getD ks k 0) f
 
   -- the room is full, and the key not below the last of it
-  pub turned-away : p ≡ low + length ks → take (length ks) (insertKey key ks) ≡ ks
+  turned-away : p ≡ low + length ks → take (length ks) (insertKey key ks) ≡ ks
   turned-away e =
       let d : p - low ≡ length ks = omega (arith, pool .ends) in
       ap (take (length ks)) (inserted ∙ ap (λ (k : ℕ). take k ks ++ (key ∷ drop k ks)) d) ∙ ap (λ (xs : List ℕ). take (length ks) (xs ++ (key ∷ drop (length ks) ks))) (take-all (length ks) ks (omega arith))

@@ -65,7 +65,7 @@ fn shift(at: usize, end: usize, keys: &mut [u64])
 }
 
 // Inserts a key into the queue `keys[low..count]`, and keeps the keys below place `room`. Returns the queue's new end.
-pub fn insert(key: u64, low: usize, count: usize, room: usize, keys: &mut [u64]) -> usize
+fn insert(key: u64, low: usize, count: usize, room: usize, keys: &mut [u64]) -> usize
     requires { ⌜ PoolPre low count room (now keys) ⌝ }
     ensures { λ r. ⌜ Inserted low count room r (key ∷ []) (now (keys .entry)) (now (keys .exit)) ⌝ }
 {

@@ -23,7 +23,7 @@ take-cons zero y ys = refl
 take-cons (suc m) y ys = ap (λ (zs : List Candidate). y ∷ zs) (take-take m (suc m) ys (omega arith))
 
 -- what stands past the first m does not come among them
-pub take-insert : (m : ℕ) (x : Candidate) (ys : List Candidate) → take m (insert x (take m ys)) ≡ take m (insert x ys)
+take-insert : (m : ℕ) (x : Candidate) (ys : List Candidate) → take m (insert x (take m ys)) ≡ take m (insert x ys)
 unfolding insert
 take-insert zero x ys = refl
 take-insert (suc m) x [] = refl
@@ -33,7 +33,7 @@ take-insert (suc m) x (y ∷ ys) = go (before x y) (take-insert m x ys)
     go true e = ap (λ (zs : List Candidate). x ∷ zs) (take-cons m y ys)
     go false e = ap (λ (zs : List Candidate). y ∷ zs) e
 
-pub insert-each-take : (m : ℕ) (xs ys : List Candidate) → insertEach m xs (take m ys) ≡ take m (insertAll xs ys)
+insert-each-take : (m : ℕ) (xs ys : List Candidate) → insertEach m xs (take m ys) ≡ take m (insertAll xs ys)
 unfolding insertEach insertAll
 insert-each-take m [] ys = refl
 insert-each-take m (x ∷ xs) ys = ap (insertEach m xs) (take-insert m x ys) ∙ insert-each-take m xs (insert x ys)
@@ -45,7 +45,7 @@ insert-each-all xs ys =
     ap (insertEach m xs) (sym (take-all m ys (omega arith))) ∙ insert-each-take m xs ys ∙ take-all m (insertAll xs ys) (omega arith)
 
 module _ (generate : List ℕ → List Candidate) where
-  pub tried-take : (m : ℕ) (xs : List Candidate) → tried generate m (take m xs) ≡ triedOfAll generate m xs
+  tried-take : (m : ℕ) (xs : List Candidate) → tried generate m (take m xs) ≡ triedOfAll generate m xs
   unfolding tried triedOfAll
   tried-take zero xs = refl
   tried-take (suc m) [] = refl

@@ -45,7 +45,7 @@ insert-member x (y ∷ ys) {z} p =
     insert-cases (λ zs. List·Memᴰ z zs → (z ≡ x) ⊎ List·Memᴰ z (y ∷ ys)) x y ys (λ _ q. List·Memᴰ·cases-cons q)
     (λ _ q. ⊎-elim (λ e. inr (List·Memᴰ·head e)) (λ r. ⊎-elim (λ e. inl e) (λ t. inr (List·Memᴰ·tail t)) (insert-member x ys r)) (List·Memᴰ·cases-cons q)) p
 
-pub insert-each-member : (m : ℕ) (xs ys : List Candidate) {z : Candidate} → List·Memᴰ z (insertEach m xs ys) → List·Memᴰ z xs ⊎ List·Memᴰ z ys
+insert-each-member : (m : ℕ) (xs ys : List Candidate) {z : Candidate} → List·Memᴰ z (insertEach m xs ys) → List·Memᴰ z xs ⊎ List·Memᴰ z ys
 unfolding insertEach
 insert-each-member m [] ys p = inr p
 insert-each-member m (x ∷ xs) ys p =

@@ -29,7 +29,7 @@ member-at (x ∷ xs) (suc a) l = List·Memᴰ·tail (member-at xs a (omega arith
 -- a property that what is generated from a set that has it has too
 module _ (P : List ℕ → Type 0) (generate : List ℕ → List Candidate) (more : (is : List ℕ) → P is → (x : Candidate) → List·Memᴰ x (generate is) → P (x .flips)) where
   -- if all untried sets have it, each set that is tried has it
-  pub tried-each : (m : ℕ) (untried : List Candidate) → ((x : Candidate) → List·Memᴰ x untried → P (x .flips)) → (is : List ℕ) → List·Memᴰ is (tried generate m untried) → P is
+  tried-each : (m : ℕ) (untried : List Candidate) → ((x : Candidate) → List·Memᴰ x untried → P (x .flips)) → (is : List ℕ) → List·Memᴰ is (tried generate m untried) → P is
   unfolding tried
   tried-each zero untried each is p = absurd (List·Memᴰ·not-nil p)
   tried-each (suc m) [] each is p = absurd (List·Memᴰ·not-nil p)

@@ -21,7 +21,7 @@ use Rattle.flip_trial.specs.Trial.{lowest}
 use Rattle.flip_run.specs.declared.Decoded.{Decoded}
 use Rattle.flip_run.specs.declared.Decoded.the-variants.{Refused}
 use Rattle.flip_demands.specs.Demand3.{skippedOver}
-use Rattle.flip_demands.proofs.Compare.{EveryRestart}
+use Rattle.flip_demands.specs.Claims.{EveryRestart}
 use Rattle.flip_demands.proofs.Demand3.{skipped-root, after, skipped-after}
 use Rattle.theorems_half.specs.Half.{SameRefusal, inSecondHalf, SameAnswer}
 use Rattle.theorems_half.proofs.Steps.{skipped-by-half, half-saves-less}

@@ -10,7 +10,8 @@ use Rattle.code.specs.Code.{informationCount}
 use Rattle.code.specs.Description.{describe}
 use Rattle.flip_trial.specs.declared.Restart.{Restart}
 use Rattle.flip_run.specs.declared.Decoded.the-variants.{Accepted}
-use Rattle.flip_decoder.specs.Decode.{planOf, decodedWith}
+use Rattle.flip_run.specs.Plan.{planOf}
+use Rattle.flip_decoder.specs.Decode.{decodedWith}
 
 -- full, half and restarted decoding are a restart each; 14 allows T from 1 to K + 1; each call has its own output, and both are of one size
 abbrev pub StaysAccepted : Type 0

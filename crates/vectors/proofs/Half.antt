@@ -33,6 +33,7 @@ use Rattle.flip_run.specs.declared.Decoded.the-variants.{Accepted, Failed, Refu
 use Rattle.flip_run.specs.Trials.{flipOrder, run}
 use Rattle.flip_decoder.specs.Decode.{decodedBy, decodedWith, decodedFull, decodedHalf, decodedRestarted}
 use Rattle.flip_demands.specs.Demand3.{skippedOver}
+use Rattle.flip_demands.specs.Claims.{Sent}
 use Rattle.sets.specs.Candidate.{doubtful, extensions, insert as insertSet, insertEach}
 use Rattle.sets.specs.Tried.{tried, flipSets}
 use Rattle.sets.specs.DecodeSets.{mostLimit, searchOf, setsBy, setsWith, setsFull, setsHalf, setsRestarted}
@@ -40,7 +41,6 @@ use Rattle.sets.specs.WellFormed.{WellFormed as WellFormedSets}
 use Rattle.sets.proofs.Examples.{wideD, wideCode}
 use Rattle.sets_demands.proofs.Larger.{stays-accepted as sets-stay}
 use Rattle.theorems_half.specs.Half.{inSecondHalf, SameAnswer}
-use Rattle.theorems_half.specs.Claims.{Sent}
 use Rattle.theorems_half.proofs.Half.{three-decode}
 use Rattle.theorems_half.proofs.Sets.{three-decode-sets}
 use Rattle.theorems_half.proofs.Larger.{stays-accepted}
