@@ -22,3 +22,12 @@ or-first false b e = absurd (true≢false (sym e))
 pub or-second : (a b : Bool) → a ≡ false → b ≡ (a || b)
 or-second false b e = refl
 or-second true b e = absurd (true≢false e)
+
+-- a test that cannot fail holds, and one that cannot hold fails
+pub is-true : (t : Bool) → (t ≡ false → ⊥) → t ≡ true
+is-true true f = refl
+is-true false f = absurd (f refl)
+
+pub is-false : (t : Bool) → (t ≡ true → ⊥) → t ≡ false
+is-false true f = absurd (f refl)
+is-false false f = refl

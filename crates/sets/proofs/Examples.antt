@@ -5,6 +5,7 @@ use Prim.Native.Nat.{ℕ}
 use lib.IntN.{ℤ}
 use Rattle.laws.specs.First.{firstWhere}
 use Rattle.laws.specs.Table.{table}
+use Rattle.laws.specs.Insert.{insertBy, sortBy}
 use Rattle.refusal.specs.declared.Refusal.the-variants.{Alone, At}
 use Rattle.refusal.specs.Judge.{judge, refusedOr}
 use Rattle.bits.specs.Bit.{number}
@@ -19,13 +20,13 @@ use Rattle.placing.specs.Place.{taken}
 use Rattle.values.specs.Values.{f, g, leftValues, rightValues}
 use Rattle.channel.specs.Channel.{channelValue, channelValues}
 use Rattle.pass_tree.specs.Node.{node}
-use Rattle.flip_order.specs.Order.{magnitude, information, insert, ordered}
+use Rattle.flip_order.specs.Order.{magnitude, information}
 use Rattle.flip_trial.specs.declared.Restart.the-variants.{After}
 use Rattle.flip_trial.specs.Trial.{firstTrial, laterTrial}
 use Rattle.flip_run.specs.declared.Decoded.the-variants.{Accepted, Failed, Refused}
 use Rattle.flip_run.specs.Trials.{flipOrder, run}
 use Rattle.flip_decoder.specs.Decode.{decodedBy, decodedWith, decodedRestarted}
-use Rattle.sets.specs.Candidate.{metricOf, doubtful, extensions, insert as insertSet, insertEach}
+use Rattle.sets.specs.Candidate.{metricOf, doubtful, extensions, insertEach}
 use Rattle.sets.specs.Tried.{leavesOf, tried, flipSets}
 use Rattle.sets.specs.DecodeSets.{searchOf, setsBy, setsWith, setsFull, setsRestarted}
 
@@ -150,7 +151,7 @@ pub record SetExamples (byte : ℕ) : Type 0 where
       × (setsRestarted wideD pairV 2 512 [] ≡ (Refused (Alone 15), []))
 
 pub set-examples : (byte : ℕ) → SetExamples byte
-unfolding judge refusedOr table number onesBelow packed describeUpTo checkOf covers parity transformed xors taken channelValue f g leftValues rightValues firstWhere node information insert ordered run decodedBy decodedWith doubtful extensions insertSet insertEach tried setsBy setsWith
+unfolding judge refusedOr table number onesBelow packed describeUpTo checkOf covers parity transformed xors taken channelValue f g leftValues rightValues firstWhere node information insertBy sortBy run decodedBy decodedWith doubtful extensions insertEach tried setsBy setsWith
 set-examples byte = record {
   described = refl;
   by-metric = (refl, refl, refl, refl, refl, refl);

@@ -1,11 +1,12 @@
 -- Document 02, request 2.2, after document 000's dynamic method: sets of flipped indices that are not tried yet. A set is a list of
 -- information indices, ascending.
-use mathlib.Core.Bool.{Bool, true, false, _&&_, _||_, cond}
+use mathlib.Core.Bool.{Bool, _&&_, _||_, cond}
 use mathlib.Core.List.{List, [], _∷_, _++_}
 use Prim.Native.Nat.{ℕ, zero, suc, _+_, _*_}
 use lib.Dec.{leb, ltb, eqb}
 use lib.IntN.{ℤ}
 use lib.ListN.{take}
+use Rattle.laws.specs.Insert.{insertBy, earlier}
 use Rattle.bits.specs.Mask.{maskBit}
 use Rattle.flip_order.specs.Order.{magnitude}
 
@@ -49,22 +50,11 @@ extensions mask leaves is (suc n) =
     extensions mask leaves is n
     ++ cond (eqb (maskBit mask n) 1 && leb (pastLargest is) n) (candidate mask leaves (is ++ (n ∷ [])) ∷ []) []
 
--- whether one list of indices comes before another: compared from the first entry, lower first
-abbrev pub earlier : List ℕ → List ℕ → Bool
-earlier is [] = false
-earlier [] (j ∷ js) = true
-earlier (i ∷ is) (j ∷ js) = ltb i j || (eqb i j && earlier is js)
-
 -- whether x comes before y: order is metric, then the list of indices
 abbrev pub before : Candidate → Candidate → Bool
 before x y = ltb (x .metric) (y .metric) || (eqb (x .metric) (y .metric) && earlier (x .flips) (y .flips))
 
--- x in its place among untried sets that are in order
-unfoldable pub insert : Candidate → List Candidate → List Candidate
-insert x [] = x ∷ []
-insert x (y ∷ ys) = cond (before x y) (x ∷ y ∷ ys) (y ∷ insert x ys)
-
--- each of some candidates in its place: after every insertion only the first m sets are kept
+-- each of some candidates in its place among untried sets that are in order: after every insertion only the first m sets are kept
 unfoldable pub insertEach : ℕ → List Candidate → List Candidate → List Candidate
 insertEach m [] untried = untried
-insertEach m (x ∷ xs) untried = insertEach m xs (take m (insert x untried))
+insertEach m (x ∷ xs) untried = insertEach m xs (take m (insertBy before x untried))

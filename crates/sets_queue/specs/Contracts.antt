@@ -6,6 +6,7 @@ use Prim.Native.Nat.{ℕ, zero, suc, _+_, _-_, _*_, _^_, _/_, _%_, _<_, _≤_, m
 use lib.Dec.{leb, ltb, eqb}
 use lib.IntN.{ℤ}
 use lib.ListN.{length, getD, take}
+use Rattle.laws.specs.Insert.{insertBy}
 use Rattle.arrays.specs.Claims.{longest}
 use Rattle.bits.specs.Mask.{maskBit}
 use Rattle.flip_order.specs.Order.{magnitude}
@@ -48,15 +49,10 @@ pub record Digits (most : ℕ) (is : List ℕ) : Type 0 where
 
 -- ---- keys in order
 
--- a key in its place among keys that are in order
-unfoldable pub insertKey : ℕ → List ℕ → List ℕ
-insertKey key [] = key ∷ []
-insertKey key (k ∷ ks) = cond (ltb key k) (key ∷ k ∷ ks) (k ∷ insertKey key ks)
-
--- each of some keys in its place: after every insertion only the first m are kept
+-- each of some keys in its place among keys that are in order: after every insertion only the first m are kept
 unfoldable pub insertKeys : ℕ → List ℕ → List ℕ → List ℕ
 insertKeys m [] ks = ks
-insertKeys m (key ∷ keys) ks = insertKeys m keys (take m (insertKey key ks))
+insertKeys m (key ∷ keys) ks = insertKeys m keys (take m (insertBy ltb key ks))
 
 -- the queue from `low` to `count` of an array is ks, in order
 pub record Pool (keys : List ℕ) (low count : ℕ) (ks : List ℕ) : Type 0 where

@@ -6,6 +6,7 @@ use mathlib.Core.List.{List, [], _∷_, _++_, map, List·Memᴰ}
 use Prim.Native.Nat.{ℕ, zero, suc, _-_, _<_, _≤_}
 use lib.IntN.{ℤ, pos}
 use lib.ListN.{length, getD, take}
+use Rattle.laws.specs.Insert.{insertBy}
 use Rattle.bits.specs.Mask.{maskBit}
 use Rattle.code.specs.declared.Code.{Code}
 use Rattle.code.specs.Code.{codeLength}
@@ -15,7 +16,7 @@ use Rattle.flip_trial.specs.declared.Restart.{Restart}
 use Rattle.flip_trial.specs.Trial.{firstTrial, member, laterTrial}
 use Rattle.flip_trial.specs.Claims.{Flips}
 use Rattle.sets.specs.declared.Search.{Search}
-use Rattle.sets.specs.Candidate.{pastLargest, metricOf, Candidate, candidate, before, insert}
+use Rattle.sets.specs.Candidate.{pastLargest, metricOf, Candidate, candidate, before}
 use Rattle.sets.specs.Tried.{leavesOf, generated, flipSets}
 use Rattle.sets.specs.DecodeSets.{searchOf}
 
@@ -41,7 +42,7 @@ Extends mask leaves is n x =
 -- each of some candidates in its place, as by `insertEach`, but all are kept
 unfoldable pub insertAll : List Candidate → List Candidate → List Candidate
 insertAll [] untried = untried
-insertAll (x ∷ xs) untried = insertAll xs (insert x untried)
+insertAll (x ∷ xs) untried = insertAll xs (insertBy before x untried)
 
 -- the sets that are tried while m trials remain by a search that keeps every untried set. `kept-loses-nothing` of proofs/Kept.antt proves
 -- that they are those of `tried`.

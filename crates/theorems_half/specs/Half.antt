@@ -82,6 +82,5 @@ ThreeDecodeSets =
     (d channel : List ℕ) (w limit size : ℕ)
     → let answer = bySets d channel w limit in
     SameRefusal answer size
-    ⊎ ((c : Code)
-    × (describe d ≡ Coding c)
+    ⊎ ((c : Code) × (describe d ≡ Coding c)
     × SameAnswer (maskOf d) c (map lowest (flipSets (searchOf Root w limit) (maskOf d) c (channelValues channel))) answer size)
