@@ -24,10 +24,11 @@ use Rattle.flip_trial.specs.Trial.{trialPasses}
 use Rattle.flip_run.specs.declared.Plan.{Plan}
 use Rattle.flip_run.specs.declared.Decoded.{Decoded}
 use Rattle.flip_run.specs.declared.Decoded.the-variants.{Refused}
-use Rattle.flip_run.specs.Trials.{trials, Verdict, passed, failed, run, answerOf}
-use Rattle.flip_decoder.specs.Decode.{runRefusals, decodingRefusals, decodedBy, decodedWith}
-use Rattle.flip_decoder.specs.Claims.{ofRun}
+use Rattle.flip_run.specs.Trials.{trials, Verdict, run, answerOf}
 use Rattle.flip_run.specs.WellFormed.{WellFormed}
+use Rattle.flip_run.specs.Claims.{ofRun}
+use Rattle.flip_run.proofs.Answers.{answer-of-run}
+use Rattle.flip_decoder.specs.Decode.{runRefusals, decodingRefusals, decodedBy, decodedWith}
 
 module _ (plan : Plan) (c : Code) (channel output : List ℕ) where
   pub well-formed-fine : WellFormed c channel (plan .limit) output → judge (decodingRefusals plan c channel output) ≡ Fine
@@ -52,11 +53,6 @@ module _ (plan : Plan) (c : Code) (channel output : List ℕ) where
         output-size = differs-past (length output) (bytesFor (c .k)) (s15 .0);
       }
 
--- a run gives no refusal before 16
-pub answer-of-run : (mask : List ℕ) (c : Code) (output : List ℕ) (v : Verdict) → ofRun (answerOf mask c output v .0) ≡ true
-answer-of-run mask c output (passed trial steps bits) = refl
-answer-of-run mask c output (failed made steps) = refl
-
 module _ (plan : Plan) (mask : List ℕ) (c : Code) (channel output : List ℕ) where
   abbrev verdict : Verdict
   verdict = run (trialPasses mask c) 0 0 (trials plan mask c (channelValues channel))
@@ -71,7 +67,7 @@ module _ (plan : Plan) (mask : List ℕ) (c : Code) (channel output : List ℕ) 
   unfolding decodedBy
   refused-answer x h = refused-by (λ x. (Refused x, output)) (answerOf mask c output verdict) _ x h
 
-  -- and where the answer is that of a run, nothing before 16 applies
+  -- if the answer is that of a run, nothing before 16 applies
   pub answer-well-formed : (z : Decoded × List ℕ) → ofRun (z .0) ≡ true → decodedBy plan mask c channel output ≡ z → WellFormed c channel (plan .limit) output × (answerOf mask c output verdict ≡ z)
   unfolding decodedBy
   answer-well-formed z f e =
@@ -95,7 +91,7 @@ module _ (plan : Plan) (d channel output : List ℕ) where
   unfolding decodedWith
   decoded-by c e = ap by e
 
-  -- the input is well-formed exactly where nothing before 16 is the answer; every decoder has a plan
+  -- the input is well-formed exactly if nothing before 16 is the answer; every decoder has a plan
   pub well-formed-exactly : WellFormedUnder d (λ c. WellFormed c channel (plan .limit) output) ↔ (ofRun (decodedWith plan d channel output .0) ≡ true)
   unfolding decodedWith decodedBy
   well-formed-exactly =

@@ -39,7 +39,8 @@ fn judge_run(plan: Plan, code: Code, output: &[u8]) -> Judgement
 
 // Refusals 12 to 15.
 fn judge_decoding(plan: Plan, code: Code, channel: &[u8], output: &[u8]) -> Judgement
-    requires { ⌜ (code .n ≤ deepest) × (informationCount code ≤ longest) ⌝ }
+    requires { ⌜ (code .n ≤ deepest)
+        × (informationCount code ≤ longest) ⌝ }
     ensures { λ j. ⌜ j ≡ judge (decodingRefusals plan code (now (channel .entry)) (now (output .entry))) ⌝ }
 {
     match channel::judge_channel(code, channel) {
@@ -48,7 +49,7 @@ fn judge_decoding(plan: Plan, code: Code, channel: &[u8], output: &[u8]) -> Judg
     }
 }
 
-// Decodes under a code.
+// Decodes a channel's values into the packed payload, by the mask and the code of a description.
 pub fn decode_by(plan: Plan, mask: &[u8], code: Code, channel: &[u8], output: &mut [u8]) -> Decoded
     requires { ⌜ Coded (now mask) code ⌝ }
     ensures { λ a. ⌜ (a, now (output .exit)) ≡ decodedBy plan (now (mask .entry)) code (now (channel .entry)) (now (output .entry)) ⌝ }
@@ -59,7 +60,7 @@ pub fn decode_by(plan: Plan, mask: &[u8], code: Code, channel: &[u8], output: &m
     }
 }
 
-// Decodes a channel's values into the packed payload.
+// Decodes a channel's values into the packed payload, by a description.
 fn decode(plan: Plan, description: &[u8], channel: &[u8], output: &mut [u8]) -> Decoded
     ensures { λ a. ⌜ (a, now (output .exit)) ≡ decodedWith plan (now (description .entry)) (now (channel .entry)) (now (output .entry)) ⌝ }
 {
@@ -82,7 +83,7 @@ pub fn decode_full(description: &[u8], channel: &[u8], limit: u32, output: &mut 
     decode(full, description, channel, output)
 }
 
-// Decodes with each later trial resumed at N/2 where its flipped index is N/2 or above, otherwise at 0.
+// Decodes with each later trial resumed at N/2 if its flipped index is N/2 or above, otherwise at 0.
 pub fn decode_half(description: &[u8], channel: &[u8], limit: u32, output: &mut [u8]) -> Decoded
     ensures { λ a. ⌜ (a, now (output .exit)) ≡ decodedHalf (now (description .entry)) (now (channel .entry)) limit (now (output .entry)) ⌝ }
 {
@@ -93,7 +94,7 @@ pub fn decode_half(description: &[u8], channel: &[u8], limit: u32, output: &mut 
     decode(half, description, channel, output)
 }
 
-// Decodes with each later trial resumed past its flipped index.
+// Decodes with each later trial resumed at the first information index after its flipped one, or at N if there is none.
 pub fn decode_restarted(
     description: &[u8],
     channel: &[u8],

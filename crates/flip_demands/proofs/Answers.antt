@@ -71,7 +71,7 @@ module _ (mask : List ℕ) (c : Code) (output : List ℕ) where
 
 -- ---- single flips
 
--- A decoder under an accepted description, by any plan: `decodedFull`, `decodedHalf` and `decodedRestarted` are such.
+-- Any decoder by single flips under an accepted description: `decodedFull`, `decodedHalf` and `decodedRestarted` have a plan each.
 module _ (plan : Plan) (d : List ℕ) (c : Code) (channel output : List ℕ) (code : describe d ≡ Coding c) where
   abbrev mask : List ℕ
   mask = maskOf d

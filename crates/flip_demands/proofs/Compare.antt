@@ -1,9 +1,9 @@
--- The decoders of every restart give the same answer, and each skips exactly the steps that its restarts save.
+-- The decoders of every restart answer the same, and each skips exactly the steps that its restarts save.
 use mathlib.Core.Path.{_≡_, refl, sym, ap, ap₂, _∙_, subst}
 use mathlib.Core.Bool.{Bool}
-use mathlib.Core.Logic.{_⊎_, inl, inr, ⊎-elim}
+use mathlib.Core.Logic.{inl, inr, ⊎-elim}
 use mathlib.Core.List.{List, map}
-use Prim.Native.Nat.{ℕ, _+_, _-_, _*_, _≤_}
+use Prim.Native.Nat.{ℕ, _+_, _-_, _≤_}
 use native.Mathlib.Omega.{arith}
 use lib.IntN.{ℤ}
 use lib.ListN.{length, take}
@@ -11,7 +11,7 @@ use lib.Seq.{take-all}
 use Rattle.bits.specs.Packing.{packed}
 use Rattle.code.specs.declared.Code.{Code}
 use Rattle.code.specs.declared.Description.the-variants.{Accepted as Coding}
-use Rattle.code.specs.Code.{codeLength, informationCount}
+use Rattle.code.specs.Code.{informationCount}
 use Rattle.code.specs.Description.{maskOf, describe}
 use Rattle.code.proofs.Facts.{described}
 use Rattle.channel.specs.Channel.{channelValues}
@@ -20,29 +20,16 @@ use Rattle.flip_trial.specs.declared.Restart.{Restart}
 use Rattle.flip_trial.specs.declared.Restart.the-variants.{Root}
 use Rattle.flip_trial.specs.Trial.{lowest, messageIn, trialPasses}
 use Rattle.flip_run.specs.declared.Decoded.{Decoded}
-use Rattle.flip_run.specs.declared.Decoded.the-variants.{Accepted, Failed}
 use Rattle.flip_run.specs.Trials.{Verdict, passed, failed, run, answerOf}
 use Rattle.flip_run.specs.WellFormed.{WellFormed}
-use Rattle.flip_decoder.specs.Decode.{planOf, decodedWith}
+use Rattle.flip_run.specs.Plan.{planOf}
+use Rattle.flip_decoder.specs.Decode.{decodedWith}
 use Rattle.flip_decoder.proofs.WellFormed.{well-formed-answer, decoded-by}
-use Rattle.flip_demands.specs.Claims.{stepsOf, PassedAt, AllFailed, Ends, SameButSteps, flippedIn, skippedBy, Compare}
+use Rattle.flip_demands.specs.Claims.{stepsOf, PassedAt, AllFailed, Ends, SameButSteps, flippedIn, skippedBy, EveryRestart, Compare}
 use Rattle.flip_demands.proofs.Trials.{FlipsEach, trialsOf, length-trials-of, same-trials, sets-made, steps-trials, singles, flips-singles, trials-are, length-singles, lowest-singles}
 use Rattle.flip_demands.proofs.Run.{run-ends, run-same}
 
 -- ---- any sets
-
--- What `Compare` says of single flips, for any sets and every restart: `answer` is what the decoder of each restart answers after the trials of
--- these sets, with any output that fits.
-pub record EveryRestart (mask : List ℕ) (c : Code) (sets : List (List ℕ)) (Fitting : List ℕ → Type 0) (answer : Restart → List ℕ → Decoded × List ℕ) : Type 0 where
-  pub made : ℕ
-  pub steps : Restart → ℕ
-  pub most : made ≤ length sets + 1
-  -- a set for each trial made after the first
-  pub each : length (take (made - 1) sets) + 1 ≡ made
-  pub answers :
-      ((payload : List ℕ) × ((r : Restart) (o : List ℕ) → Fitting o → answer r o ≡ (Accepted made (steps r), payload)))
-      ⊎ ((made ≡ length sets + 1) × ((r : Restart) (o : List ℕ) → Fitting o → answer r o ≡ (Failed made (steps r), o)))
-  pub counted : (r : Restart) → steps r + skippedBy r mask c (map lowest (take (made - 1) sets)) ≡ made * c .n * codeLength c
 
 -- the steps of a verdict, and it with other steps
 abbrev stepsIn : Verdict → ℕ
@@ -69,7 +56,7 @@ module _ (mask : List ℕ) (c : Code) (v : List ℤ) (sets : List (List ℕ)) (f
   abbrev of : Restart → Verdict
   of r = run ok 0 0 (os r)
 
-  -- full decoding's verdict, in steps of its own
+  -- the verdict of each restart is full decoding's, but for the steps
   same : (x : Verdict) → of Root ≡ x → (r : Restart) → of r ≡ inSteps (stepsIn (of r)) x
   same x e r = same-but-steps x (of r) (subst (λ (y : Verdict). SameButSteps y (of r)) e (run-same ok (os Root) (os r) (same-trials mask c v Root r sets flips)))
 
@@ -126,7 +113,7 @@ module _ (d : List ℕ) (c : Code) (channel : List ℕ) (limit : ℕ) (code : de
   pub every : EveryRestart mask c (singles mask c v limit) (WellFormed c channel limit) (λ r o. decodedWith (planOf r limit) d channel o)
   every = every-restart mask c v (singles mask c v limit) (flips-singles mask c v limit) (λ r o w. answer r d c channel limit o code w)
 
-  -- where the limit is allowed
+  -- if the limit is allowed
   module _ (least : 1 ≤ limit) (allowed : limit ≤ informationCount c + 1) where
     -- a set for each trial after the first, up to the limit
     many : length (singles mask c v limit) + 1 ≡ limit

@@ -1,4 +1,4 @@
--- Demand 3: `compare` where the one decoder repeats each trial from the root and the other resumes past its flipped index.
+-- Demand 3: `compare` if the one decoder repeats each trial from the root and the other resumes past its flipped index.
 use mathlib.Core.Path.{_≡_, refl, subst}
 use mathlib.Core.List.{List, [], _∷_, map, Forall₂, Forall₂·nil, Forall₂·cons}
 use Prim.Native.Nat.{ℕ, suc, _-_}

@@ -25,7 +25,7 @@ later-later m m′ s s′ (passed trial t bits) = ap₂ (λ (a b : ℕ). passed 
 later-later m m′ s s′ (failed all t) = ap₂ failed (omega arith) (omega arith)
 
 module _ (ok : List ℕ → Bool) where
-  -- a run that goes on is a run of its own, later
+  -- a run that goes on is a run from the start, counted later
   run-later : (m s : ℕ) (os : List Out) → run ok m s os ≡ later m s (run ok 0 0 os)
   unfolding run
   run-later m s [] = ap₂ failed (omega arith) (omega arith)
@@ -104,7 +104,7 @@ same-trial : (os os′ : List Out) → bitsOfEach os ≡ bitsOfEach os′ → (t
 same-trial os os′ same zero = refl
 same-trial os os′ same (suc t) = ap (λ (bs : List (List ℕ)). getD bs t []) same
 
--- where a trial of the one passes, not all of the other's trials up to it fail
+-- if a trial of the one passes, not all of the other's trials up to it fail
 not-failed : (ok : List ℕ → Bool) (os os′ : List Out) → bitsOfEach os ≡ bitsOfEach os′ → (t s : ℕ) (b : List ℕ) → PassedAt ok os t s b → ok (bitsOfTrial os′ t) ≡ false → ⊥
 not-failed ok os os′ same t s b p f = true≢false (sym (p .passes) ∙ ap ok (p .bits-are ∙ same-trial os os′ same t) ∙ f)
 

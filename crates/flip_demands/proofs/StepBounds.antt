@@ -14,10 +14,12 @@ use Rattle.code.proofs.Facts.{described}
 use Rattle.flip_trial.specs.declared.Restart.{Restart}
 use Rattle.flip_run.specs.declared.Decoded.{Decoded}
 use Rattle.flip_run.specs.declared.Decoded.the-variants.{Accepted, Failed, Refused}
-use Rattle.flip_decoder.specs.Claims.{ofRun}
-use Rattle.flip_decoder.specs.Decode.{planOf, decodedWith}
+use Rattle.flip_run.specs.Plan.{planOf}
+use Rattle.flip_run.specs.Claims.{ofRun}
+use Rattle.flip_decoder.specs.Decode.{decodedWith}
 use Rattle.flip_decoder.proofs.WellFormed.{well-formed-exactly}
-use Rattle.flip_demands.proofs.Compare.{EveryRestart, every, most}
+use Rattle.flip_demands.specs.Claims.{EveryRestart}
+use Rattle.flip_demands.proofs.Compare.{every, most}
 
 -- the trials and steps of an answer
 abbrev pub Bounded : Decoded × List ℕ → Type 0
@@ -31,7 +33,7 @@ run-bounded (Accepted trial steps, bytes) p = p refl
 run-bounded (Failed made steps, bytes) p = p refl
 run-bounded (Refused x, bytes) p = tt
 
--- the answer to the trials of any sets, where few enough are made
+-- the answer to the trials of any sets, if few enough are made
 pub few-bounded : {mask : List ℕ} {c : Code} {sets : List (List ℕ)} {Fitting : List ℕ → Type 0} {answer : Restart → List ℕ → Decoded × List ℕ} → Coded mask c
     → (x : EveryRestart mask c sets Fitting answer) → x .made ≤ mostTrials → (r : Restart) (o : List ℕ) → Fitting o → Bounded (answer r o)
 few-bounded coded x few r o f =

@@ -21,7 +21,7 @@ use Rattle.flip_trial.proofs.Agree.{same-bits, steps-from}
 use Rattle.flip_run.specs.declared.Plan.{Plan}
 use Rattle.flip_run.specs.Trials.{flipOrder, trials}
 use Rattle.flip_run.proofs.FlipOrder.{order-flips, length-order}
-use Rattle.flip_decoder.specs.Decode.{planOf}
+use Rattle.flip_run.specs.Plan.{planOf}
 use Rattle.flip_demands.specs.Claims.{bitsOfEach, stepsOf, flippedIn, skippedBy}
 
 -- the images of the first m

@@ -1,4 +1,4 @@
--- What the theorems of this crate state of its definitions: what a run of trials ends with, and what two restarts share.
+-- What theorems state of the decoders: how a run of trials ends, what restarts share, and which frames are sent.
 use mathlib.Core.Path.{_≡_}
 use mathlib.Core.Bool.{Bool, true, false}
 use mathlib.Core.Logic.{_⊎_}
@@ -7,21 +7,28 @@ use Prim.Native.Nat.{ℕ, zero, suc, _+_, _-_, _*_, _<_, _≤_}
 use lib.IntN.{ℤ}
 use lib.ListN.{length, getD, take}
 use Rattle.code.specs.declared.Code.{Code}
+use Rattle.code.specs.declared.Description.the-variants.{Accepted as Coding}
 use Rattle.code.specs.Code.{codeLength}
-use Rattle.code.specs.Description.{maskOf}
+use Rattle.code.specs.Description.{maskOf, describe}
 use Rattle.channel.specs.Channel.{channelValues}
+use Rattle.encoder.specs.declared.Encoded.the-variants.{Done}
+use Rattle.encoder.specs.Encode.{encoded}
 use Rattle.pass_tree.specs.Node.{Out}
 use Rattle.pass_tree.specs.Skipped.{skipped}
 use Rattle.flip_trial.specs.declared.Restart.{Restart}
-use Rattle.flip_trial.specs.Trial.{restartAt}
+use Rattle.flip_trial.specs.Trial.{lowest, restartAt}
+use Rattle.flip_run.specs.declared.Decoded.{Decoded}
 use Rattle.flip_run.specs.declared.Decoded.the-variants.{Accepted, Failed}
 use Rattle.flip_run.specs.Trials.{flipOrder, Verdict, passed, failed}
-use Rattle.flip_decoder.specs.Decode.{planOf, decodedWith}
+use Rattle.flip_run.specs.Plan.{planOf}
+use Rattle.flip_decoder.specs.Decode.{decodedWith}
+use Rattle.flip_demands.specs.Noiseless.{Received}
 
--- the bits of each trial, and those of trial t, from 1
+-- the bits of each trial
 abbrev pub bitsOfEach : List Out → List (List ℕ)
 bitsOfEach os = map (λ o. o .bits) os
 
+-- the bits of trial t, from 1
 abbrev pub bitsOfTrial : List Out → ℕ → List ℕ
 bitsOfTrial os zero = []
 bitsOfTrial os (suc t) = getD (bitsOfEach os) t []
@@ -31,13 +38,16 @@ abbrev pub stepsOf : List Out → ℕ
 stepsOf [] = 0
 stepsOf (o ∷ os) = o .work .steps + stepsOf os
 
--- `trial` passes with these bits, every trial before it failed, and the steps are those of the trials made
+-- `trial` is the first that passes
 pub record PassedAt (ok : List ℕ → Bool) (os : List Out) (trial steps : ℕ) (bits : List ℕ) : Type 0 where
   pub least : 1 ≤ trial
   pub most : trial ≤ length os
+  -- these are its bits
   pub bits-are : bits ≡ bitsOfTrial os trial
   pub passes : ok bits ≡ true
+  -- every trial before it failed
   pub earlier : (t : ℕ) → 1 ≤ t → t < trial → ok (bitsOfTrial os t) ≡ false
+  -- the steps are those of the trials made
   pub steps-are : steps ≡ stepsOf (take trial os)
 
 -- every trial is made and failed
@@ -67,14 +77,33 @@ abbrev pub skippedBy : Restart → List ℕ → Code → List ℕ → ℕ
 skippedBy restart mask c [] = 0
 skippedBy restart mask c (i ∷ is) = skipped (c .n) (restartAt restart mask (codeLength c) i) + skippedBy restart mask c is
 
--- What the decoders of two restarts give under d, each with its own output. `made` trials are made; `steps` and `steps′` are what each
--- reports. `compare` of proofs/Compare.antt proves it.
-pub record Compare (a b : Restart) (d : List ℕ) (c : Code) (channel : List ℕ) (limit : ℕ) (output output′ : List ℕ) : Type 0 where
+-- The answers of the decoders of every restart, by any sets. `answer` is what the decoder of each restart answers after the trials of these sets,
+-- with any output that fits. `every-restart` of proofs/Compare.antt proves it.
+pub record EveryRestart (mask : List ℕ) (c : Code) (sets : List (List ℕ)) (Fitting : List ℕ → Type 0) (answer : Restart → List ℕ → Decoded × List ℕ) : Type 0 where
+  -- the trials that each makes
   pub made : ℕ
+  -- the steps that each restart reports
+  pub steps : Restart → ℕ
+  pub most : made ≤ length sets + 1
+  -- a set for each trial made after the first
+  pub each : length (take (made - 1) sets) + 1 ≡ made
+  -- one trial number with one payload; or refusal 16 after the trials of all sets, and each output as it was
+  pub answers :
+      ((payload : List ℕ) × ((r : Restart) (o : List ℕ) → Fitting o → answer r o ≡ (Accepted made (steps r), payload)))
+      ⊎ ((made ≡ length sets + 1) × ((r : Restart) (o : List ℕ) → Fitting o → answer r o ≡ (Failed made (steps r), o)))
+  -- each reports trials made × n × N steps, without exactly those that its restarts skip
+  pub counted : (r : Restart) → steps r + skippedBy r mask c (map lowest (take (made - 1) sets)) ≡ made * c .n * codeLength c
+
+-- The answers of the decoders of two restarts under d, each with its own output. `compare` of proofs/Compare.antt proves it.
+pub record Compare (a b : Restart) (d : List ℕ) (c : Code) (channel : List ℕ) (limit : ℕ) (output output′ : List ℕ) : Type 0 where
+  -- the trials that each makes
+  pub made : ℕ
+  -- the steps that the first reports
   pub steps : ℕ
+  -- the steps that the second reports
   pub steps′ : ℕ
   pub most : made ≤ limit
-  -- the same trial number, with the same payload in each buffer, or refusal 16 with the same T, and each buffer as it was
+  -- one trial number, and one payload in both buffers; or refusal 16 with one T, and each buffer as it was
   pub answers :
       ((payload : List ℕ)
       × (decodedWith (planOf a limit) d channel output ≡ (Accepted made steps, payload))
@@ -85,3 +114,12 @@ pub record Compare (a b : Restart) (d : List ℕ) (c : Code) (channel : List ℕ
   -- each reports trials made × n × N steps, without exactly those that its restarts skip
   pub counted : steps + skippedBy a (maskOf d) c (flippedIn (maskOf d) c (channelValues channel) made) ≡ made * c .n * codeLength c
   pub counted′ : steps′ + skippedBy b (maskOf d) c (flippedIn (maskOf d) c (channelValues channel) made) ≡ made * c .n * codeLength c
+
+-- a code, a payload that encode accepts, its codeword, and channel values of that codeword
+pub record Sent (d : List ℕ) (c : Code) (payload channel : List ℕ) : Type 0 where
+  pub described : describe d ≡ Coding c
+  pub bytes : (m : ℕ) → getD payload m 0 < 256
+  pub encodeOutput : List ℕ
+  pub codeword : List ℕ
+  pub encodes : encoded d payload encodeOutput ≡ (Done, codeword)
+  pub received : Received (codeLength c) codeword channel

@@ -1,4 +1,5 @@
--- Demand 3, about the definitions that the promises of both decoders cite. `demand-3` of proofs/Demand3.antt proves it.
+-- Document 01, "Flip decoding, full and restarted": demand 3, about the definitions that the promises of both decoders cite. `demand-3` of
+-- proofs/Demand3.antt proves it.
 use mathlib.Core.Path.{_≡_}
 use mathlib.Core.Logic.{_⊎_}
 use mathlib.Core.List.{List, [], _∷_, Forall₂}
@@ -21,12 +22,15 @@ abbrev pub skippedOver : ℕ → List ℕ → ℕ
 skippedOver n [] = 0
 skippedOver n (q ∷ qs) = skipped n q + skippedOver n qs
 
--- What both decoders give under d, each with its own output. `made` trials are made; `full` and `restarted` are the steps that each reports.
+-- the answers of both decoders under d, each with its own output
 pub record BothDecode (d : List ℕ) (c : Code) (channel : List ℕ) (limit : ℕ) (output output′ : List ℕ) : Type 0 where
+  -- the trials that each makes
   pub made : ℕ
+  -- the steps that full decoding reports
   pub full : ℕ
+  -- the steps that restarted decoding reports
   pub restarted : ℕ
-  -- the same trial number, with the same payload in each buffer, or refusal 16 with the same T, and each buffer as it was
+  -- one trial number, and one payload in both buffers; or refusal 16 with one T, and each buffer as it was
   pub answers :
       ((payload : List ℕ)
       × (decodedFull d channel limit output ≡ (Accepted made full, payload))
@@ -36,10 +40,11 @@ pub record BothDecode (d : List ℕ) (c : Code) (channel : List ℕ) (limit : �
       × (decodedRestarted d channel limit output′ ≡ (Failed made restarted, output′)))
   -- full decoding reports exactly trials made × n × N steps
   pub full-steps : full ≡ made * c .n * codeLength c
-  -- that exceeds the restarted report by exactly the sum, over every trial made after the first, of q − (q mod 2^j) for every j from 0 to n − 1
+  -- the q of each trial made after the first
   pub qs : List ℕ
+  -- full decoding's steps exceed the restarted report by exactly the sum, over those trials, of q − (q mod 2^j) for every j from 0 to n − 1
   pub exceeds : full ≡ restarted + skippedOver (c .n) qs
-  -- there q is the first information index after that trial's flipped one, or N if none
+  -- q is the first information index after that trial's flipped one, or N if none
   pub q-is : Forall₂ (FirstAfter (maskOf d) (codeLength c)) (take (made - 1) (flipOrder (maskOf d) c (channelValues channel))) qs
 
 -- any code, any trial limit and any channel values, all well-formed, each decoder with an output buffer of the right size

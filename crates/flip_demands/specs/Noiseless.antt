@@ -1,5 +1,5 @@
--- The noiseless clause of demand 2: any codeword received with right signs and no zero strength, in a well-formed call, decodes to its
--- payload on trial 1. `noiseless-decoding` of proofs/NoiselessDecoding.antt proves it.
+-- Document 01, "Flip decoding, full and restarted": the noiseless clause of demand 2. Any codeword received with right signs and no zero
+-- strength, in a well-formed call, decodes to its payload on trial 1. `noiseless-decoding` of proofs/NoiselessDecoding.antt proves it.
 use mathlib.Core.Path.{_≡_}
 use mathlib.Core.List.{List}
 use Prim.Native.Nat.{ℕ, _*_, _<_}
@@ -23,7 +23,7 @@ pub record Received (size : ℕ) (codeword channel : List ℕ) : Type 0 where
   pub sign : (j : ℕ) → j < size → hard (channelValue (getD channel j 0)) ≡ getD (unpacked codeword size) j 0
   pub strength : (j : ℕ) → j < size → 0 < natAbs (channelValue (getD channel j 0))
 
--- any code, any payload that encode accepts, and what it gives for it; any channel values of that codeword, any trial limit and any output
+-- any code, any payload that encode accepts, and its codeword; any channel values of that codeword, any trial limit and any output
 abbrev pub NoiselessDecoding : Type 0
 NoiselessDecoding =
     (d : List ℕ) (c : Code) (payload encodeOutput codeword channel : List ℕ) (limit : ℕ) (output : List ℕ)

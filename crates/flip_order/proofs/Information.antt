@@ -13,7 +13,7 @@ use Rattle.laws.proofs.Indices.{lt-cases}
 use Rattle.flip_order.specs.Order.{information}
 use Rattle.flip_order.specs.Claims.{ListsInformation, Information, Distinct, Ascending}
 use Rattle.flip_order.proofs.Pairwise.{place-of, member-at, pairwise-nil, pairwise-snoc}
-use Rattle.flip_order.proofs.Permutation.{permutation-member, permutation-length}
+use Rattle.laws.proofs.Permutation.{permutation-member, permutation-length}
 
 module _ (mask : List ℕ) where
   information-one : (n : ℕ) → maskBit mask n ≡ 1 → information mask (suc n) ≡ information mask n ++ (n ∷ [])
@@ -42,21 +42,21 @@ module _ (mask : List ℕ) where
       here : maskBit mask n ≡ 1 → i ≡ n → Information mask (suc n) i
       here e q = (omega arith, ap (maskBit mask) q ∙ e)
 
-  pub information-member : (n i : ℕ) → Information mask n i → List·Memᴰ i (information mask n)
+  information-member : (n i : ℕ) → Information mask n i → List·Memᴰ i (information mask n)
   unfolding information
   information-member zero i p = absurd (omega arith)
   information-member (suc n) i p =
       lt-cases i n (λ l. information-cases (List·Memᴰ i) n (λ _. information-member n i (l, p .1)) (λ _. Memᴰ·append-left (n ∷ []) (information-member n i (l, p .1))))
       (λ c. let q : i ≡ n = omega arith in information-cases (List·Memᴰ i) n (λ z. absurd (omega (arith, ap (maskBit mask) q, p .1))) (λ _. Memᴰ·append-right (information mask n) (List·Memᴰ·head q)))
 
-  pub information-ascending : (n : ℕ) → Ascending (information mask n)
+  information-ascending : (n : ℕ) → Ascending (information mask n)
   unfolding information
   information-ascending zero = pairwise-nil
   information-ascending (suc n) =
       information-cases Ascending n (λ _. information-ascending n)
       (λ _. pairwise-snoc (information mask n) n (λ j m. member-information n j m .0) (information-ascending n))
 
-  pub length-information : (n : ℕ) → length (information mask n) ≡ onesBelow mask n
+  length-information : (n : ℕ) → length (information mask n) ≡ onesBelow mask n
   unfolding information onesBelow
   length-information zero = refl
   length-information (suc n) =

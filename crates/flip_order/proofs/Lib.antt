@@ -1,5 +1,4 @@
 pub mod Pairwise
-pub mod Permutation
 pub mod Before
 pub mod Information
 pub mod Order

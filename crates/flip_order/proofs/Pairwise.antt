@@ -1,11 +1,10 @@
 -- Lists by their members and by their places.
-use mathlib.Core.Path.{_≡_, refl, sym, ap, _∙_, subst, subst₂}
+use mathlib.Core.Path.{_≡_, refl, sym, subst}
 use mathlib.Core.List.{List, [], _∷_, _++_, List·Memᴰ, List·Memᴰ·head, List·Memᴰ·tail}
-use Prim.Native.Nat.{ℕ, zero, suc, _+_, _<_, _≤_}
+use Prim.Native.Nat.{ℕ, zero, suc, _<_}
 use native.Mathlib.Omega.{arith}
-use lib.ListN.{length, getD, length-append, List·getD-append}
-use lib.Seq.{getD-append-add}
-use Rattle.laws.proofs.Indices.{lt-cases}
+use lib.ListN.{length, getD}
+use Rattle.laws.proofs.Pairs.{Pairs, none, one, pairs-snoc}
 use Rattle.flip_order.specs.Claims.{Pairwise}
 
 -- a member stands at a place, and what stands at a place is a member
@@ -37,19 +36,14 @@ module _ {R : ℕ → ℕ → Type 0} where
   pub pairwise-head : {i : ℕ} {is : List ℕ} → Pairwise R (i ∷ is) → (j : ℕ) → List·Memᴰ j is → R i j
   pairwise-head {i} p j m = let q = place-of m in subst (R i) (q .2) (p .at 0 (suc (q .0)) (omega arith) (omega arith))
 
+  pub pairwise-of : {is : List ℕ} → Pairs R is → Pairwise R is
+  pairwise-of none = pairwise-nil
+  pairwise-of (one f p) = pairwise-cons f (pairwise-of p)
+
+  pub pairs-of : (is : List ℕ) → Pairwise R is → Pairs R is
+  pairs-of [] p = none
+  pairs-of (i ∷ is) p = one (pairwise-head p) (pairs-of is (pairwise-tail p))
+
   -- one more at the end
   pub pairwise-snoc : (is : List ℕ) (i : ℕ) → ((j : ℕ) → List·Memᴰ j is → R j i) → Pairwise R is → Pairwise R (is ++ (i ∷ []))
-  pairwise-snoc is i f p = record { at = go }
-    where
-      last : (b : ℕ) → length is ≤ b → b < length (is ++ (i ∷ [])) → getD (is ++ (i ∷ [])) b 0 ≡ i
-      last b l m =
-          let e : b ≡ length is + 0 = omega (arith, length-append is (i ∷ [])) in
-          ap (λ (k : ℕ). getD (is ++ (i ∷ [])) k 0) e ∙ getD-append-add is (i ∷ []) 0 0
-
-      go : (a b : ℕ) → a < b → b < length (is ++ (i ∷ [])) → R (getD (is ++ (i ∷ [])) a 0) (getD (is ++ (i ∷ [])) b 0)
-      go a b l m =
-          let c : a < length is = omega (arith, length-append is (i ∷ [])) in
-          let front = sym (List·getD-append is (i ∷ []) 0 a c) in
-          lt-cases b (length is)
-          (λ d. subst₂ R front (sym (List·getD-append is (i ∷ []) 0 b d)) (p .at a b l d))
-          (λ d. subst₂ R front (sym (last b d m)) (f (getD is a 0) (member-at is a c)))
+  pairwise-snoc is i f p = pairwise-of (pairs-snoc is i f (pairs-of is p))

@@ -23,13 +23,15 @@ orderIn mask n leaves = ordered leaves (information mask n)
 abbrev pub keyFor : ℤ → ℕ → ℕ
 keyFor value i = natAbs value * longest + i
 
+-- the key of an information index, by the leaf values of all indices
 abbrev pub keyOf : List ℤ → ℕ → ℕ
 keyOf leaves i = keyFor (getD leaves i (pos 0)) i
 
--- stands for no key, as at a frozen index: it is above every key
+-- stands for no key, for example at a frozen index: it is above every key
 abbrev pub noKey : ℕ
 noKey = 2 ^ 31 - 1
 
+-- the key of an index under a mask: none if it is frozen
 abbrev pub keyUnder : List ℕ → ℤ → ℕ → ℕ
 keyUnder mask value i = cond (eqb (maskBit mask i) 1) (keyFor value i) noKey
 
@@ -41,29 +43,32 @@ keysOf mask values = splice values 0 (table (λ i. pos (keyUnder mask (getD valu
 abbrev pub mostMagnitude : ℕ
 mostMagnitude = 2 ^ (30 - deepest)
 
+-- an index of the mask, with a leaf value whose key fits
 pub record KeyPre (mask : List ℕ) (value : ℤ) (i : ℕ) : Type 0 where
   pub below : i < 8 * length mask
   pub fits : i < longest
   pub small : natAbs value ≤ mostMagnitude
 
+-- a leaf value for each index of the mask, each of a key that fits
 pub record KeysPre (mask : List ℕ) (values : List ℤ) : Type 0 where
   pub there : 8 * length mask ≤ length values
   pub fits : 8 * length mask ≤ longest
   pub small : Within mostMagnitude (take (8 * length mask) values)
 
--- a key that is above the last one, or none
+-- the key if it is above the last one, otherwise none
 abbrev pub above : ℤ → ℤ → ℤ
 above last key = cond (ltZ last key) key (pos noKey)
 
+-- the lesser of two keys
 abbrev pub lesser : ℤ → ℤ → ℤ
 lesser a b = cond (ltZ a b) a b
 
--- the least of the first n keys that are above the last one, or none
+-- the least of those of the first n keys that are above the last one, or none
 unfoldable pub leastAbove : ℤ → List ℤ → ℕ → ℤ
 leastAbove last keys zero = pos noKey
 leastAbove last keys (suc n) = lesser (above last (getD keys n (pos 0))) (leastAbove last keys n)
 
--- the keys of the first n indices, of leaf values that are small enough
+-- `keys` begins with the keys of the first n indices, by leaf values that are small enough
 pub record Keyed (mask : List ℕ) (n : ℕ) (leaves keys : List ℤ) : Type 0 where
   pub fits : n ≤ longest
   pub small : Within mostMagnitude leaves

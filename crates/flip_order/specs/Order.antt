@@ -6,6 +6,7 @@ use Prim.Native.Nat.{ℕ, zero, suc}
 use lib.Dec.{ltb, eqb}
 use lib.IntN.{ℤ, pos, natAbs}
 use lib.ListN.{getD}
+use Rattle.laws.specs.Insert.{sortBy}
 use Rattle.bits.specs.Mask.{maskBit}
 
 -- the information indices below n, ascending
@@ -22,12 +23,6 @@ abbrev pub before : List ℤ → ℕ → ℕ → Bool
 before leaves i j =
     ltb (magnitude leaves i) (magnitude leaves j) || (eqb (magnitude leaves i) (magnitude leaves j) && ltb i j)
 
--- i in its place among indices that are in order
-unfoldable pub insert : List ℤ → ℕ → List ℕ → List ℕ
-insert leaves i [] = i ∷ []
-insert leaves i (j ∷ js) = cond (before leaves i j) (i ∷ j ∷ js) (j ∷ insert leaves i js)
-
 -- indices in order
-unfoldable pub ordered : List ℤ → List ℕ → List ℕ
-ordered leaves [] = []
-ordered leaves (i ∷ is) = insert leaves i (ordered leaves is)
+abbrev pub ordered : List ℤ → List ℕ → List ℕ
+ordered leaves is = sortBy (before leaves) is

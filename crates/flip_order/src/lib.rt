@@ -7,10 +7,10 @@ ghost use lib.ListN.{length};
 ghost use Rattle.arrays.specs.Claims.{longest};
 ghost use Rattle.flip_order.specs.Contracts.{KeyPre, KeysPre, keyUnder, keysOf, above, lesser, leastAbove};
 
-// Stands for no key, as at a frozen index: it is above every key.
+// Stands for no key, for example at a frozen index. It is above every key.
 const NO_KEY: i32 = 0x7fff_ffff;
 
-// The key of an index with a leaf value, if it has one: by magnitude, equal magnitudes by lower index.
+// The key of an index with a leaf value, or NO_KEY if the index is frozen. Keys are ordered by magnitude, equal magnitudes by lower index.
 fn key_under(mask: &[u8], value: i32, i: usize) -> i32
     requires { ⌜ KeyPre (now mask) value i ⌝ }
     ensures { λ r. ⌜ r ≡ pos (keyUnder (now (mask .entry)) value i) ⌝ }
@@ -34,7 +34,7 @@ pub fn make_keys(mask: &[u8], values: &mut [i32])
     }
 }
 
-// A key that is above the last one, or none.
+// The key if it is above the last one, otherwise NO_KEY.
 fn above(last: i32, key: i32) -> i32
     ensures { λ r. ⌜ r ≡ above last key ⌝ }
 {
@@ -48,7 +48,7 @@ fn lesser(a: i32, b: i32) -> i32
     if a < b { a } else { b }
 }
 
-// The least of the first `size` keys that are above the last one, which is -1 before the first.
+// The least of those of the first `size` keys that are above the last one. `last` is -1 before the first.
 pub fn next_key(size: usize, keys: &[i32], last: i32) -> i32
     requires { ⌜ size ≤ length (now keys) ⌝ }
     ensures { λ r. ⌜ r ≡ leastAbove last (now (keys .entry)) size ⌝ }

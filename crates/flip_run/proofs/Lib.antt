@@ -1,3 +1,4 @@
+pub mod Answers
 pub mod FlipOrder
 pub mod LoopInvariant
 pub mod LoopStep

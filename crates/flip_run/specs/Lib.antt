@@ -1,3 +1,5 @@
+pub mod Plan
 pub mod Trials
 pub mod WellFormed
+pub mod Claims
 pub mod Contracts

@@ -23,7 +23,7 @@ use Rattle.code.proofs.Facts.{described}
 use Rattle.channel.specs.Channel.{clip, channelValues, firstOutside}
 use Rattle.flip_trial.specs.declared.Restart.the-variants.{Root, After}
 use Rattle.flip_run.specs.WellFormed.{WellFormed}
-use Rattle.flip_decoder.specs.Decode.{planOf}
+use Rattle.flip_run.specs.Plan.{planOf}
 use Rattle.flip_demands.proofs.Demand3.{demand-3}
 use Rattle.hearing.specs.declared.Hearing.{Hearing}
 use Rattle.hearing.specs.Hearing.{hearingOf, combined, fresh, clippedSums, addRefusals, isHearing}

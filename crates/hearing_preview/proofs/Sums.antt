@@ -17,7 +17,8 @@ use Rattle.code.specs.Code.{codeLength}
 use Rattle.code.specs.Description.{describe, onDescription}
 use Rattle.flip_run.specs.declared.Decoded.the-variants.{Refused}
 use Rattle.flip_trial.specs.declared.Restart.the-variants.{After}
-use Rattle.flip_decoder.specs.Decode.{planOf, decodedWith}
+use Rattle.flip_run.specs.Plan.{planOf}
+use Rattle.flip_decoder.specs.Decode.{decodedWith}
 use Rattle.hearing.specs.declared.Hearing.{Hearing}
 use Rattle.hearing.specs.Padded.{allZero}
 use Rattle.hearing.specs.Hearing.{combined, clippedSums, addedTo, isHearing}

@@ -17,7 +17,8 @@ use Rattle.flip_trial.specs.declared.Restart.the-variants.{Root, After}
 use Rattle.flip_run.specs.declared.Plan.{Plan}
 use Rattle.flip_run.specs.declared.Decoded.{Decoded}
 use Rattle.flip_run.specs.declared.Decoded.the-variants as decode
-use Rattle.flip_decoder.specs.Decode.{planOf, decodedWith}
+use Rattle.flip_run.specs.Plan.{planOf}
+use Rattle.flip_decoder.specs.Decode.{decodedWith}
 use Rattle.hearing.specs.declared.Hearing.{Hearing}
 use Rattle.hearing.specs.Padded.{padded, allZero}
 use Rattle.hearing.specs.Hearing.{fresh, combined, addedTo, addRefusals, isHearing}

@@ -1,4 +1,4 @@
--- What holds of each element, and of what `getD` gives past the end, holds of each element of lists made of such lists.
+-- A property of each element, and of the default of `getD`, holds of each element of lists that are made of lists with this property.
 use mathlib.Core.Path.{subst, sym}
 use mathlib.Core.List.{List, [], _∷_, _++_}
 use Prim.Native.Nat.{ℕ, zero, suc, _+_}

@@ -49,7 +49,7 @@ module _ {A : Type 0} where
       ∙ splice-snoc w at (table f n) n (f n) (length-table f n) (omega arith)
       ∙ ap (splice w at) (sym (table-snoc f n))
 
--- The invariant of such a loop: j of the `count` stores are made in w′, which was w.
+-- The invariant of a loop that fills a list: j of the `count` stores are made in w′, which was w.
 pub record Filling {A : Type 0} (f : ℕ → A) (at count : ℕ) (w w′ : List A) (j : ℕ) : Type 0 where
   pub reached : j ≤ count
   pub same : length w′ ≡ length w

@@ -23,7 +23,7 @@ by-halves P s f g i l =
     lt-cases i (2 ^ s) (f i)
     (λ c. let k : 2 ^ s + (i - 2 ^ s) ≡ i = omega arith in subst P k (g (i - 2 ^ s) (omega (arith, two-pow-succ s))))
 
--- two lists agree below i where each element follows from those before it
+-- two lists agree below i if each element follows from those before it
 pub take-agree {ℓ} : {A : Type ℓ} (xs ys : List A) (d : A) (i : ℕ) → i ≤ length xs → i ≤ length ys → ((j : ℕ) → j < i → take j xs ≡ take j ys → getD xs j d ≡ getD ys j d) → take i xs ≡ take i ys
 take-agree xs ys d zero l m f = refl
 take-agree xs ys d (suc i) l m f =

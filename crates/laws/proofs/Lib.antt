@@ -7,3 +7,7 @@ pub mod Filling
 pub mod Powers
 pub mod Signed
 pub mod Indices
+pub mod Permutation
+pub mod Pairs
+pub mod Insert
+pub mod Earlier

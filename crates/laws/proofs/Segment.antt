@@ -65,7 +65,7 @@ module _ {A : Type 0} where
     unfolding splice
     take-splice = take-at (take at w) (ys ++ drop (at + length ys) w) at (length-take-le at w (omega arith))
 
-    pub after-splice : drop at (splice w at ys) ≡ ys ++ drop (at + n) w
+    after-splice : drop at (splice w at ys) ≡ ys ++ drop (at + n) w
     unfolding splice
     after-splice =
         drop-at (take at w) (ys ++ drop (at + length ys) w) at (length-take-le at w (omega arith))

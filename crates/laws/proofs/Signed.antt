@@ -12,7 +12,7 @@ use Rattle.laws.proofs.Choice.{cond-ind}
 
 -- ---- magnitudes
 
-pub mag-le : (z : ℤ) → mag z ≤ natAbs z
+mag-le : (z : ℤ) → mag z ≤ natAbs z
 mag-le (pos n) = omega arith
 mag-le (negsuc n) = omega arith
 
@@ -21,7 +21,7 @@ abs-neg (pos zero) = refl
 abs-neg (pos (suc n)) = refl
 abs-neg (negsuc n) = refl
 
-pub abs-sub : (a b : ℕ) → natAbs (subℕ a b) ≤ a + b
+abs-sub : (a b : ℕ) → natAbs (subℕ a b) ≤ a + b
 abs-sub a b =
     cond-ind (λ (z : ℤ). natAbs z ≤ a + b) (ltb a b) (negsuc (b - suc a)) (pos (a - b))
     (λ t. omega (arith, ltb→lt a b t)) (λ t. omega arith)

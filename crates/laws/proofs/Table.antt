@@ -25,7 +25,7 @@ module _ {A : Type 0} where
   table-snoc f zero = refl
   table-snoc f (suc n) = ap (λ (r : List A). f 0 ∷ r) (table-snoc (λ k. f (suc k)) n)
 
-  -- two tables of the same elements
+  -- two tables whose elements are equal
   pub table-ext : (f g : ℕ → A) (n : ℕ) → ((k : ℕ) → k < n → f k ≡ g k) → table f n ≡ table g n
   unfolding table
   table-ext f g zero h = refl

@@ -1,3 +1,4 @@
 pub mod First
 pub mod Contracts
 pub mod Table
+pub mod Insert

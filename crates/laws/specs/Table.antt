@@ -1,4 +1,4 @@
--- Lists given by their elements: the form of all definitions that fill a list.
+-- Lists given by their elements, as document 01 gives x_j in "Check and encoder" and the values "for 0 ≤ j < h" in "A decoding pass".
 use mathlib.Core.List.{List, [], _∷_}
 use Prim.Native.Nat.{ℕ, zero, suc}
 

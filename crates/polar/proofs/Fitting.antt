@@ -35,7 +35,8 @@ use Rattle.flip_trial.specs.declared.Restart.the-variants.{After}
 use Rattle.flip_trial.specs.Trial.{trialPasses}
 use Rattle.flip_run.specs.declared.Decoded.{Decoded}
 use Rattle.flip_run.specs.Trials.{trials, Verdict, passed, failed, run, answerOf}
-use Rattle.flip_decoder.specs.Decode.{decodingRefusals, planOf, decodedBy, decodedWith}
+use Rattle.flip_run.specs.Plan.{planOf}
+use Rattle.flip_decoder.specs.Decode.{decodingRefusals, decodedBy, decodedWith}
 use Rattle.flip_demands.proofs.StepBounds.{Bounded, decoded-bounded}
 use Rattle.sets.specs.Tried.{setTrials}
 use Rattle.sets.specs.DecodeSets.{setRefusals, searchOf, setsBy, setsWith}

@@ -5,6 +5,7 @@ use Prim.Native.Nat.{ℕ}
 use lib.IntN.{ℤ}
 use Rattle.laws.specs.First.{firstWhere}
 use Rattle.laws.specs.Table.{table}
+use Rattle.laws.specs.Insert.{insertBy, sortBy}
 use Rattle.refusal.specs.declared.Refusal.the-variants.{Alone, At}
 use Rattle.refusal.specs.Judge.{judge, refusedOr}
 use Rattle.bits.specs.Bit.{number}
@@ -19,17 +20,17 @@ use Rattle.placing.specs.Place.{taken}
 use Rattle.values.specs.Values.{f, g, leftValues, rightValues}
 use Rattle.channel.specs.Channel.{channelValue, channelValues}
 use Rattle.pass_tree.specs.Node.{node}
-use Rattle.flip_order.specs.Order.{magnitude, information, insert, ordered}
+use Rattle.flip_order.specs.Order.{magnitude, information}
 use Rattle.flip_trial.specs.declared.Restart.the-variants.{After}
 use Rattle.flip_trial.specs.Trial.{firstTrial, laterTrial}
 use Rattle.flip_run.specs.declared.Decoded.the-variants.{Accepted, Failed, Refused}
 use Rattle.flip_run.specs.Trials.{flipOrder, run}
 use Rattle.flip_decoder.specs.Decode.{decodedBy, decodedWith, decodedRestarted}
-use Rattle.sets.specs.Candidate.{metricOf, doubtful, extensions, insert as insertSet, insertEach}
+use Rattle.sets.specs.Candidate.{metricOf, doubtful, extensions, insertEach}
 use Rattle.sets.specs.Tried.{leavesOf, tried, flipSets}
 use Rattle.sets.specs.DecodeSets.{searchOf, setsBy, setsWith, setsFull, setsRestarted}
 
--- Document 01's D with r = 3 and the polynomial z^3 + z + 1, so that k = 1. Its information indices are 3, 5, 6 and 7.
+-- Document 01's D with r = 3 and the polynomial z^3 + z + 1, so k = 1. Its information indices are 3, 5, 6 and 7.
 abbrev pub wideD : List ℕ
 wideD = 0x09 ∷ 0x00 ∷ 0x01 ∷ 0x00 ∷ 0x03 ∷ 0x03 ∷ 0x03 ∷ 0x00 ∷ 0xE8 ∷ []
 
@@ -64,7 +65,7 @@ twentyV = 0x08 ∷ 0x0B ∷ 0x00 ∷ 0x06 ∷ 0x00 ∷ 0xFF ∷ 0xF8 ∷ 0xFA �
 abbrev pub setsOn : List ℕ → ℕ → ℕ → List (List ℕ)
 setsOn channel w T = flipSets (searchOf After w T) (maskOf wideD) wideCode (channelValues channel)
 
--- the bits of the trial that flips `is`, under wideD, and its leaf values; of trial 1 where `is` is empty
+-- the bits of the trial that flips `is`, under wideD, and its leaf values; of trial 1 if `is` is empty
 abbrev pub bitsOn : List ℕ → List ℕ → List ℕ
 bitsOn channel [] = firstTrial (maskOf wideD) wideCode (channelValues channel) .bits
 bitsOn channel (i ∷ is) = laterTrial After (maskOf wideD) wideCode (channelValues channel) (i ∷ is) .bits
@@ -98,7 +99,7 @@ pub record SetExamples (byte : ℕ) : Type 0 where
       × (setsRestarted wideD vector 1 5 (byte ∷ []) ≡ (Accepted 3 43, 0x00 ∷ []))
   -- A pair's metric comes from the trial that generated it: [3, 5] has 1 + 1 + 12 from the trial of [3], and comes before [5] with 3 + 12.
   -- From trial 1 it would have 1 + 3 + 12, and come after it. Trial 1 decides 0 at index 5, the trial of [3] decides 1, and that of [3, 5]
-  -- takes the opposite of 1. It is accepted on trial 3, where no single flip is accepted.
+  -- takes the opposite of 1. It is accepted on trial 3; no single flip is accepted.
   pub by-own-trial :
       (metricOn pairV (3 ∷ []) (3 ∷ 5 ∷ []) ≡ 14)
       × (metricOn pairV [] (5 ∷ []) ≡ 15)
@@ -150,7 +151,7 @@ pub record SetExamples (byte : ℕ) : Type 0 where
       × (setsRestarted wideD pairV 2 512 [] ≡ (Refused (Alone 15), []))
 
 pub set-examples : (byte : ℕ) → SetExamples byte
-unfolding judge refusedOr table number onesBelow packed describeUpTo checkOf covers parity transformed xors taken channelValue f g leftValues rightValues firstWhere node information insert ordered run decodedBy decodedWith doubtful extensions insertSet insertEach tried setsBy setsWith
+unfolding judge refusedOr table number onesBelow packed describeUpTo checkOf covers parity transformed xors taken channelValue f g leftValues rightValues firstWhere node information insertBy sortBy run decodedBy decodedWith doubtful extensions insertEach tried setsBy setsWith
 set-examples byte = record {
   described = refl;
   by-metric = (refl, refl, refl, refl, refl, refl);

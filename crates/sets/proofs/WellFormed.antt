@@ -23,8 +23,8 @@ use Rattle.flip_trial.specs.Trial.{trialPasses}
 use Rattle.flip_run.specs.declared.Decoded.{Decoded}
 use Rattle.flip_run.specs.declared.Decoded.the-variants.{Refused}
 use Rattle.flip_run.specs.Trials.{Verdict, run, answerOf}
-use Rattle.flip_decoder.specs.Claims.{ofRun}
-use Rattle.flip_decoder.proofs.WellFormed.{answer-of-run}
+use Rattle.flip_run.specs.Claims.{ofRun}
+use Rattle.flip_run.proofs.Answers.{answer-of-run}
 use Rattle.sets.specs.declared.Search.{Search}
 use Rattle.sets.specs.Tried.{setTrials}
 use Rattle.sets.specs.DecodeSets.{mostLimit, searchRefusals, setRefusals, setsBy, setsWith}
@@ -72,7 +72,7 @@ module _ (s : Search) (mask : List ℕ) (c : Code) (channel output : List ℕ) w
   unfolding setsBy
   refused-answer x h = refused-by (λ x. (Refused x, output)) (answerOf mask c output verdict) _ x h
 
-  -- and where the answer is that of a run, nothing before 16 applies
+  -- if the answer is that of a run, nothing before 16 applies
   pub answer-well-formed : (z : Decoded × List ℕ) → ofRun (z .0) ≡ true → setsBy s mask c channel output ≡ z → WellFormed c channel (s .w) (s .limit) output × (answerOf mask c output verdict ≡ z)
   unfolding setsBy
   answer-well-formed z f e =
@@ -96,7 +96,7 @@ module _ (s : Search) (d channel output : List ℕ) where
   unfolding setsWith
   decoded-by c e = ap by e
 
-  -- the input is well-formed exactly where nothing before 16 is the answer; every decoder has a search
+  -- the input is well-formed exactly if nothing before 16 is the answer; every decoder has a search
   pub well-formed-exactly : WellFormedUnder d (λ c. WellFormed c channel (s .w) (s .limit) output) ↔ (ofRun (setsWith s d channel output .0) ≡ true)
   unfolding setsWith setsBy
   well-formed-exactly =

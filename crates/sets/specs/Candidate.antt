@@ -1,21 +1,22 @@
 -- Document 02, request 2.2, after document 000's dynamic method: sets of flipped indices that are not tried yet. A set is a list of
 -- information indices, ascending.
-use mathlib.Core.Bool.{Bool, true, false, _&&_, _||_, cond}
+use mathlib.Core.Bool.{Bool, _&&_, _||_, cond}
 use mathlib.Core.List.{List, [], _∷_, _++_}
 use Prim.Native.Nat.{ℕ, zero, suc, _+_, _*_}
 use lib.Dec.{leb, ltb, eqb}
 use lib.IntN.{ℤ}
 use lib.ListN.{take}
+use Rattle.laws.specs.Insert.{insertBy, earlier}
 use Rattle.bits.specs.Mask.{maskBit}
 use Rattle.flip_order.specs.Order.{magnitude}
 
--- one past the largest index of a set
+-- one past the largest index of a set, 0 if it is empty
 abbrev pub pastLargest : List ℕ → ℕ
 pastLargest [] = 0
 pastLargest (i ∷ []) = suc i
 pastLargest (i ∷ j ∷ is) = pastLargest (j ∷ is)
 
--- the sum of its leaf magnitudes
+-- the sum of a set's leaf magnitudes
 abbrev pub magnitudes : List ℤ → List ℕ → ℕ
 magnitudes leaves [] = 0
 magnitudes leaves (i ∷ is) = magnitude leaves i + magnitudes leaves is
@@ -30,37 +31,30 @@ doubtful mask leaves (suc n) = doubtful mask leaves n + cond (eqb (maskBit mask 
 abbrev pub metricOf : List ℕ → List ℤ → List ℕ → ℕ
 metricOf mask leaves is = magnitudes leaves is + 6 * doubtful mask leaves (pastLargest is)
 
--- a set to try, and its metric, which comes from the trial that generated it
+-- a set to try
 pub record Candidate : Type 0 where
+  -- its indices, ascending
   pub flips : List ℕ
+  -- its metric, from the trial that generated it
   pub metric : ℕ
 
+-- a set to try, with its metric by these leaf values
 abbrev pub candidate : List ℕ → List ℤ → List ℕ → Candidate
 candidate mask leaves is = record { flips = is; metric = metricOf mask leaves is }
 
--- what a trial with the set `is` and these leaf values generates: each information index above its largest, and below n, is appended
+-- the candidates that a trial with the set `is` and these leaf values generates: each appends an information index above its largest and
+-- below n
 unfoldable pub extensions : List ℕ → List ℤ → List ℕ → ℕ → List Candidate
 extensions mask leaves is zero = []
 extensions mask leaves is (suc n) =
     extensions mask leaves is n
     ++ cond (eqb (maskBit mask n) 1 && leb (pastLargest is) n) (candidate mask leaves (is ++ (n ∷ [])) ∷ []) []
 
--- whether one list of indices comes before another: compared from the first entry, lower first
-abbrev pub earlier : List ℕ → List ℕ → Bool
-earlier is [] = false
-earlier [] (j ∷ js) = true
-earlier (i ∷ is) (j ∷ js) = ltb i j || (eqb i j && earlier is js)
-
--- order is metric, then the list of indices
+-- whether x comes before y: order is metric, then the list of indices
 abbrev pub before : Candidate → Candidate → Bool
 before x y = ltb (x .metric) (y .metric) || (eqb (x .metric) (y .metric) && earlier (x .flips) (y .flips))
 
--- x in its place among untried sets that are in order
-unfoldable pub insert : Candidate → List Candidate → List Candidate
-insert x [] = x ∷ []
-insert x (y ∷ ys) = cond (before x y) (x ∷ y ∷ ys) (y ∷ insert x ys)
-
--- each of some candidates in its place: after every insertion only the first m sets are kept
+-- each of some candidates in its place among untried sets that are in order: after every insertion only the first m sets are kept
 unfoldable pub insertEach : ℕ → List Candidate → List Candidate → List Candidate
 insertEach m [] untried = untried
-insertEach m (x ∷ xs) untried = insertEach m xs (take m (insert x untried))
+insertEach m (x ∷ xs) untried = insertEach m xs (take m (insertBy before x untried))

@@ -13,17 +13,17 @@ use Rattle.flip_trial.specs.Trial.{firstTrial, restartAt, laterTrial}
 use Rattle.sets.specs.declared.Search.{Search}
 use Rattle.sets.specs.Candidate.{Candidate, extensions, insertEach}
 
--- the leaf values of the trial that flips a set, of trial 1 where it is empty: below the index at which it resumes they are trial 1's
+-- the leaf values of the trial that flips a set, or of trial 1 if the set is empty: below the index at which it resumes they are trial 1's
 abbrev pub leavesOf : Restart → List ℕ → Code → List ℤ → List ℕ → List ℤ
 leavesOf restart mask c v [] = firstTrial mask c v .leaves
 leavesOf restart mask c v (i ∷ is) =
     take (restartAt restart mask (codeLength c) i) (firstTrial mask c v .leaves) ++ laterTrial restart mask c v (i ∷ is) .leaves
 
--- what a failed trial generates: nothing where its set has w indices
+-- the candidates that a failed trial generates: none if its set has w indices
 abbrev pub generated : Search → List ℕ → Code → List ℤ → List ℕ → List Candidate
 generated s mask c v is = cond (ltb (length is) (s .w)) (extensions mask (leavesOf (s .restart) mask c v is) is (codeLength c)) []
 
--- the sets that are tried while m trials remain, each the first of the untried sets: where it fails, as many are kept as trials remain
+-- the sets that are tried while m trials remain, each the first of the untried sets: if it fails, as many are kept as trials remain
 unfoldable pub tried : (List ℕ → List Candidate) → ℕ → List Candidate → List (List ℕ)
 tried generate zero untried = []
 tried generate (suc m) [] = []

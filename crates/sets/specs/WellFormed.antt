@@ -1,5 +1,5 @@
--- Document 02, request 2.2: the input of a decoder by sets is well-formed where nothing before 16 applies. `well-formed-exactly` of
--- proofs/WellFormed.antt proves that this is so.
+-- Document 02, request 2.2: the input of a decoder by sets is well-formed if nothing before 16 applies. `well-formed-exactly` of
+-- proofs/WellFormed.antt proves that this record says so.
 use mathlib.Core.Path.{_≡_}
 use mathlib.Core.List.{List}
 use Prim.Native.Nat.{ℕ, _≤_}

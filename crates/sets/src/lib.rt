@@ -1,9 +1,12 @@
-// Sets of flipped indices: how a frame is decoded by them. The definitions stand in specs/.
+// How a frame is decoded by sets of flipped indices. The definitions are in specs/.
 use flip_trial::Restart;
 
-// Where later trials resume, w, the most flips of a trial, and how many trials may be made, trial 1 included.
+// How to search for the set of a trial that passes.
 pub struct Search {
+    // Where later trials resume.
     pub restart: Restart,
+    // The most flips of a trial.
     pub w: u32,
+    // The most trials, trial 1 included.
     pub limit: u32,
 }

@@ -15,10 +15,10 @@ ghost use Rattle.code.specs.Code.{informationCount};
 ghost use Rattle.code.specs.Claims.{Coded};
 ghost use Rattle.sets.specs.DecodeSets.{mostLimit, searchRefusals, setRefusals, setsBy, setsWith, setsFull, setsHalf, setsRestarted};
 
-// The largest trial limit where a set may have more than one index.
+// The largest trial limit if a set may have more than one index.
 const MOST_TRIALS: usize = 512;
 
-// The largest trial limit.
+// The largest trial limit: K + 1 if w is 1, otherwise MOST_TRIALS.
 fn most_limit(w: u32, code: Code) -> usize
     requires { ⌜ informationCount code ≤ longest ⌝ }
     ensures { λ r. ⌜ r ≡ mostLimit w code ⌝ }
@@ -64,7 +64,8 @@ fn judge_search(search: Search, code: Code, output: &[u8]) -> Judgement
 
 // Refusals 12, 13, 26, 14 and 15.
 fn judge_sets(search: Search, code: Code, channel: &[u8], output: &[u8]) -> Judgement
-    requires { ⌜ (code .n ≤ deepest) × (informationCount code ≤ longest) ⌝ }
+    requires { ⌜ (code .n ≤ deepest)
+        × (informationCount code ≤ longest) ⌝ }
     ensures { λ j. ⌜ j ≡ judge (setRefusals search code (now (channel .entry)) (now (output .entry))) ⌝ }
 {
     match channel::judge_channel(code, channel) {
@@ -73,7 +74,7 @@ fn judge_sets(search: Search, code: Code, channel: &[u8], output: &[u8]) -> Judg
     }
 }
 
-// Decodes under a code.
+// Decodes a channel's values into the packed payload, by the mask and the code of a description.
 fn decode_by(search: Search, mask: &[u8], code: Code, channel: &[u8], output: &mut [u8]) -> Decoded
     requires { ⌜ Coded (now mask) code ⌝ }
     ensures { λ a. ⌜ (a, now (output .exit)) ≡ setsBy search (now (mask .entry)) code (now (channel .entry)) (now (output .entry)) ⌝ }
@@ -84,7 +85,7 @@ fn decode_by(search: Search, mask: &[u8], code: Code, channel: &[u8], output: &m
     }
 }
 
-// Decodes a channel's values into the packed payload.
+// Decodes a channel's values into the packed payload, by a description.
 fn decode(search: Search, description: &[u8], channel: &[u8], output: &mut [u8]) -> Decoded
     ensures { λ a. ⌜ (a, now (output .exit)) ≡ setsWith search (now (description .entry)) (now (channel .entry)) (now (output .entry)) ⌝ }
 {
@@ -114,7 +115,7 @@ pub fn decode_sets_full(
     decode(full, description, channel, output)
 }
 
-// Decodes with each later trial resumed at N/2 where the lowest index of its set is N/2 or above, otherwise at 0.
+// Decodes with each later trial resumed at N/2 if the lowest index of its set is N/2 or above, otherwise at 0.
 pub fn decode_sets_half(
     description: &[u8],
     channel: &[u8],
@@ -132,7 +133,7 @@ pub fn decode_sets_half(
     decode(half, description, channel, output)
 }
 
-// Decodes with each later trial resumed past the lowest index of its set.
+// Decodes with each later trial resumed at the first information index after the lowest of its set, or at N if there is none.
 pub fn decode_sets_restarted(
     description: &[u8],
     channel: &[u8],

@@ -1,4 +1,4 @@
--- What the answer of a decoder by sets says of its trials: it never accepts a trial whose check fails, and reports 16 only where all trials
+-- What the answer of a decoder by sets says of its trials: it never accepts a trial whose check fails, and reports 16 only if all trials
 -- or all sets are used up.
 use mathlib.Core.Path.{_≡_, refl, sym, _∙_}
 use mathlib.Core.Logic.{_⊎_, inl, inr}
@@ -28,7 +28,7 @@ use Rattle.sets_tried.proofs.Kept.{length-sets}
 use Rattle.sets_tried.proofs.All.{all-tried}
 use Rattle.sets_demands.specs.Claims.{AllTried}
 
--- A decoder by sets under an accepted description, by any restart: `setsFull`, `setsHalf` and `setsRestarted` are such.
+-- Any decoder by sets under an accepted description: `setsFull`, `setsHalf` and `setsRestarted` have a restart each.
 module _ (restart : Restart) (w limit : ℕ) (d : List ℕ) (c : Code) (channel output : List ℕ) (code : describe d ≡ Coding c) where
   abbrev search : Search
   search = searchOf restart w limit
@@ -51,7 +51,7 @@ module _ (restart : Restart) (w limit : ℕ) (d : List ℕ) (c : Code) (channel 
   accepts-passing trial steps bytes e =
       run-accepts mask c output os trial steps bytes (answer-well-formed search mask c channel output (Accepted trial steps, bytes) refl (sym by ∙ e) .1)
 
-  -- refusal 16 comes after trials that all failed, as many as the limit allows, or fewer where every set has been tried, and leaves the
+  -- refusal 16 comes after trials that all failed, as many as the limit allows, or fewer if every set has been tried, and leaves the
   -- output as it was
   pub fails-after-all : (made steps : ℕ) (bytes : List ℕ) → setsWith search d channel output ≡ (Failed made steps, bytes) → AllFailed (trialPasses mask c) os made steps × (made ≤ limit) × ((made ≡ limit) ⊎ AllTried restart w limit mask c v) × (bytes ≡ output)
   fails-after-all made steps bytes e =

@@ -1,4 +1,4 @@
--- The decoders by sets of every restart give the same answer, and each skips exactly the steps that its restarts save.
+-- The decoders by sets of every restart answer the same, and each skips exactly the steps that its restarts save.
 use mathlib.Core.Path.{_≡_, ap, _∙_}
 use mathlib.Core.List.{List}
 use Prim.Native.Nat.{ℕ, _≤_}
@@ -13,7 +13,8 @@ use Rattle.flip_trial.specs.declared.Restart.the-variants.{Root}
 use Rattle.flip_trial.specs.Trial.{trialPasses}
 use Rattle.flip_run.specs.Trials.{run, answerOf}
 use Rattle.flip_demands.proofs.Trials.{FlipsEach, trialsOf}
-use Rattle.flip_demands.proofs.Compare.{EveryRestart, every-restart}
+use Rattle.flip_demands.specs.Claims.{EveryRestart}
+use Rattle.flip_demands.proofs.Compare.{every-restart}
 use Rattle.sets.specs.Tried.{flipSets}
 use Rattle.sets.specs.DecodeSets.{searchOf, setsWith}
 use Rattle.sets.specs.WellFormed.{WellFormed}

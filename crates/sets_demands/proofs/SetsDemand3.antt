@@ -1,4 +1,4 @@
--- Demand 3 for sets: `every` where the one decoder repeats each trial from the root and the other resumes past its set's lowest index.
+-- Demand 3 for sets: `every` if the one decoder repeats each trial from the root and the other resumes past its set's lowest index.
 use mathlib.Core.Logic.{inl, inr, ⊎-elim}
 use mathlib.Core.List.{List, map}
 use Prim.Native.Nat.{ℕ, _-_}

@@ -1,4 +1,4 @@
--- What the theorems of this crate state of the decoders by sets: where no set is left.
+-- What the theorems of this crate state of the decoders by sets if no set is left.
 use mathlib.Core.List.{List, List·Memᴰ}
 use Prim.Native.Nat.{ℕ}
 use lib.IntN.{ℤ}

@@ -1,5 +1,5 @@
--- A frame that a decoder by sets accepts under one trial limit has the same payload, trial and steps under any larger one that 14 allows.
--- `stays-accepted` of proofs/Larger.antt proves it.
+-- Document 02, request 2.2: a frame that a decoder by sets accepts under one trial limit has the same payload, trial and steps under any larger
+-- one that 14 allows. `stays-accepted` of proofs/Larger.antt proves it.
 use mathlib.Core.Path.{_≡_}
 use mathlib.Core.List.{List}
 use Prim.Native.Nat.{ℕ, _≤_}

@@ -19,13 +19,16 @@ use Rattle.sets.specs.Tried.{flipSets}
 use Rattle.sets.specs.DecodeSets.{searchOf, setsFull, setsRestarted}
 use Rattle.sets.specs.WellFormed.{WellFormed}
 
--- What both decoders give under d, each with its own output. `made` trials are made; `full` and `restarted` are the steps that each reports.
+-- the answers of both decoders under d, each with its own output
 pub record BothDecodeSets (d : List ℕ) (c : Code) (channel : List ℕ) (w limit : ℕ) (output output′ : List ℕ) : Type 0 where
+  -- the trials that each makes
   pub made : ℕ
+  -- the steps that full decoding reports
   pub full : ℕ
+  -- the steps that restarted decoding reports
   pub restarted : ℕ
   pub most : made ≤ limit
-  -- the same trial number, with the same payload in each buffer, or refusal 16 with the same number of trials made, and each buffer as it was
+  -- one trial number, and one payload in both buffers; or refusal 16 with one number of trials made, and each buffer as it was
   pub answers :
       ((payload : List ℕ)
       × (setsFull d channel w limit output ≡ (Accepted made full, payload))
@@ -34,13 +37,15 @@ pub record BothDecodeSets (d : List ℕ) (c : Code) (channel : List ℕ) (w limi
       × (setsRestarted d channel w limit output′ ≡ (Failed made restarted, output′)))
   -- full decoding reports exactly trials made × n × N steps
   pub full-steps : full ≡ made * c .n * codeLength c
-  -- that exceeds the restarted report by exactly the sum, over every trial made after the first, of q − (q mod 2^j) for every j from 0 to n − 1
+  -- the q of each trial made after the first
   pub qs : List ℕ
   pub each : length qs + 1 ≡ made
+  -- full decoding's steps exceed the restarted report by exactly the sum, over those trials, of q − (q mod 2^j) for every j from 0 to n − 1
   pub exceeds : full ≡ restarted + skippedOver (c .n) qs
-  -- there q is "the first information index after the set's lowest", or N if none. Sets ascend (`flip-set-each` of sets_tried/proofs/Sets.antt),
-  -- and both decoders try the same ones (`same-sets` of sets_tried/proofs/Same.antt)
-  pub q-is : Forall₂ (FirstAfter (maskOf d) (codeLength c)) (map lowest (take (made - 1) (flipSets (searchOf Root w limit) (maskOf d) c (channelValues channel)))) qs
+  -- q is "the first information index after the set's lowest", or N if none. Sets ascend (`flip-set-each` of sets_tried/proofs/Sets.antt), and
+  -- both decoders try the same ones (`same-sets` of sets_tried/proofs/Same.antt)
+  pub q-is : Forall₂ (FirstAfter (maskOf d) (codeLength c))
+      (map lowest (take (made - 1) (flipSets (searchOf Root w limit) (maskOf d) c (channelValues channel)))) qs
 
 -- any code, any w, any trial limit and any channel values, all well-formed, each decoder with an output buffer of the right size
 abbrev pub SetsDemand3 : Type 0

@@ -1,5 +1,5 @@
--- The noiseless clause of demand 2 for flip sets: any codeword received with right signs and no zero strength, in a well-formed call,
--- decodes to its payload on trial 1. `sets-noiseless` of proofs/SetsNoiseless.antt proves it.
+-- Document 02, request 2.2: the noiseless clause of demand 2 for flip sets. Any codeword received with right signs and no zero strength, in a
+-- well-formed call, decodes to its payload on trial 1. `sets-noiseless` of proofs/SetsNoiseless.antt proves it.
 use mathlib.Core.Path.{_≡_}
 use mathlib.Core.List.{List}
 use Prim.Native.Nat.{ℕ, _*_, _<_}
@@ -15,8 +15,7 @@ use Rattle.flip_demands.specs.Noiseless.{Received}
 use Rattle.sets.specs.DecodeSets.{setsFull, setsRestarted}
 use Rattle.sets.specs.WellFormed.{WellFormed}
 
--- any code, any payload that encode accepts, and what it gives for it; any channel values of that codeword, any w, any trial limit and any
--- output
+-- any code, any payload that encode accepts, and its codeword; any channel values of that codeword, any w, any trial limit and any output
 abbrev pub SetsNoiseless : Type 0
 SetsNoiseless =
     (d : List ℕ) (c : Code) (payload encodeOutput codeword channel : List ℕ) (w limit : ℕ) (output : List ℕ)

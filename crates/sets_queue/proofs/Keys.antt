@@ -1,4 +1,4 @@
--- Sets as keys: the order of keys is that of the sets, and a key gives its set back.
+-- Sets as keys: the order of keys is that of the sets, and the set of a key is found again.
 use mathlib.Core.Path.{_≡_, refl, sym, ap, ap₂, _∙_, subst}
 use mathlib.Core.Logic.{⊎-elim}
 use mathlib.Core.Bool.{Bool, true, false, _&&_, _||_, cond}
@@ -9,10 +9,12 @@ use native.Mathlib.Omega.{arith}
 use borrow.Author.Tests.{lt-ltb, le-ltb, eq-eqb, ne-eqb}
 use lib.Dec.{ltb, eqb, leb·suc-suc, eqb·suc-suc}
 use lib.ListN.{length, getD, take, set}
+use Rattle.laws.specs.Insert.{insertBy, earlier}
 use Rattle.laws.proofs.Indices.{lt-cases}
-use Rattle.sets.specs.Candidate.{Candidate, earlier, before, insert, insertEach}
-use Rattle.sets_tried.proofs.Members.{take-member, insert-member}
-use Rattle.sets_queue.specs.Contracts.{base, digits, keyOf, digitAt, indicesOf, Digits, insertKey, insertKeys}
+use Rattle.laws.proofs.Pairs.{take-member}
+use Rattle.laws.proofs.Insert.{insert-member}
+use Rattle.sets.specs.Candidate.{Candidate, before, insertEach}
+use Rattle.sets_queue.specs.Contracts.{base, digits, keyOf, digitAt, indicesOf, Digits, insertKeys}
 
 -- two numbers of a high part and a low part below P
 less-parts : (P a b d e : ℕ) → d < P → e < P → ltb (a * P + d) (b * P + e) ≡ ltb a b || (eqb a b && ltb d e)
@@ -76,15 +78,15 @@ key-before x y d e =
     less-parts (base ^ 3) (x .metric) (y .metric) (digits 3 (x .flips)) (digits 3 (y .flips)) (digits-below 3 (x .flips) d) (digits-below 3 (y .flips) e)
     ∙ ap (λ (t : Bool). ltb (x .metric) (y .metric) || (eqb (x .metric) (y .metric) && t)) (earlier-digits 3 (x .flips) (y .flips) d e)
 
-keys-insert : (x : Candidate) (ys : List Candidate) → Keyed x → ((y : Candidate) → List·Memᴰ y ys → Keyed y) → map keyOf (insert x ys) ≡ insertKey (keyOf x) (map keyOf ys)
-unfolding insert insertKey
+keys-insert : (x : Candidate) (ys : List Candidate) → Keyed x → ((y : Candidate) → List·Memᴰ y ys → Keyed y) → map keyOf (insertBy before x ys) ≡ insertBy ltb (keyOf x) (map keyOf ys)
+unfolding insertBy
 keys-insert x [] d e = refl
 keys-insert x (y ∷ ys) d e =
     go (before x y) (keys-insert x ys d (λ z m. e z (List·Memᴰ·tail m)))
-    ∙ ap (λ (t : Bool). cond t (keyOf x ∷ keyOf y ∷ map keyOf ys) (keyOf y ∷ insertKey (keyOf x) (map keyOf ys))) (sym (key-before x y d (e y (List·Memᴰ·head refl))))
+    ∙ ap (λ (t : Bool). cond t (keyOf x ∷ keyOf y ∷ map keyOf ys) (keyOf y ∷ insertBy ltb (keyOf x) (map keyOf ys))) (sym (key-before x y d (e y (List·Memᴰ·head refl))))
   where
-    go : (t : Bool) → map keyOf (insert x ys) ≡ insertKey (keyOf x) (map keyOf ys)
-        → map keyOf (cond t (x ∷ y ∷ ys) (y ∷ insert x ys)) ≡ cond t (keyOf x ∷ keyOf y ∷ map keyOf ys) (keyOf y ∷ insertKey (keyOf x) (map keyOf ys))
+    go : (t : Bool) → map keyOf (insertBy before x ys) ≡ insertBy ltb (keyOf x) (map keyOf ys)
+        → map keyOf (cond t (x ∷ y ∷ ys) (y ∷ insertBy before x ys)) ≡ cond t (keyOf x ∷ keyOf y ∷ map keyOf ys) (keyOf y ∷ insertBy ltb (keyOf x) (map keyOf ys))
     go true h = refl
     go false h = ap (λ (ks : List ℕ). keyOf y ∷ ks) h
 
@@ -100,9 +102,9 @@ unfolding insertEach insertKeys
 keys-insert-each m [] ys d e = refl
 keys-insert-each m (x ∷ xs) ys d e =
     let here : Keyed x = d x (List·Memᴰ·head refl) in
-    keys-insert-each m xs (take m (insert x ys)) (λ z p. d z (List·Memᴰ·tail p))
-    (λ z p. ⊎-elim (λ q. subst Keyed (sym q) here) (e z) (insert-member x ys (take-member m (insert x ys) p)))
-    ∙ ap (insertKeys m (map keyOf xs)) (keys-take m (insert x ys) ∙ ap (take m) (keys-insert x ys here e))
+    keys-insert-each m xs (take m (insertBy before x ys)) (λ z p. d z (List·Memᴰ·tail p))
+    (λ z p. ⊎-elim (λ q. subst Keyed (sym q) here) (e z) (insert-member before x ys (take-member m (insertBy before x ys) p)))
+    ∙ ap (insertKeys m (map keyOf xs)) (keys-take m (insertBy before x ys) ∙ ap (take m) (keys-insert x ys here e))
 
 -- ---- a key's indices
 

@@ -3,12 +3,15 @@ use mathlib.Core.Path.{_≡_, refl, sym, ap, _∙_, subst}
 use mathlib.Core.List.{List, [], _∷_, _++_}
 use Prim.Native.Nat.{ℕ, zero, suc, _+_, _-_, _≤_, _<_, min}
 use native.Mathlib.Omega.{arith}
+use lib.Dec.{ltb}
 use lib.ListN.{length, getD, take, drop, set, length-set, length-take, List·getD-append}
 use lib.Seq.{getD-take, getD-drop, getD-append-add, getD-set-same, getD-set-other, take-all}
+use Rattle.laws.specs.Insert.{insertBy}
 use Rattle.laws.proofs.Indices.{lt-cases}
+use Rattle.laws.proofs.Insert.{length-insert}
 use Rattle.flip_order.proofs.Pairwise.{pairwise-tail}
-use Rattle.sets_queue.specs.Contracts.{insertKey, insertKeys, Pool, Place, Shifted, PoolPre}
-use Rattle.sets_queue.proofs.Inserting.{insert-at, length-insert, insert-ordered, take-ordered, insert-one}
+use Rattle.sets_queue.specs.Contracts.{insertKeys, Pool, Place, Shifted, PoolPre}
+use Rattle.sets_queue.proofs.Inserting.{insert-at, insert-ordered, take-ordered, insert-one}
 
 -- ---- the search for a place, from the end down
 
@@ -59,7 +62,7 @@ shift-done p l = record { whole = p .whole; up = λ i m n. p .up i (omega (arith
 
 -- the place among the keys of a pool
 module _ {key low count p : ℕ} {keys ks : List ℕ} (pool : Pool keys low count ks) (place : Place key low count keys p) where
-  pub inserted : insertKey key ks ≡ take (p - low) ks ++ (key ∷ drop (p - low) ks)
+  pub inserted : insertBy ltb key ks ≡ take (p - low) ks ++ (key ∷ drop (p - low) ks)
   inserted = insert-at key ks (p - low) before after
     where
       last : low < p → getD ks (p - low - 1) 0 ≤ key
@@ -77,7 +80,7 @@ module _ {key low count p : ℕ} {keys ks : List ℕ} (pool : Pool keys low coun
 
   -- what the list holds at each place
   abbrev new : List ℕ
-  new = insertKey key ks
+  new = insertBy ltb key ks
 
   front-length : length (take (p - low) ks) ≡ p - low
   front-length = omega (arith, length-take (p - low) ks, place .most, pool .ends)
@@ -103,7 +106,7 @@ module _ {key low count p : ℕ} {keys ks : List ℕ} (pool : Pool keys low coun
       ap (λ (k : ℕ). getD new k 0) e ∙ new-past (suc (a - (p - low))) ∙ getD-drop (p - low) ks (a - (p - low)) 0 ∙ ap (λ (k : ℕ). getD ks k 0) f
 
   -- the room is full, and the key not below the last of it
-  pub turned-away : p ≡ low + length ks → take (length ks) (insertKey key ks) ≡ ks
+  turned-away : p ≡ low + length ks → take (length ks) (insertBy ltb key ks) ≡ ks
   turned-away e =
       let d : p - low ≡ length ks = omega (arith, pool .ends) in
       ap (take (length ks)) (inserted ∙ ap (λ (k : ℕ). take k ks ++ (key ∷ drop k ks)) d) ∙ ap (λ (xs : List ℕ). take (length ks) (xs ++ (key ∷ drop (length ks) ks))) (take-all (length ks) ks (omega arith))
@@ -113,13 +116,13 @@ module _ {key low count p : ℕ} {keys ks : List ℕ} (pool : Pool keys low coun
       take-front [] ys = refl
       take-front (x ∷ xs) ys = ap (λ (zs : List ℕ). x ∷ zs) (take-front xs ys)
 
-  -- the array where the keys from p on stand one place higher, as far as the room goes
+  -- the array whose keys from p on stand one place higher, as far as the room goes
   module _ {room : ℕ} {keys′ : List ℕ} (on : PoolPre low count room keys) (below : p < room) (s : Shifted p (min count (room - 1)) keys keys′) where
     abbrev m : ℕ
     m = room - low
 
     kept-length : length (take m new) ≡ min (suc (length ks)) m
-    kept-length = omega (arith, length-take m new, length-insert key ks)
+    kept-length = omega (arith, length-take m new, length-insert ltb key ks)
 
     at-each : (a : ℕ) → a < length (take m new) → getD (set keys′ p key) (low + a) 0 ≡ getD new a 0
     at-each a l =
@@ -154,7 +157,7 @@ module _ {key low count p : ℕ} {keys ks : List ℕ} (pool : Pool keys low coun
   pub pool-full : {room : ℕ} → PoolPre low count room keys → p ≡ room → Pool keys low count (insertKeys (room - low) (key ∷ []) ks)
   pool-full {room} on e =
       let d : room - low ≡ length ks = omega (arith, place .most, pool .ends, on .count-most) in
-      subst (Pool keys low count) (sym (insert-one (room - low) key ks ∙ ap (λ (k : ℕ). take k (insertKey key ks)) d ∙ turned-away (omega (arith, place .most, on .count-most, pool .ends)))) pool
+      subst (Pool keys low count) (sym (insert-one (room - low) key ks ∙ ap (λ (k : ℕ). take k (insertBy ltb key ks)) d ∙ turned-away (omega (arith, place .most, on .count-most, pool .ends)))) pool
 
 -- ---- the first key is taken
 

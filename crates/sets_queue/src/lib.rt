@@ -7,32 +7,38 @@ ghost use lib.ListN.{length, take};
 ghost use Rattle.flip_order.specs.Order.{magnitude};
 ghost use Rattle.flip_order.specs.Contracts.{mostMagnitude};
 ghost use Rattle.sets.specs.Candidate.{doubtful, extensions};
-ghost use Rattle.sets_queue.specs.Contracts.{base, keyOf, digitAt, indicesOf, Place, Shifted, indexed, WalkPre, SetPre, PoolPre, stemOf, stemWith, StemFits, doubt, keyWith, keysWith, Inserted};
+ghost use Rattle.sets_queue.specs.Contracts.{base, keyOf, digitAt, indicesOf, Place, Shifted, PoolPre, Inserted};
+ghost use Rattle.sets_queue.specs.Contracts.{indexed, WalkPre, SetPre, stemOf, stemWith, StemFits, doubt, keyWith, keysWith};
 
-// The base of a key's digits: an index has the digit one above it, and none has digit 0.
+// The base of a key's digits. The digit of an index is one above it; digit 0 stands for no index.
 const BASE: u64 = 2 * SIZE as u64;
 
-// As many indices as a set has at most.
+// The most indices of a set.
 pub const FLIPS: usize = 3;
 
-// What the sets share that append an index to one set: the sum of its leaf magnitudes, its digits, the weight of the next digit, and
-// the first index that may be appended.
+// A set to which one more index will be appended.
 pub struct Stem {
+    // The sum of its leaf magnitudes.
     pub sum: u64,
+    // Its digits, in the places of a key.
     pub digits: u64,
+    // The weight of the next digit.
     pub weight: u64,
+    // The first index that may be appended.
     pub from: usize,
 }
 
+// The lesser of two numbers.
 fn lesser(a: usize, b: usize) -> usize
     ensures { λ r. ⌜ r ≡ min a b ⌝ }
 {
     if a < b { a } else { b }
 }
 
-// Where a key stands among those from `low` to `end`, which are in order: past all that are not above it.
+// The place of a key among the ordered `keys[low..end]`: after all that are not above it.
 fn place_of(key: u64, low: usize, end: usize, keys: &[u64]) -> usize
-    requires { ⌜ (low ≤ end) × (end ≤ length (now keys)) ⌝ }
+    requires { ⌜ (low ≤ end)
+        × (end ≤ length (now keys)) ⌝ }
     ensures { λ p. ⌜ Place key low end (now (keys .entry)) p ⌝ }
 {
     let mut j = end;
@@ -45,9 +51,10 @@ fn place_of(key: u64, low: usize, end: usize, keys: &[u64]) -> usize
     j
 }
 
-// Moves the keys from `at` to `end` one place up.
+// Moves the keys `keys[at..end]` one place up.
 fn shift(at: usize, end: usize, keys: &mut [u64])
-    requires { ⌜ (at ≤ end) × (end < length (now keys)) ⌝ }
+    requires { ⌜ (at ≤ end)
+        × (end < length (now keys)) ⌝ }
     ensures { λ _. ⌜ Shifted at end (now (keys .entry)) (now (keys .exit)) ⌝ }
 {
     let mut j = end;
@@ -57,8 +64,8 @@ fn shift(at: usize, end: usize, keys: &mut [u64])
     }
 }
 
-// Puts a key in its place among those from `low` to `count`, and keeps those below `room`. Gives where they end then.
-pub fn insert(key: u64, low: usize, count: usize, room: usize, keys: &mut [u64]) -> usize
+// Inserts a key into the queue `keys[low..count]`, and keeps the keys below place `room`. Returns the queue's new end.
+fn insert(key: u64, low: usize, count: usize, room: usize, keys: &mut [u64]) -> usize
     requires { ⌜ PoolPre low count room (now keys) ⌝ }
     ensures { λ r. ⌜ Inserted low count room r (key ∷ []) (now (keys .entry)) (now (keys .exit)) ⌝ }
 {
@@ -73,15 +80,17 @@ pub fn insert(key: u64, low: usize, count: usize, room: usize, keys: &mut [u64])
 
 // The magnitude of a leaf value.
 fn magnitude_at(leaves: &[i32], j: usize) -> u64
-    requires { ⌜ (j < length (now leaves)) × (magnitude (now leaves) j < 2 ^ 31) ⌝ }
+    requires { ⌜ (j < length (now leaves))
+        × (magnitude (now leaves) j < 2 ^ 31) ⌝ }
     ensures { λ r. ⌜ r ≡ magnitude (now (leaves .entry)) j ⌝ }
 {
     values::magnitude(leaves[j]) as u64
 }
 
-// Whether an index is doubtful: an information index with a magnitude of at most 20.
+// 1 if an index is doubtful, otherwise 0. A doubtful index is an information index with a magnitude of at most 20.
 fn doubt(mask: &[u8], leaves: &[i32], j: usize) -> u64
-    requires { ⌜ WalkPre (now mask) (now leaves) × (j < 8 * length (now mask)) ⌝ }
+    requires { ⌜ WalkPre (now mask) (now leaves)
+        × (j < 8 * length (now mask)) ⌝ }
     ensures { λ r. ⌜ r ≡ doubt (now (mask .entry)) (now (leaves .entry)) j ⌝ }
 {
     if bits::mask_bit(mask, j) == 0 {
@@ -95,7 +104,8 @@ fn doubt(mask: &[u8], leaves: &[i32], j: usize) -> u64
 
 // How many of the indices below `end` are doubtful.
 fn doubtful(mask: &[u8], leaves: &[i32], end: usize) -> u64
-    requires { ⌜ WalkPre (now mask) (now leaves) × (end ≤ 8 * length (now mask)) ⌝ }
+    requires { ⌜ WalkPre (now mask) (now leaves)
+        × (end ≤ 8 * length (now mask)) ⌝ }
     ensures { λ r. ⌜ r ≡ doubtful (now (mask .entry)) (now (leaves .entry)) end ⌝ }
 {
     let mut count = 0;
@@ -109,7 +119,11 @@ fn doubtful(mask: &[u8], leaves: &[i32], end: usize) -> u64
 
 // A stem with one index more.
 fn stem_with(leaves: &[i32], stem: Stem, i: usize) -> Stem
-    requires { ⌜ (i < indexed (now leaves)) × (magnitude (now leaves) i ≤ mostMagnitude) × (stem .sum ≤ mostMagnitude) × (stem .digits ≤ base ^ 3) × (stem .weight ≤ base ^ 2) ⌝ }
+    requires { ⌜ (i < indexed (now leaves))
+        × (magnitude (now leaves) i ≤ mostMagnitude)
+        × (stem .sum ≤ mostMagnitude)
+        × (stem .digits ≤ base ^ 3)
+        × (stem .weight ≤ base ^ 2) ⌝ }
     ensures { λ r. ⌜ r ≡ stemWith (now (leaves .entry)) stem i ⌝ }
 {
     Stem {
@@ -120,7 +134,7 @@ fn stem_with(leaves: &[i32], stem: Stem, i: usize) -> Stem
     }
 }
 
-// What the sets share that append an index to `set`.
+// The stem of a set of at most two indices.
 fn stem_of(leaves: &[i32], set: &[usize]) -> Stem
     requires { ⌜ SetPre (indexed (now leaves)) (now leaves) (now set) ⌝ }
     ensures { λ r. ⌜ r ≡ stemOf (now (leaves .entry)) (now (set .entry)) ⌝ }
@@ -141,16 +155,20 @@ fn stem_of(leaves: &[i32], set: &[usize]) -> Stem
     stem_with(leaves, one, set[1])
 }
 
-// The key of the set that appends j, where `small` indices up to j are doubtful.
+// The key of the set that appends j, if `small` indices up to and including j are doubtful.
 fn key_with(leaves: &[i32], stem: Stem, small: u64, j: usize) -> u64
-    requires { do ⌜ (j < indexed (now leaves)) × (magnitude (now leaves) j ≤ mostMagnitude) × StemFits stem × (small ≤ (← ⟦SIZE⟧)) ⌝ }
+    requires { do
+      ⌜ (j < indexed (now leaves))
+          × (magnitude (now leaves) j ≤ mostMagnitude)
+          × StemFits stem
+          × (small ≤ (← ⟦SIZE⟧)) ⌝ }
     ensures { λ r. ⌜ r ≡ keyWith (now (leaves .entry)) stem small j ⌝ }
 {
     let metric = stem.sum + magnitude_at(leaves, j) + 6 * small;
     metric * (BASE * BASE * BASE) + (stem.digits + (j as u64 + 1) * stem.weight)
 }
 
-// Puts the set that appends j among the untried ones, where j is an information index.
+// Inserts the set that appends j into the queue `keys[low..count]`, if j is an information index. Returns the queue's new end.
 fn append(
     mask: &[u8],
     leaves: &[i32],
@@ -162,8 +180,15 @@ fn append(
     room: usize,
     keys: &mut [u64],
 ) -> usize
-    requires { do ⌜ WalkPre (now mask) (now leaves) × (j < 8 * length (now mask)) × StemFits stem × (small ≤ (← ⟦SIZE⟧)) × PoolPre low count room (now keys) ⌝ }
-    ensures { λ r. ⌜ Inserted low count room r (keysWith (now (mask .entry)) (now (leaves .entry)) stem small j) (now (keys .entry)) (now (keys .exit)) ⌝ }
+    requires { do
+      ⌜ WalkPre (now mask) (now leaves)
+          × (j < 8 * length (now mask))
+          × StemFits stem
+          × (small ≤ (← ⟦SIZE⟧))
+          × PoolPre low count room (now keys) ⌝ }
+    ensures { λ r. ⌜ Inserted low count room r
+        (keysWith (now (mask .entry)) (now (leaves .entry)) stem small j)
+        (now (keys .entry)) (now (keys .exit)) ⌝ }
 {
     if bits::mask_bit(mask, j) == 0 {
         return count;
@@ -171,8 +196,8 @@ fn append(
     insert(key_with(leaves, stem, small, j), low, count, room, keys)
 }
 
-// Puts each set that appends an information index to `set` among the untried ones from `low` to `count`, and keeps those below `room`.
-// Gives where they end then.
+// Inserts each set that appends an information index to `set` into the queue `keys[low..count]`, and keeps the keys below place `room`.
+// Returns the queue's new end.
 pub fn extend(
     mask: &[u8],
     leaves: &[i32],
@@ -182,8 +207,12 @@ pub fn extend(
     room: usize,
     keys: &mut [u64],
 ) -> usize
-    requires { ⌜ WalkPre (now mask) (now leaves) × SetPre (8 * length (now mask)) (now leaves) (now set) × PoolPre low count room (now keys) ⌝ }
-    ensures { λ r. ⌜ Inserted low count room r (map keyOf (extensions (now (mask .entry)) (now (leaves .entry)) (now (set .entry)) (8 * length (now (mask .entry))))) (now (keys .entry)) (now (keys .exit)) ⌝ }
+    requires { ⌜ WalkPre (now mask) (now leaves)
+        × SetPre (8 * length (now mask)) (now leaves) (now set)
+        × PoolPre low count room (now keys) ⌝ }
+    ensures { λ r. ⌜ Inserted low count room r
+        (map keyOf (extensions (now (mask .entry)) (now (leaves .entry)) (now (set .entry)) (8 * length (now (mask .entry)))))
+        (now (keys .entry)) (now (keys .exit)) ⌝ }
 {
     let stem = stem_of(leaves, set);
     let mut small = doubtful(mask, leaves, stem.from);
@@ -197,7 +226,7 @@ pub fn extend(
     end
 }
 
-// The digit of a key with a weight.
+// The digit of a key that has this weight.
 fn digit_at(weight: u64, key: u64) -> usize
     requires { ⌜ 0 < weight ⌝ }
     ensures { λ r. ⌜ r ≡ digitAt weight key ⌝ }
@@ -205,10 +234,14 @@ fn digit_at(weight: u64, key: u64) -> usize
     (key / weight % BASE) as usize
 }
 
-// The indices of a key, which has one at least. Gives their number.
+// Writes the indices of a key, which has at least one, to the start of `set`. Returns their number.
 pub fn indices_of(key: u64, set: &mut [usize; FLIPS]) -> usize
-    requires { do ⌜ (0 < digitAt (base ^ 2) key) × (length (now set) ≡ (← ⟦FLIPS⟧)) ⌝ }
-    ensures { λ r. do ⌜ (take r (now (set .exit)) ≡ indicesOf key) × (r ≡ length (indicesOf key)) ⌝ }
+    requires { do
+      ⌜ (0 < digitAt (base ^ 2) key)
+          × (length (now set) ≡ (← ⟦FLIPS⟧)) ⌝ }
+    ensures { λ r. do
+      ⌜ (take r (now (set .exit)) ≡ indicesOf key)
+          × (r ≡ length (indicesOf key)) ⌝ }
 {
     set[0] = digit_at(BASE * BASE, key) - 1;
     let second = digit_at(BASE, key);

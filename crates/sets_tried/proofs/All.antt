@@ -1,5 +1,5 @@
--- Where sets are tried while trials remain, none is left: every set that can be flipped has been tried.
-use mathlib.Core.Path.{_≡_, refl, sym, ap, _∙_, subst}
+-- If sets are tried while trials remain, none is left: every set that can be flipped has been tried.
+use mathlib.Core.Path.{_≡_, sym, ap, _∙_, subst}
 use mathlib.Core.Bool.{Bool, true, _&&_, cond, and-eq-true-iff}
 use mathlib.Core.Logic.{⊎-elim}
 use mathlib.Core.List.{List, [], _∷_, _++_, List·Memᴰ, List·Memᴰ·head, List·Memᴰ·tail, List·Memᴰ·not-nil, List·Memᴰ·cases-cons, Memᴰ·append-left, Memᴰ·append-right, Memᴰ·cast}
@@ -10,42 +10,31 @@ use lib.Dec.{leb, eqb}
 use lib.IntN.{ℤ}
 use lib.ListN.{length, getD, take}
 use lib.Seq.{take-suc, take-all, getD-take, length-take-le}
+use Rattle.laws.specs.Insert.{insertBy}
 use Rattle.laws.proofs.Indices.{lt-cases}
+use Rattle.laws.proofs.Insert.{member-insert}
 use Rattle.bits.specs.Mask.{maskBit}
 use Rattle.code.specs.declared.Code.{Code}
 use Rattle.code.specs.Code.{codeLength}
 use Rattle.sets.specs.declared.Search.{Search}
-use Rattle.sets.specs.Candidate.{pastLargest, Candidate, candidate, extensions, insert}
+use Rattle.sets.specs.Candidate.{pastLargest, Candidate, candidate, extensions, before}
 use Rattle.sets.specs.Tried.{leavesOf, generated, flipSets}
 use Rattle.sets_tried.specs.Claims.{FlipSet, insertAll, triedOfAll}
-use Rattle.sets_tried.proofs.Members.{insert-cases, past-last}
+use Rattle.sets_tried.proofs.Members.{past-last}
 use Rattle.sets_tried.proofs.Kept.{kept-loses-nothing}
 
 -- ---- what is inserted is there, and what was there stays
 
-insert-here : (x : Candidate) (ys : List Candidate) → List·Memᴰ x (insert x ys)
-unfolding insert
-insert-here x [] = List·Memᴰ·head refl
-insert-here x (y ∷ ys) = insert-cases (λ zs. List·Memᴰ x zs) x y ys (λ _. List·Memᴰ·head refl) (λ _. List·Memᴰ·tail (insert-here x ys))
-
-insert-stays : (x : Candidate) (ys : List Candidate) {z : Candidate} → List·Memᴰ z ys → List·Memᴰ z (insert x ys)
-unfolding insert
-insert-stays x [] p = absurd (List·Memᴰ·not-nil p)
-insert-stays x (y ∷ ys) {z} p =
-    insert-cases (λ zs. List·Memᴰ z zs) x y ys (λ _. List·Memᴰ·tail p)
-    (λ _. ⊎-elim (λ e. List·Memᴰ·head e) (λ q. List·Memᴰ·tail (insert-stays x ys q)) (List·Memᴰ·cases-cons p))
-
 all-stay : (xs ys : List Candidate) {z : Candidate} → List·Memᴰ z ys → List·Memᴰ z (insertAll xs ys)
 unfolding insertAll
 all-stay [] ys p = p
-all-stay (x ∷ xs) ys p = all-stay xs (insert x ys) (insert-stays x ys p)
+all-stay (x ∷ xs) ys p = all-stay xs (insertBy before x ys) (member-insert before x ys (List·Memᴰ·tail p))
 
 all-here : (xs ys : List Candidate) {z : Candidate} → List·Memᴰ z xs → List·Memᴰ z (insertAll xs ys)
 unfolding insertAll
 all-here [] ys p = absurd (List·Memᴰ·not-nil p)
-all-here (x ∷ xs) ys {z} p =
-    ⊎-elim (λ e. all-stay xs (insert x ys) (subst (λ (u : Candidate). List·Memᴰ u (insert x ys)) (sym e) (insert-here x ys)))
-    (all-here xs (insert x ys)) (List·Memᴰ·cases-cons p)
+all-here (x ∷ xs) ys p =
+    ⊎-elim (λ e. all-stay xs (insertBy before x ys) (member-insert before x ys (List·Memᴰ·head e))) (all-here xs (insertBy before x ys)) (List·Memᴰ·cases-cons p)
 
 -- ---- a search that ends while trials remain
 
@@ -118,7 +107,7 @@ module _ (s : Search) (mask : List ℕ) (c : Code) (v : List ℤ) where
         (member-generated js (getD is (suc k) 0) (omega (arith, p .most)) (p .flips .below (suc k) l) (p .flips .information (suc k) l)
         (omega (arith, past, p .flips .ascending k (suc k) (omega arith) l))))
 
-    -- "Where no untried set is left, that ends the trials made": where fewer sets are tried than the limit allows, every set that can be
+    -- "Where no untried set is left, that ends the trials made": if fewer sets are tried than the limit allows, every set that can be
     -- flipped has been tried
     pub all-tried : List·Memᴰ is (flipSets s mask c v)
     all-tried =

@@ -1,42 +1,28 @@
 -- Keeping only as many untried sets as trials remain loses nothing: the sets tried are those of a search that keeps all of them. So a
 -- larger limit tries the same sets first.
 use mathlib.Core.Path.{_≡_, refl, sym, ap, _∙_}
-use mathlib.Core.Bool.{Bool, true, false, cond}
 use mathlib.Core.List.{List, [], _∷_}
 use Prim.Native.Nat.{ℕ, zero, suc, _+_, _-_, _≤_}
 use native.Mathlib.Omega.{arith}
 use lib.IntN.{ℤ}
 use lib.ListN.{length, take}
-use lib.Seq.{take-nil, take-all, take-take}
+use lib.Seq.{take-nil, take-all}
+use Rattle.laws.specs.Insert.{insertBy}
+use Rattle.laws.proofs.Insert.{take-insert}
 use Rattle.code.specs.declared.Code.{Code}
 use Rattle.flip_trial.specs.declared.Restart.{Restart}
 use Rattle.sets.specs.declared.Search.{Search}
-use Rattle.sets.specs.Candidate.{Candidate, before, insert, insertEach}
+use Rattle.sets.specs.Candidate.{Candidate, before, insertEach}
 use Rattle.sets.specs.Tried.{generated, tried, flipSets}
 use Rattle.sets.specs.DecodeSets.{searchOf}
 use Rattle.sets_tried.specs.Claims.{insertAll, triedOfAll}
 
 -- ---- keeping the first m
 
-take-cons : (m : ℕ) (y : Candidate) (ys : List Candidate) → take m (y ∷ take m ys) ≡ take m (y ∷ ys)
-take-cons zero y ys = refl
-take-cons (suc m) y ys = ap (λ (zs : List Candidate). y ∷ zs) (take-take m (suc m) ys (omega arith))
-
--- what stands past the first m does not come among them
-pub take-insert : (m : ℕ) (x : Candidate) (ys : List Candidate) → take m (insert x (take m ys)) ≡ take m (insert x ys)
-unfolding insert
-take-insert zero x ys = refl
-take-insert (suc m) x [] = refl
-take-insert (suc m) x (y ∷ ys) = go (before x y) (take-insert m x ys)
-  where
-    go : (t : Bool) → take m (insert x (take m ys)) ≡ take m (insert x ys) → take (suc m) (cond t (x ∷ y ∷ take m ys) (y ∷ insert x (take m ys))) ≡ take (suc m) (cond t (x ∷ y ∷ ys) (y ∷ insert x ys))
-    go true e = ap (λ (zs : List Candidate). x ∷ zs) (take-cons m y ys)
-    go false e = ap (λ (zs : List Candidate). y ∷ zs) e
-
-pub insert-each-take : (m : ℕ) (xs ys : List Candidate) → insertEach m xs (take m ys) ≡ take m (insertAll xs ys)
+insert-each-take : (m : ℕ) (xs ys : List Candidate) → insertEach m xs (take m ys) ≡ take m (insertAll xs ys)
 unfolding insertEach insertAll
 insert-each-take m [] ys = refl
-insert-each-take m (x ∷ xs) ys = ap (insertEach m xs) (take-insert m x ys) ∙ insert-each-take m xs (insert x ys)
+insert-each-take m (x ∷ xs) ys = ap (insertEach m xs) (take-insert before m x ys) ∙ insert-each-take m xs (insertBy before x ys)
 
 -- with room for all of them, all are kept
 pub insert-each-all : (xs ys : List Candidate) → insertEach (length ys + length (insertAll xs ys)) xs ys ≡ insertAll xs ys
@@ -45,7 +31,7 @@ insert-each-all xs ys =
     ap (insertEach m xs) (sym (take-all m ys (omega arith))) ∙ insert-each-take m xs ys ∙ take-all m (insertAll xs ys) (omega arith)
 
 module _ (generate : List ℕ → List Candidate) where
-  pub tried-take : (m : ℕ) (xs : List Candidate) → tried generate m (take m xs) ≡ triedOfAll generate m xs
+  tried-take : (m : ℕ) (xs : List Candidate) → tried generate m (take m xs) ≡ triedOfAll generate m xs
   unfolding tried triedOfAll
   tried-take zero xs = refl
   tried-take (suc m) [] = refl

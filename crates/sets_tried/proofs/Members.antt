@@ -2,14 +2,17 @@
 use mathlib.Core.Path.{_≡_, refl, sym, ap, _∙_, subst}
 use mathlib.Core.Bool.{Bool, true, false, _&&_, cond, and-eq-true-iff}
 use mathlib.Core.Logic.{_⊎_, inl, inr, ⊎-elim}
-use mathlib.Core.List.{List, [], _∷_, _++_, List·Memᴰ, List·Memᴰ·head, List·Memᴰ·tail, List·Memᴰ·not-nil, List·Memᴰ·cases-cons, List·Memᴰ·append-cases, List·Memᴰ·eq-of-singleton}
+use mathlib.Core.List.{List, [], _∷_, _++_, List·Memᴰ, List·Memᴰ·head, List·Memᴰ·tail, List·Memᴰ·not-nil, List·Memᴰ·append-cases, List·Memᴰ·eq-of-singleton}
 use Prim.Native.Nat.{ℕ, zero, suc, _-_, _<_, _≤_}
 use native.Mathlib.Omega.{arith}
 use borrow.Author.Tests.{ltb-true, leb-true, eqb-true}
 use lib.Dec.{ltb, leb, eqb}
 use lib.IntN.{ℤ}
 use lib.ListN.{length, getD, take, length-append}
+use Rattle.laws.specs.Insert.{insertBy}
 use Rattle.laws.proofs.Indices.{lt-cases}
+use Rattle.laws.proofs.Pairs.{take-member}
+use Rattle.laws.proofs.Insert.{insert-member}
 use Rattle.bits.specs.Mask.{maskBit}
 use Rattle.code.specs.declared.Code.{Code}
 use Rattle.code.specs.Code.{codeLength}
@@ -17,41 +20,19 @@ use Rattle.flip_order.proofs.Pairwise.{place-of, pairwise-snoc}
 use Rattle.flip_trial.specs.Claims.{Flips}
 use Rattle.flip_trial.proofs.Flips.{flips-one}
 use Rattle.sets.specs.declared.Search.{Search}
-use Rattle.sets.specs.Candidate.{pastLargest, metricOf, Candidate, candidate, extensions, before, insert, insertEach}
+use Rattle.sets.specs.Candidate.{pastLargest, metricOf, Candidate, candidate, extensions, before, insertEach}
 use Rattle.sets.specs.Tried.{leavesOf, generated}
 use Rattle.sets_tried.specs.Claims.{FlipSet, Extends, OwnMetric}
 
--- ---- members of lists
+-- ---- untried sets
 
-pub take-member : {A : Type 0} (m : ℕ) (xs : List A) {z : A} → List·Memᴰ z (take m xs) → List·Memᴰ z xs
-take-member zero xs p = absurd (List·Memᴰ·not-nil p)
-take-member (suc m) [] p = p
-take-member (suc m) (x ∷ xs) p =
-    ⊎-elim (λ e. List·Memᴰ·head e) (λ q. List·Memᴰ·tail (take-member m xs q)) (List·Memᴰ·cases-cons p)
-
--- x stands before y, or after it
-pub insert-cases : (P : List Candidate → Type 0) (x y : Candidate) (ys : List Candidate) → (before x y ≡ true → P (x ∷ y ∷ ys)) → (before x y ≡ false → P (y ∷ insert x ys)) → P (insert x (y ∷ ys))
-unfolding insert
-insert-cases P x y ys f g = go (before x y) f g
-  where
-    go : (t : Bool) → (t ≡ true → P (x ∷ y ∷ ys)) → (t ≡ false → P (y ∷ insert x ys)) → P (cond t (x ∷ y ∷ ys) (y ∷ insert x ys))
-    go true f g = f refl
-    go false f g = g refl
-
-pub insert-member : (x : Candidate) (ys : List Candidate) {z : Candidate} → List·Memᴰ z (insert x ys) → (z ≡ x) ⊎ List·Memᴰ z ys
-unfolding insert
-insert-member x [] p = inl (List·Memᴰ·eq-of-singleton p)
-insert-member x (y ∷ ys) {z} p =
-    insert-cases (λ zs. List·Memᴰ z zs → (z ≡ x) ⊎ List·Memᴰ z (y ∷ ys)) x y ys (λ _ q. List·Memᴰ·cases-cons q)
-    (λ _ q. ⊎-elim (λ e. inr (List·Memᴰ·head e)) (λ r. ⊎-elim (λ e. inl e) (λ t. inr (List·Memᴰ·tail t)) (insert-member x ys r)) (List·Memᴰ·cases-cons q)) p
-
-pub insert-each-member : (m : ℕ) (xs ys : List Candidate) {z : Candidate} → List·Memᴰ z (insertEach m xs ys) → List·Memᴰ z xs ⊎ List·Memᴰ z ys
+insert-each-member : (m : ℕ) (xs ys : List Candidate) {z : Candidate} → List·Memᴰ z (insertEach m xs ys) → List·Memᴰ z xs ⊎ List·Memᴰ z ys
 unfolding insertEach
 insert-each-member m [] ys p = inr p
 insert-each-member m (x ∷ xs) ys p =
     ⊎-elim (λ q. inl (List·Memᴰ·tail q))
-    (λ q. ⊎-elim (λ e. inl (List·Memᴰ·head e)) (λ r. inr r) (insert-member x ys (take-member m (insert x ys) q)))
-    (insert-each-member m xs (take m (insert x ys)) p)
+    (λ q. ⊎-elim (λ e. inl (List·Memᴰ·head e)) (λ r. inr r) (insert-member before x ys (take-member m (insertBy before x ys) q)))
+    (insert-each-member m xs (take m (insertBy before x ys)) p)
 
 -- what the old and the new ones have, those that are kept have
 pub insert-each-keeps : (P : Candidate → Type 0) (m : ℕ) (xs ys : List Candidate) → ((x : Candidate) → List·Memᴰ x xs → P x) → ((x : Candidate) → List·Memᴰ x ys → P x) → (x : Candidate) → List·Memᴰ x (insertEach m xs ys) → P x

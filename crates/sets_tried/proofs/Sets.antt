@@ -2,22 +2,25 @@
 use mathlib.Core.Path.{_≡_, refl, sym, ap, _∙_, subst}
 use mathlib.Core.Bool.{cond}
 use mathlib.Core.Logic.{inr, ⊎-elim}
-use mathlib.Core.List.{List, [], _∷_, _++_, append-nil, List·Memᴰ, List·Memᴰ·head, List·Memᴰ·tail, List·Memᴰ·not-nil, List·Memᴰ·cases-cons, List·Memᴰ·eq-of-singleton, List·Memᴰ·append-cases, Memᴰ·cast}
+use mathlib.Core.List.{List, [], _∷_, _++_, append-nil, List·Memᴰ, List·Memᴰ·head, List·Memᴰ·tail, List·Memᴰ·not-nil, List·Memᴰ·cases-cons, List·Memᴰ·eq-of-singleton, Memᴰ·cast}
 use Prim.Native.Nat.{ℕ, zero, suc, _-_, _<_}
 use native.Mathlib.Omega.{arith}
 use lib.Dec.{ltb}
 use lib.IntN.{ℤ}
 use lib.ListN.{length, getD, take, length-append}
 use lib.Seq.{take-at, getD-at}
+use Rattle.laws.specs.Insert.{insertBy}
 use Rattle.laws.proofs.Choice.{cond-ind}
+use Rattle.laws.proofs.Pairs.{Pairs, none, one, take-member, pairs-head, pairs-tail, pairs-take, pairs-snoc}
+use Rattle.laws.proofs.Insert.{insert-member, insert-pairs}
 use Rattle.bits.specs.Mask.{maskBit}
 use Rattle.code.specs.declared.Code.{Code}
 use Rattle.code.specs.Code.{codeLength}
 use Rattle.sets.specs.declared.Search.{Search}
-use Rattle.sets.specs.Candidate.{pastLargest, Candidate, candidate, extensions, insert, insertEach}
+use Rattle.sets.specs.Candidate.{pastLargest, Candidate, candidate, extensions, before, insertEach}
 use Rattle.sets.specs.Tried.{leavesOf, generated, tried, flipSets}
 use Rattle.sets_tried.specs.Claims.{FlipSet}
-use Rattle.sets_tried.proofs.Members.{take-member, insert-cases, insert-member, insert-each-keeps, tests-ind, extension-member, generated-member, generated-flips, first-flips}
+use Rattle.sets_tried.proofs.Members.{insert-each-keeps, tests-ind, extension-member, generated-member, generated-flips, first-flips}
 
 member-at : (xs : List (List ℕ)) (a : ℕ) → a < length xs → List·Memᴰ (getD xs a []) xs
 member-at [] a l = absurd (omega arith)
@@ -28,8 +31,8 @@ member-at (x ∷ xs) (suc a) l = List·Memᴰ·tail (member-at xs a (omega arith
 
 -- a property that what is generated from a set that has it has too
 module _ (P : List ℕ → Type 0) (generate : List ℕ → List Candidate) (more : (is : List ℕ) → P is → (x : Candidate) → List·Memᴰ x (generate is) → P (x .flips)) where
-  -- where all untried sets have it, each set that is tried has it
-  pub tried-each : (m : ℕ) (untried : List Candidate) → ((x : Candidate) → List·Memᴰ x untried → P (x .flips)) → (is : List ℕ) → List·Memᴰ is (tried generate m untried) → P is
+  -- if all untried sets have it, each set that is tried has it
+  tried-each : (m : ℕ) (untried : List Candidate) → ((x : Candidate) → List·Memᴰ x untried → P (x .flips)) → (is : List ℕ) → List·Memᴰ is (tried generate m untried) → P is
   unfolding tried
   tried-each zero untried each is p = absurd (List·Memᴰ·not-nil p)
   tried-each (suc m) [] each is p = absurd (List·Memᴰ·not-nil p)
@@ -51,45 +54,18 @@ module _ (s : Search) (mask : List ℕ) (c : Code) (v : List ℤ) where
 
 -- ---- sets that all differ
 
--- no two of some candidates have the same set
-pub data Apart : List Candidate → Type 0 where
-  none : Apart []
-  one : {x : Candidate} {xs : List Candidate} → ((y : Candidate) → List·Memᴰ y xs → x .flips ≡ y .flips → ⊥) → Apart xs → Apart (x ∷ xs)
-
-pub apart-head : {x : Candidate} {xs : List Candidate} → Apart (x ∷ xs) → (y : Candidate) → List·Memᴰ y xs → x .flips ≡ y .flips → ⊥
-apart-head (one f p) = f
-
-apart-tail : {x : Candidate} {xs : List Candidate} → Apart (x ∷ xs) → Apart xs
-apart-tail (one f p) = p
-
-apart-take : (m : ℕ) (xs : List Candidate) → Apart xs → Apart (take m xs)
-apart-take zero xs p = none
-apart-take (suc m) [] p = none
-apart-take (suc m) (x ∷ xs) p = one (λ y q. apart-head p y (take-member m xs q)) (apart-take m xs (apart-tail p))
-
-apart-insert : (x : Candidate) (ys : List Candidate) → ((y : Candidate) → List·Memᴰ y ys → x .flips ≡ y .flips → ⊥) → Apart ys → Apart (insert x ys)
-unfolding insert
-apart-insert x [] f p = one f p
-apart-insert x (y ∷ ys) f p =
-    insert-cases Apart x y ys (λ _. one f p)
-    (λ _. one
-    (λ z q e. ⊎-elim (λ i. f y (List·Memᴰ·head refl) (ap (λ (u : Candidate). u .flips) (sym i) ∙ sym e)) (λ r. apart-head p z r e) (insert-member x ys q))
-    (apart-insert x ys (λ z q. f z (List·Memᴰ·tail q)) (apart-tail p)))
+-- no two of some candidates have one set
+abbrev pub Apart : List Candidate → Type 0
+Apart = Pairs (λ x y. x .flips ≡ y .flips → ⊥)
 
 apart-insert-each : (m : ℕ) (xs ys : List Candidate) → ((x y : Candidate) → List·Memᴰ x xs → List·Memᴰ y ys → x .flips ≡ y .flips → ⊥) → Apart xs → Apart ys → Apart (insertEach m xs ys)
 unfolding insertEach
 apart-insert-each m [] ys f p q = q
 apart-insert-each m (x ∷ xs) ys f p q =
-    apart-insert-each m xs (take m (insert x ys))
-    (λ z y r t e. ⊎-elim (λ i. apart-head p z r (ap (λ (u : Candidate). u .flips) (sym i) ∙ sym e)) (λ k. f z y (List·Memᴰ·tail r) k e) (insert-member x ys (take-member m (insert x ys) t)))
-    (apart-tail p) (apart-take m (insert x ys) (apart-insert x ys (λ y. f x y (List·Memᴰ·head refl)) q))
-
-apart-snoc : (xs : List Candidate) (x : Candidate) → ((y : Candidate) → List·Memᴰ y xs → y .flips ≡ x .flips → ⊥) → Apart xs → Apart (xs ++ (x ∷ []))
-apart-snoc [] x f p = one (λ y q. absurd (List·Memᴰ·not-nil q)) none
-apart-snoc (y ∷ ys) x f p =
-    one
-    (λ z q e. ⊎-elim (λ r. apart-head p z r e) (λ r. f y (List·Memᴰ·head refl) (e ∙ ap (λ (u : Candidate). u .flips) (List·Memᴰ·eq-of-singleton r))) (List·Memᴰ·append-cases ys q))
-    (apart-snoc ys x (λ z q. f z (List·Memᴰ·tail q)) (apart-tail p))
+    let here = List·Memᴰ·head refl in
+    apart-insert-each m xs (take m (insertBy before x ys))
+    (λ z y r t e. ⊎-elim (λ i. pairs-head p z r (ap (λ (u : Candidate). u .flips) (sym i) ∙ sym e)) (λ k. f z y (List·Memᴰ·tail r) k e) (insert-member before x ys (take-member m (insertBy before x ys) t)))
+    (pairs-tail p) (pairs-take m (insertBy before x ys) (insert-pairs before x ys (λ y z r _ _. f x z here r) (λ y r _ e. f x y here r (sym e)) q))
 
 -- two sets that have an index more each
 snoc-same : (is js : List ℕ) (i j : ℕ) → is ++ (i ∷ []) ≡ js ++ (j ∷ []) → (is ≡ js) × (i ≡ j)
@@ -105,7 +81,7 @@ unfolding extensions
 extensions-apart mask leaves is zero = none
 extensions-apart mask leaves is (suc n) =
     tests-ind (λ t. Apart (extensions mask leaves is n ++ cond t (candidate mask leaves (is ++ (n ∷ [])) ∷ []) [])) (maskBit mask n) 1 (pastLargest is) n
-    (λ _ _. apart-snoc (extensions mask leaves is n) (candidate mask leaves (is ++ (n ∷ [])))
+    (λ _ _. pairs-snoc (extensions mask leaves is n) (candidate mask leaves (is ++ (n ∷ [])))
     (λ y q e.
     let g = extension-member mask leaves is n q in
     omega (arith, g .1, snoc-same is is (g .0) n (ap (λ (u : Candidate). u .flips) (sym (g .4)) ∙ e) .1))
@@ -136,10 +112,10 @@ module _ (generate : List ℕ → List Candidate) (extends : (is : List ℕ) (x 
         let g = extends (x .flips) y q in
         ⊎-elim (λ e. omega (arith, ap length (sym e ∙ g .1), length-append (x .flips) (g .0 ∷ [])))
         (λ t. p .new x here (p .closed (x .flips) (g .0) (Memᴰ·cast (sym (g .1)) t))) (List·Memᴰ·cases-cons r))
-        (λ y q r. ⊎-elim (λ e. apart-head (p .apart) y q (sym e)) (p .new y (List·Memᴰ·tail q)) (List·Memᴰ·cases-cons r));
+        (λ y q r. ⊎-elim (λ e. pairs-head (p .apart) y q (sym e)) (p .new y (List·Memᴰ·tail q)) (List·Memᴰ·cases-cons r));
     apart = apart-insert-each m (generate (x .flips)) untried
         (λ z y q r e. let g = extends (x .flips) z q in p .new x here (p .from y (List·Memᴰ·tail r) (x .flips) (g .0) (sym e ∙ g .1)))
-        (generate-apart (x .flips)) (apart-tail (p .apart));
+        (generate-apart (x .flips)) (pairs-tail (p .apart));
   }
     where
       here : List·Memᴰ x (x ∷ untried)

@@ -1,36 +1,38 @@
 -- With w = 1 the sets that are tried are the information indices, each alone, sorted by metric and then by index.
 use mathlib.Core.Path.{_≡_, refl, sym, ap, _∙_, subst}
-use mathlib.Core.Bool.{Bool, true, false, _&&_, _||_, cond, and-eq-true-iff, and-false, or-false as or-false-is}
+use mathlib.Core.Bool.{Bool, true, false, _&&_, _||_, cond, true≢false}
 use mathlib.Core.Logic.{inl, inr, ⊎-elim}
 use mathlib.Core.List.{List, [], _∷_, _++_, map, append-nil, List·Memᴰ, List·Memᴰ·head, List·Memᴰ·tail, List·Memᴰ·not-nil, List·Memᴰ·cases-cons, List·Permᴰ, List·Permᴰ·nil, List·Permᴰ·cons, List·Permᴰ·swap, List·Permᴰ·trans, Permᴰ·refl, Permᴰ·symm, Permᴰ·middle, Permᴰ·append-nil}
 use Prim.Native.Nat.{ℕ, zero, suc, _-_, _<_, _≤_}
 use native.Mathlib.Omega.{arith}
-use borrow.Author.Tests.{ltb-true, ltb-false, eqb-true}
+use borrow.Author.Tests.{ltb-false}
 use lib.Dec.{ltb, leb, eqb, leb·zero}
 use lib.IntN.{ℤ}
 use lib.ListN.{take}
+use Rattle.laws.specs.Insert.{insertBy}
 use Rattle.laws.proofs.Choice.{or-false}
 use Rattle.laws.proofs.Indices.{lt-cases}
+use Rattle.laws.proofs.Permutation.{permutation-member}
+use Rattle.laws.proofs.Insert.{insert-cases}
+use Rattle.laws.proofs.Earlier.{first-by-of}
 use Rattle.bits.specs.Mask.{maskBit}
 use Rattle.code.specs.declared.Code.{Code}
 use Rattle.code.specs.Code.{codeLength}
 use Rattle.flip_order.specs.Order.{information}
 use Rattle.flip_order.specs.Claims.{Pairwise, Distinct}
 use Rattle.flip_order.proofs.Pairwise.{pairwise-nil, pairwise-cons, pairwise-tail, pairwise-head}
-use Rattle.flip_order.proofs.Permutation.{permutation-member}
 use Rattle.flip_order.proofs.Information.{member-information, permuted-information}
 use Rattle.flip_trial.specs.Trial.{firstTrial}
-use Rattle.sets.specs.Candidate.{metricOf, Candidate, candidate, extensions, before, insert}
+use Rattle.sets.specs.Candidate.{metricOf, Candidate, candidate, extensions, before}
 use Rattle.sets.specs.Tried.{generated}
 use Rattle.sets.specs.DecodeSets.{searchOf}
 use Rattle.sets_tried.specs.Claims.{insertAll, triedOfAll, MetricFirst, Singles}
-use Rattle.sets_tried.proofs.Members.{insert-cases}
 use Rattle.sets_tried.proofs.Kept.{kept-loses-nothing}
 
-insert-all-snoc : (xs : List Candidate) (x : Candidate) (ys : List Candidate) → insertAll (xs ++ (x ∷ [])) ys ≡ insert x (insertAll xs ys)
+insert-all-snoc : (xs : List Candidate) (x : Candidate) (ys : List Candidate) → insertAll (xs ++ (x ∷ [])) ys ≡ insertBy before x (insertAll xs ys)
 unfolding insertAll
 insert-all-snoc [] x ys = refl
-insert-all-snoc (z ∷ xs) x ys = insert-all-snoc xs x (insert z ys)
+insert-all-snoc (z ∷ xs) x ys = insert-all-snoc xs x (insertBy before z ys)
 
 module _ (mask : List ℕ) (leaves : List ℤ) where
   abbrev single : ℕ → Candidate
@@ -46,18 +48,10 @@ module _ (mask : List ℕ) (leaves : List ℤ) where
       ⊎-elim (λ l. ⊎-elim (λ m. inl (omega arith)) (λ m. inl (omega arith)) q) (λ l. ⊎-elim (λ m. inl (omega arith)) (λ m. inr (omega arith)) q) p
 
   before-first : (i j : ℕ) → before (single i) (single j) ≡ true → MetricFirst mask leaves i j
-  before-first i j = go (ltb (metric i) (metric j)) (ltb-true (metric i) (metric j))
-    where
-      -- of lists of one entry the one with the lower entry is earlier
-      lower : Bool
-      lower = ltb i j || (eqb i j && false)
-
-      lower-true : lower ≡ true → i < j
-      lower-true e = ltb-true i j (sym (ap (λ (t : Bool). ltb i j || t) (and-false (eqb i j)) ∙ or-false-is (ltb i j)) ∙ e)
-
-      go : (t : Bool) → (t ≡ true → metric i < metric j) → (t || (eqb (metric i) (metric j) && lower)) ≡ true → MetricFirst mask leaves i j
-      go true f e = inl (f refl)
-      go false f e = let p = and-eq-true-iff (eqb (metric i) (metric j)) lower .0 e in inr (eqb-true _ _ (p .0), lower-true (p .1))
+  before-first i j h =
+      ⊎-elim (λ l. inl l)
+      (λ p. inr (p .0, ⊎-elim (λ l. l) (λ q. absurd (true≢false (sym (q .1)))) (first-by-of i j false (p .1))))
+      (first-by-of (metric i) (metric j) (ltb i j || (eqb i j && false)) h)
 
   after-first : (i j : ℕ) → j < i → before (single i) (single j) ≡ false → MetricFirst mask leaves j i
   after-first i j l e =
@@ -65,12 +59,12 @@ module _ (mask : List ℕ) (leaves : List ℤ) where
       lt-cases (metric j) (metric i) (λ k. inl k) (λ k. inr (omega arith))
 
   -- an index above the others is inserted
-  insert-single : (i : ℕ) (js : List ℕ) → ((j : ℕ) → List·Memᴰ j js → j < i) → Pairwise (MetricFirst mask leaves) js → (ks : List ℕ) × (insert (single i) (map single js) ≡ map single ks) × List·Permᴰ ks (i ∷ js) × Pairwise (MetricFirst mask leaves) ks
-  unfolding insert
+  insert-single : (i : ℕ) (js : List ℕ) → ((j : ℕ) → List·Memᴰ j js → j < i) → Pairwise (MetricFirst mask leaves) js → (ks : List ℕ) × (insertBy before (single i) (map single js) ≡ map single ks) × List·Permᴰ ks (i ∷ js) × Pairwise (MetricFirst mask leaves) ks
+  unfolding insertBy
   insert-single i [] above s = (i ∷ [], refl, Permᴰ·refl (i ∷ []), pairwise-cons (λ k m. absurd (List·Memᴰ·not-nil m)) s)
   insert-single i (j ∷ js) above s =
       let r = insert-single i js (λ k m. above k (List·Memᴰ·tail m)) (pairwise-tail s) in
-      insert-cases (λ xs. (ks : List ℕ) × (xs ≡ map single ks) × List·Permᴰ ks (i ∷ j ∷ js) × Pairwise (MetricFirst mask leaves) ks) (single i) (single j) (map single js)
+      insert-cases before (λ xs. (ks : List ℕ) × (xs ≡ map single ks) × List·Permᴰ ks (i ∷ j ∷ js) × Pairwise (MetricFirst mask leaves) ks) (single i) (single j) (map single js)
       (λ h. (
         i ∷ j ∷ js,
         refl,
@@ -105,7 +99,7 @@ module _ (mask : List ℕ) (leaves : List ℤ) where
       go true r =
           let s = insert-single n (r .0) (λ k m. member-information mask n k (permutation-member (r .2) m) .0) (r .3) in (
             s .0,
-            ap (λ (u : Bool). insertAll (es ++ cond u (single n ∷ []) []) []) (leb·zero n) ∙ insert-all-snoc es (single n) [] ∙ ap (insert (single n)) (r .1) ∙ s .1,
+            ap (λ (u : Bool). insertAll (es ++ cond u (single n ∷ []) []) []) (leb·zero n) ∙ insert-all-snoc es (single n) [] ∙ ap (insertBy before (single n)) (r .1) ∙ s .1,
             List·Permᴰ·trans (List·Permᴰ·trans (s .2) (List·Permᴰ·cons refl (r .2))) (Permᴰ·symm (List·Permᴰ·trans (Permᴰ·middle n is []) (List·Permᴰ·cons refl (Permᴰ·append-nil is)))),
             s .3,
           )

@@ -1,28 +1,25 @@
 -- Metrics are small: on channel values within 31 every candidate that a run generates has a metric below 2^32.
 use mathlib.Core.Path.{_≡_, refl, ap, _∙_}
-use mathlib.Core.Bool.{Bool, true, false, _&&_, cond}
 use mathlib.Core.List.{List, [], _∷_, _++_, List·Memᴰ}
 use Prim.Native.Nat.{ℕ, zero, suc, _*_, _<_, _≤_, _^_}
 use native.Mathlib.Nat.{suc-mul, mul-le-mul-right}
 use native.Mathlib.Omega.{arith}
-use lib.Dec.{leb, eqb}
 use lib.IntN.{ℤ, pos, natAbs}
 use lib.ListN.{length, getD, take, length-append}
 use lib.Pow.{pow-mono}
 use lib.Seq.{getD-at}
-use Rattle.bits.specs.Mask.{maskBit}
 use Rattle.code.specs.declared.Code.{Code}
 use Rattle.code.specs.Code.{codeLength}
 use Rattle.code.specs.Claims.{Coded}
 use Rattle.values.specs.Values.{maskRule}
 use Rattle.values.specs.Claims.{Within}
 use Rattle.pass_tree.proofs.Leaves.{within-leaves}
-use Rattle.flip_order.specs.Order.{magnitude}
 use Rattle.flip_trial.specs.declared.Restart.{Restart}
 use Rattle.flip_trial.specs.Trial.{firstTrial, flipRule, forcedPrefix, restartAt, laterTrial}
 use Rattle.sets.specs.declared.Search.{Search}
-use Rattle.sets.specs.Candidate.{pastLargest, magnitudes, doubtful, Candidate}
+use Rattle.sets.specs.Candidate.{pastLargest, magnitudes, Candidate}
 use Rattle.sets.specs.Tried.{leavesOf, generated}
+use Rattle.sets.proofs.Doubtful.{doubtful-most}
 use Rattle.sets_tried.proofs.Members.{past-last, generated-member}
 
 -- ---- the parts of a metric
@@ -30,15 +27,6 @@ use Rattle.sets_tried.proofs.Members.{past-last, generated-member}
 magnitudes-most : {m : ℕ} (leaves : List ℤ) → Within m leaves → (is : List ℕ) → magnitudes leaves is ≤ length is * m
 magnitudes-most leaves small [] = omega arith
 magnitudes-most {m} leaves small (i ∷ is) = omega (arith, small .at i, magnitudes-most leaves small is, suc-mul (length is) m)
-
-at-most-one : (t : Bool) → cond t 1 0 ≤ 1
-at-most-one true = omega arith
-at-most-one false = omega arith
-
-pub doubtful-most : (mask : List ℕ) (leaves : List ℤ) (n : ℕ) → doubtful mask leaves n ≤ n
-unfolding doubtful
-doubtful-most mask leaves zero = omega arith
-doubtful-most mask leaves (suc n) = omega (arith, doubtful-most mask leaves n, at-most-one (eqb (maskBit mask n) 1 && leb (magnitude leaves n) 20))
 
 -- a set's last index is its largest
 past-snoc : (is : List ℕ) (j : ℕ) → pastLargest (is ++ (j ∷ [])) ≡ suc j

@@ -16,7 +16,8 @@ use Rattle.flip_trial.specs.declared.Restart.{Restart}
 use Rattle.flip_trial.specs.declared.Restart.the-variants.{Root, Half, After}
 use Rattle.flip_run.specs.Trials.{flipOrder}
 use Rattle.flip_run.specs.WellFormed.{WellFormed}
-use Rattle.flip_decoder.specs.Decode.{planOf, decodedWith}
+use Rattle.flip_run.specs.Plan.{planOf}
+use Rattle.flip_decoder.specs.Decode.{decodedWith}
 use Rattle.flip_decoder.proofs.WellFormed.{fine-well-formed, refused-answer, description-refused, decoded-by}
 use Rattle.flip_demands.proofs.Compare.{every, flipped-are}
 use Rattle.theorems_half.specs.Half.{bySingles, ThreeDecode}

@@ -11,7 +11,7 @@ use Rattle.flip_trial.specs.Trial.{trialPasses}
 use Rattle.flip_run.specs.declared.Decoded.the-variants.{Accepted}
 use Rattle.flip_run.specs.Trials.{trials, run, answerOf}
 use Rattle.flip_run.specs.WellFormed.{WellFormed}
-use Rattle.flip_decoder.specs.Decode.{planOf}
+use Rattle.flip_run.specs.Plan.{planOf}
 use Rattle.flip_decoder.proofs.WellFormed.{well-formed-answer, answer-well-formed, decoded-by}
 use Rattle.flip_demands.proofs.Trials.{take-trials}
 use Rattle.flip_demands.proofs.Answers.{accepts-more}

@@ -30,7 +30,7 @@ module _ (mask : List ℕ) (c : Code) where
       go true later = omega (arith, skipped-half (c .n))
       go false later = omega (arith, skipped-none (c .n))
 
-  -- restarted decoding resumes past where half restart does
+  -- restarted decoding resumes at a higher index than half restart
   saves-more : (s i : ℕ) → skipped (suc s) (halfAt N i) + 1 ≤ skipped (suc s) (resumeAt mask N i)
   saves-more s i =
       let past : halfAt N i ≤ resumeAt mask N i = omega (arith, half-at-most N i) in

@@ -1,4 +1,4 @@
--- The decoders of every restart, by whatever sets: they give the same answer, each with its exact steps, or the same refusal.
+-- The decoders of every restart, by whatever sets: they answer the same, each with its exact steps, or refuse the same.
 use mathlib.Core.Path.{_≡_, refl, sym, ap, _∙_}
 use mathlib.Core.Bool.{Bool}
 use mathlib.Core.Logic.{_⊎_, inl, inr, ⊎-elim}
@@ -21,12 +21,12 @@ use Rattle.flip_trial.specs.Trial.{lowest}
 use Rattle.flip_run.specs.declared.Decoded.{Decoded}
 use Rattle.flip_run.specs.declared.Decoded.the-variants.{Refused}
 use Rattle.flip_demands.specs.Demand3.{skippedOver}
-use Rattle.flip_demands.proofs.Compare.{EveryRestart}
+use Rattle.flip_demands.specs.Claims.{EveryRestart}
 use Rattle.flip_demands.proofs.Demand3.{skipped-root, after, skipped-after}
 use Rattle.theorems_half.specs.Half.{SameRefusal, inSecondHalf, SameAnswer}
 use Rattle.theorems_half.proofs.Steps.{skipped-by-half, half-saves-less}
 
--- the same answer, with outputs of a size that fits
+-- one answer, with outputs of a size that fits
 pub same-answer : {mask : List ℕ} {c : Code} {sets : List (List ℕ)} {Fitting : List ℕ → Type 0} {answer answer′ : Restart → List ℕ → Decoded × List ℕ} {size : ℕ}
     → ((r : Restart) (o : List ℕ) → answer r o ≡ answer′ r o) → (x : EveryRestart mask c sets Fitting answer′) → ((o : List ℕ) → length o ≡ size → Fitting o) → 1 ≤ c .n → (lowests : List ℕ)
     → map lowest (take (x .made - 1) sets) ≡ take (x .made - 1) lowests → SameAnswer mask c lowests answer size
@@ -53,7 +53,7 @@ restarted-fewer {mask} {c} {lowests} above a =
     let is : List ℕ = take (a .made - 1) lowests in
     omega (arith, a .each, a .half-steps, a .restarted-steps, half-saves-less mask c above is, skipped-by-half mask c is, skipped-after mask c is)
 
--- or the same refusal: the tests before 16 read no restart, and of an output its size alone
+-- or one refusal: the tests before 16 read no restart, and of an output its size alone
 module _ (d : List ℕ) (size : ℕ) (answer : Restart → List ℕ → Decoded × List ℕ) (tests : Code → ℕ → List (Bool × Refusal))
     (no-code : (restart : Restart) (o : List ℕ) (r : Refusal) → describe d ≡ NoCode r → answer restart o ≡ (Refused r, o))
     (refused : (restart : Restart) (o : List ℕ) (c : Code) → describe d ≡ Coding c → (r : Refusal) → judge (tests c (length o)) ≡ Refusing r → answer restart o ≡ (Refused r, o)) where

@@ -24,18 +24,19 @@ use Rattle.flip_demands.specs.Demand3.{skippedOver}
 use Rattle.sets.specs.Tried.{flipSets}
 use Rattle.sets.specs.DecodeSets.{searchOf, setsFull, setsHalf, setsRestarted}
 
--- the three decoders by single flips, each at its restart, and those by sets
+-- the three decoders by single flips, each at its restart
 abbrev pub bySingles : List ℕ → List ℕ → ℕ → Restart → List ℕ → Decoded × List ℕ
 bySingles d channel limit Root output = decodedFull d channel limit output
 bySingles d channel limit Half output = decodedHalf d channel limit output
 bySingles d channel limit After output = decodedRestarted d channel limit output
 
+-- the three decoders by sets, each at its restart
 abbrev pub bySets : List ℕ → List ℕ → ℕ → ℕ → Restart → List ℕ → Decoded × List ℕ
 bySets d channel w limit Root output = setsFull d channel w limit output
 bySets d channel w limit Half output = setsHalf d channel w limit output
 bySets d channel w limit After output = setsRestarted d channel w limit output
 
--- Below, `answer` is what each decoder answers to one input, each call with an output of its own, of `size` bytes, whatever they are.
+-- Below, `answer` is the answer of each decoder to one input. Each call has its own output of `size` bytes, whatever they are.
 
 -- one refusal before 16, and each output as it was
 abbrev pub SameRefusal : (Restart → List ℕ → Decoded × List ℕ) → ℕ → Type 0
@@ -46,20 +47,23 @@ abbrev pub inSecondHalf : ℕ → List ℕ → ℕ
 inSecondHalf N [] = 0
 inSecondHalf N (i ∷ is) = cond (leb (N / 2) i) 1 0 + inSecondHalf N is
 
--- `made` trials are made; the first index of `lowests` is the lowest that trial 2 flips, and so on; `steps` are what each restart reports
+-- The three decoders agree but for the steps. The first index of `lowests` is the lowest that trial 2 flips, and so on.
 pub record SameAnswer (mask : List ℕ) (c : Code) (lowests : List ℕ) (answer : Restart → List ℕ → Decoded × List ℕ) (size : ℕ) : Type 0 where
+  -- the trials that each makes
   pub made : ℕ
+  -- the steps that each restart reports
   pub steps : Restart → ℕ
   -- one index for each trial made after the first
   pub each : length (take (made - 1) lowests) + 1 ≡ made
-  -- the same trial number with the same payload, or refusal 16 with the same number of trials made, and each output as it was
+  -- one trial number with one payload; or refusal 16 with one number of trials made, and each output as it was
   pub answers :
       ((payload : List ℕ) × ((restart : Restart) (output : List ℕ) → length output ≡ size → answer restart output ≡ (Accepted made (steps restart), payload)))
       ⊎ ((restart : Restart) (output : List ℕ) → length output ≡ size → answer restart output ≡ (Failed made (steps restart), output))
-  -- full decoding takes n × N steps for each trial; half restart n × N/2 fewer for each trial whose lowest index lies in the second half;
-  -- restarted decoding fewer by demand 3's sum
+  -- full decoding takes n × N steps for each trial
   pub full-steps : steps Root ≡ made * c .n * codeLength c
+  -- half restart takes n × N/2 fewer for each trial whose lowest index lies in the second half
   pub half-steps : steps Root ≡ steps Half + inSecondHalf (codeLength c) (take (made - 1) lowests) * (c .n * (codeLength c / 2))
+  -- restarted decoding takes fewer by demand 3's sum
   pub restarted-steps : steps Root ≡ steps After + skippedOver (c .n) (map (resumeAt mask (codeLength c)) (take (made - 1) lowests))
   -- restarted ≤ half restart ≤ full
   pub restarted-least : steps After ≤ steps Half
@@ -72,10 +76,11 @@ ThreeDecode =
     → let answer = bySingles d channel limit in
     SameRefusal answer size ⊎ ((c : Code) × (describe d ≡ Coding c) × SameAnswer (maskOf d) c (flipOrder (maskOf d) c (channelValues channel)) answer size)
 
--- flip sets, likewise; every decoder tries those of full decoding (`same-sets` of sets_tried/proofs/Same.antt)
+-- flip sets, for any input at all; every decoder tries those of full decoding (`same-sets` of sets_tried/proofs/Same.antt)
 abbrev pub ThreeDecodeSets : Type 0
 ThreeDecodeSets =
     (d channel : List ℕ) (w limit size : ℕ)
     → let answer = bySets d channel w limit in
     SameRefusal answer size
-    ⊎ ((c : Code) × (describe d ≡ Coding c) × SameAnswer (maskOf d) c (map lowest (flipSets (searchOf Root w limit) (maskOf d) c (channelValues channel))) answer size)
+    ⊎ ((c : Code) × (describe d ≡ Coding c)
+    × SameAnswer (maskOf d) c (map lowest (flipSets (searchOf Root w limit) (maskOf d) c (channelValues channel))) answer size)

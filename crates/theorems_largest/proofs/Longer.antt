@@ -26,7 +26,8 @@ use Rattle.pass_resume.specs.declared.Resumed.the-variants.{Refused as NotResum
 use Rattle.pass_resume.specs.Resume.{resumedBy, resumed}
 use Rattle.flip_trial.specs.declared.Restart.the-variants.{Root, Half, After}
 use Rattle.flip_run.specs.declared.Decoded.the-variants.{Refused as NotDecoded}
-use Rattle.flip_decoder.specs.Decode.{decodedBy, decodedWith, planOf}
+use Rattle.flip_run.specs.Plan.{planOf}
+use Rattle.flip_decoder.specs.Decode.{decodedBy, decodedWith}
 use Rattle.sets.specs.DecodeSets.{setsBy, setsWith, searchOf}
 use Rattle.theorems_largest.specs.Longer.{SameAnswers, OldAnswers}
 use Rattle.theorems_largest.specs.Claims.{NewAnswer, AnswersAs}

@@ -17,7 +17,8 @@ use Rattle.pass_tree.specs.Node.{node}
 use Rattle.pass_tree.specs.Claims.{most, worked}
 use Rattle.pass_resume.specs.Resume.{resumedUpTo, resumed}
 use Rattle.flip_trial.specs.declared.Restart.the-variants.{Root, Half, After}
-use Rattle.flip_decoder.specs.Decode.{decodedUpTo, planOf, decodedFull, decodedHalf, decodedRestarted}
+use Rattle.flip_run.specs.Plan.{planOf}
+use Rattle.flip_decoder.specs.Decode.{decodedUpTo, decodedFull, decodedHalf, decodedRestarted}
 use Rattle.sets.specs.DecodeSets.{setsUpTo, searchOf, setsFull, setsHalf, setsRestarted}
 
 -- Bytes whose answer a larger n changes: they are refused as 4 with n up to `small`, and not with n up to `large`, and their n lies between.

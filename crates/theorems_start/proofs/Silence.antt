@@ -45,7 +45,8 @@ use Rattle.flip_trial.specs.Trial.{firstTrial, messageIn, trialPasses}
 use Rattle.flip_run.specs.declared.Decoded.the-variants.{Accepted, Failed}
 use Rattle.flip_run.specs.Trials.{run, trials, answerOf}
 use Rattle.flip_run.specs.WellFormed.{WellFormed}
-use Rattle.flip_decoder.specs.Decode.{planOf, decodedWith}
+use Rattle.flip_run.specs.Plan.{planOf}
+use Rattle.flip_decoder.specs.Decode.{decodedWith}
 use Rattle.flip_decoder.proofs.WellFormed.{well-formed-answer, decoded-by}
 use Rattle.flip_demands.specs.Claims.{PassedAt}
 use Rattle.flip_demands.proofs.Run.{run-first}

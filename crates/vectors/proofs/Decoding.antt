@@ -4,6 +4,7 @@ use mathlib.Core.List.{List, [], _∷_}
 use Prim.Native.Nat.{ℕ}
 use Rattle.laws.specs.First.{firstWhere}
 use Rattle.laws.specs.Table.{table}
+use Rattle.laws.specs.Insert.{insertBy, sortBy}
 use Rattle.refusal.specs.declared.Refusal.the-variants.{Alone, At}
 use Rattle.refusal.specs.Judge.{judge, refusedOr}
 use Rattle.bits.specs.Bit.{number}
@@ -16,7 +17,7 @@ use Rattle.placing.specs.Place.{taken}
 use Rattle.values.specs.Values.{f, g, leftValues, rightValues}
 use Rattle.channel.specs.Channel.{channelValue, channelValues}
 use Rattle.pass_tree.specs.Node.{node}
-use Rattle.flip_order.specs.Order.{information, insert, ordered}
+use Rattle.flip_order.specs.Order.{information}
 use Rattle.flip_run.specs.declared.Decoded.{Decoded}
 use Rattle.flip_run.specs.declared.Decoded.the-variants.{Accepted, Failed, Refused}
 use Rattle.flip_run.specs.Trials.{flipOrder, run}
@@ -52,5 +53,5 @@ StarredDecoding byte =
     (flipOrder (maskOf D) (starredCode 3) (channelValues (starredV 2)) ≡ 5 ∷ 3 ∷ 6 ∷ 7 ∷ []) × Rows (decodedFull D) 48 (byte ∷ []) × Rows (decodedRestarted D) 32 (byte ∷ [])
 
 pub starred-decoding : (byte : ℕ) → StarredDecoding byte
-unfolding judge refusedOr table number onesBelow packed describeUpTo checkOf covers parity transformed xors taken channelValue f g leftValues rightValues firstWhere node information insert ordered run decodedBy decodedWith
+unfolding judge refusedOr table number onesBelow packed describeUpTo checkOf covers parity transformed xors taken channelValue f g leftValues rightValues firstWhere node information insertBy sortBy run decodedBy decodedWith
 starred-decoding byte = (refl, (refl, refl, refl, refl, refl, refl, refl, refl, refl, refl), (refl, refl, refl, refl, refl, refl, refl, refl, refl, refl))

@@ -9,6 +9,7 @@ use native.Mathlib.Omega.{arith}
 use lib.ListN.{take}
 use Rattle.laws.specs.First.{firstWhere}
 use Rattle.laws.specs.Table.{table}
+use Rattle.laws.specs.Insert.{insertBy, sortBy}
 use Rattle.refusal.specs.declared.Refusal.the-variants.{Alone}
 use Rattle.refusal.specs.Judge.{judge, refusedOr}
 use Rattle.bits.specs.Bit.{number}
@@ -24,7 +25,7 @@ use Rattle.values.specs.Values.{f, g, leftValues, rightValues}
 use Rattle.channel.specs.Channel.{channelValue, channelValues, firstOutside}
 use Rattle.pass_tree.specs.Node.{node}
 use Rattle.pass_tree.specs.Skipped.{skipped}
-use Rattle.flip_order.specs.Order.{information, insert, ordered}
+use Rattle.flip_order.specs.Order.{information}
 use Rattle.flip_trial.specs.declared.Restart.{Restart}
 use Rattle.flip_trial.specs.declared.Restart.the-variants.{Root, Half, After}
 use Rattle.flip_trial.specs.Trial.{lowest, resumeAt}
@@ -33,14 +34,14 @@ use Rattle.flip_run.specs.declared.Decoded.the-variants.{Accepted, Failed, Refu
 use Rattle.flip_run.specs.Trials.{flipOrder, run}
 use Rattle.flip_decoder.specs.Decode.{decodedBy, decodedWith, decodedFull, decodedHalf, decodedRestarted}
 use Rattle.flip_demands.specs.Demand3.{skippedOver}
-use Rattle.sets.specs.Candidate.{doubtful, extensions, insert as insertSet, insertEach}
+use Rattle.flip_demands.specs.Claims.{Sent}
+use Rattle.sets.specs.Candidate.{doubtful, extensions, insertEach}
 use Rattle.sets.specs.Tried.{tried, flipSets}
 use Rattle.sets.specs.DecodeSets.{mostLimit, searchOf, setsBy, setsWith, setsFull, setsHalf, setsRestarted}
 use Rattle.sets.specs.WellFormed.{WellFormed as WellFormedSets}
 use Rattle.sets.proofs.Examples.{wideD, wideCode}
 use Rattle.sets_demands.proofs.Larger.{stays-accepted as sets-stay}
 use Rattle.theorems_half.specs.Half.{inSecondHalf, SameAnswer}
-use Rattle.theorems_half.specs.Claims.{Sent}
 use Rattle.theorems_half.proofs.Half.{three-decode}
 use Rattle.theorems_half.proofs.Sets.{three-decode-sets}
 use Rattle.theorems_half.proofs.Larger.{stays-accepted}
@@ -88,7 +89,7 @@ pub record HalfExamples (byte : ℕ) : Type 0 where
       × (setsHalf middleD middlePairV 4 7 (byte ∷ []) ≡ (Refused (Alone 26), byte ∷ []))
 
 pub half-examples : (byte : ℕ) → HalfExamples byte
-unfolding judge refusedOr table number onesBelow packed describeUpTo checkOf covers parity transformed xors taken channelValue f g leftValues rightValues firstWhere node information insert ordered run decodedBy decodedWith doubtful extensions insertSet insertEach tried setsBy setsWith
+unfolding judge refusedOr table number onesBelow packed describeUpTo checkOf covers parity transformed xors taken channelValue f g leftValues rightValues firstWhere node information insertBy sortBy run decodedBy decodedWith doubtful extensions insertEach tried setsBy setsWith
 half-examples byte = record {
   described = refl;
   by-single-flips = (refl, refl, refl, refl, refl, refl, refl);

@@ -13,6 +13,7 @@ use Rattle.laws.specs.First.{firstWhere}
 use Rattle.laws.specs.Table.{table}
 use Rattle.laws.proofs.Each.{Each, each-append}
 use Rattle.laws.proofs.Table.{getD-table}
+use Rattle.laws.specs.Insert.{insertBy, sortBy}
 use Rattle.refusal.specs.Judge.{judge, refusedOr}
 use Rattle.arrays.specs.Sizes.{deepest}
 use Rattle.bits.specs.Bit.{number}
@@ -26,7 +27,7 @@ use Rattle.values.specs.Values.{hard, f, g, leftValues, rightValues}
 use Rattle.channel.specs.Channel.{channelValue, channelValues, firstOutside}
 use Rattle.channel.proofs.Outside.{each-inside}
 use Rattle.pass_tree.specs.Node.{node}
-use Rattle.flip_order.specs.Order.{information, insert, ordered}
+use Rattle.flip_order.specs.Order.{information}
 use Rattle.flip_run.specs.declared.Decoded.the-variants.{Accepted, Failed}
 use Rattle.flip_run.specs.Trials.{run}
 use Rattle.flip_run.specs.WellFormed.{WellFormed}
@@ -66,7 +67,7 @@ Neither byte v =
     (decodedFull wideD v 5 (byte ∷ []) ≡ (Failed 5 120, byte ∷ [])) × (decodedRestarted wideD v 5 (byte ∷ []) ≡ (Failed 5 50, byte ∷ []))
 
 pub neither-decodes : (byte : ℕ) → Neither byte firstV × Neither byte secondV
-unfolding firstWhere table judge refusedOr number onesBelow packed describeUpTo checkOf covers parity transformed xors taken f g leftValues rightValues channelValue node information insert ordered run decodedBy decodedWith
+unfolding firstWhere table judge refusedOr number onesBelow packed describeUpTo checkOf covers parity transformed xors taken f g leftValues rightValues channelValue node information insertBy sortBy run decodedBy decodedWith
 neither-decodes byte = ((refl, refl), (refl, refl))
 
 -- another frame is heard and cleared; then both hearings, and between them a vector that is too short, and one with a value out of range

@@ -6,6 +6,7 @@ use native.Mathlib.Omega.{arith}
 use lib.ListN.{take, replicate}
 use Rattle.laws.specs.First.{firstWhere}
 use Rattle.laws.specs.Table.{table}
+use Rattle.laws.specs.Insert.{insertBy, sortBy}
 use Rattle.refusal.specs.declared.Refusal.the-variants.{Alone}
 use Rattle.refusal.specs.Judge.{judge, refusedOr}
 use Rattle.bits.specs.Bit.{number}
@@ -21,7 +22,7 @@ use Rattle.placing.specs.Place.{taken}
 use Rattle.values.specs.Values.{f, g, leftValues, rightValues}
 use Rattle.channel.specs.Channel.{channelValue}
 use Rattle.pass_tree.specs.Node.{node}
-use Rattle.flip_order.specs.Order.{information, insert, ordered}
+use Rattle.flip_order.specs.Order.{information}
 use Rattle.flip_run.specs.declared.Decoded.the-variants.{Accepted, Failed}
 use Rattle.flip_run.specs.Trials.{run}
 use Rattle.flip_run.specs.WellFormed.{WellFormed}
@@ -79,7 +80,7 @@ silent-at-1 byte = silence-fails (D4 1) code4 (byte ∷ []) describes (omega ari
 
 -- with T = 2 it is accepted on trial 2, by computation: a start does not keep later trials from accepting silence
 pub heard-at-2 : (byte : ℕ) → (decodedFull (D4 1) (silence code4) 2 (byte ∷ []) ≡ (Accepted 2 48, 0x80 ∷ [])) × (decodedRestarted (D4 1) (silence code4) 2 (byte ∷ []) ≡ (Accepted 2 35, 0x80 ∷ []))
-unfolding judge refusedOr table number onesBelow packed describeUpTo checkOf covers parity transformed xors taken channelValue f g leftValues rightValues firstWhere node information insert ordered run decodedBy decodedWith
+unfolding judge refusedOr table number onesBelow packed describeUpTo checkOf covers parity transformed xors taken channelValue f g leftValues rightValues firstWhere node information insertBy sortBy run decodedBy decodedWith
 heard-at-2 byte = (refl, refl)
 
 -- demand 3 under it, for every T that 14 allows
@@ -96,5 +97,5 @@ abbrev silent : ℕ → List ℕ
 silent T = 0x0E ∷ 0x00 ∷ 0x02 ∷ 0x00 ∷ T ∷ 0x00 ∷ replicate 8 0
 
 pub example-4 : printed (D ++ (silent 1 ++ (D4 1 ++ (silent 1 ++ (silent 2 ++ (D4 2 ++ silent 1)))))) ≡ text "code 8 3 1\nok 1 24 00\ncode 8 3 1\nno 16\nok 2 35 80\nno 25\nno 16\nend 7\n"
-unfolding judge refusedOr table number onesBelow packed describeUpTo checkOf covers parity transformed xors taken channelValue f g leftValues rightValues firstWhere node information insert ordered run decodedBy decodedWith decimalIn descriptionResponse decodingLine channelLine responded recordsIn responses printedFrom
+unfolding judge refusedOr table number onesBelow packed describeUpTo checkOf covers parity transformed xors taken channelValue f g leftValues rightValues firstWhere node information insertBy sortBy run decodedBy decodedWith decimalIn descriptionResponse decodingLine channelLine responded recordsIn responses printedFrom
 example-4 = refl

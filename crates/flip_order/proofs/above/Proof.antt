@@ -9,7 +9,7 @@ use Rattle.flip_order.specs.Contracts.{noKey, above}
 use Rattle.flip_order.proofs.above.Statement.{statement}
 use Rattle.flip_order.proofs.above.Tie as tie
 
--- the choice by what the machine's test gives
+-- the choice by the machine's test
 chosen : (s : tie.Start) {t : Bool} → ltZ (back w32 (s .args .last)) (back w32 (s .args .key)) ≡ t → cond t (s .args .key) (pos noKey) ≡ above (s .args .last) (s .args .key)
 chosen s e =
     ap (λ (t : Bool). cond t (s .args .key) (pos noKey)) (sym e ∙ less-is w32 _ _ (s .fits .last) (s .fits .key))

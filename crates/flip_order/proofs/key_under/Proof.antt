@@ -15,7 +15,7 @@ use Rattle.flip_order.proofs.Keys.{key-under, none-under}
 use Rattle.flip_order.proofs.key_under.Statement.{statement}
 use Rattle.flip_order.proofs.key_under.Tie as tie
 
--- the machine's product and sum, where its magnitude of the value is r
+-- the machine's product and sum, if its magnitude of the value is r
 module _ {mask : List ℕ} {value : ℤ} {i : ℕ} (p : KeyPre mask value i) (fits : SFits w32 value) {r : ℤ} (e : r ≡ pos (natAbs (back w32 value))) where
   magnitude-is : back w32 r ≡ pos (natAbs value)
   magnitude-is =

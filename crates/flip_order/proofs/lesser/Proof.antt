@@ -8,7 +8,7 @@ use Rattle.flip_order.specs.Contracts.{lesser}
 use Rattle.flip_order.proofs.lesser.Statement.{statement}
 use Rattle.flip_order.proofs.lesser.Tie as tie
 
--- the choice by what the machine's test gives
+-- the choice by the machine's test
 chosen : (s : tie.Start) {t : Bool} → ltZ (back w32 (s .args .a)) (back w32 (s .args .b)) ≡ t → cond t (s .args .a) (s .args .b) ≡ lesser (s .args .a) (s .args .b)
 chosen s e =
     ap (λ (t : Bool). cond t (s .args .a) (s .args .b)) (sym e ∙ less-is w32 _ _ (s .fits .a) (s .fits .b))

@@ -13,7 +13,8 @@ use Rattle.code.specs.declared.Code.{Code}
 use Rattle.code.specs.Code.{codeLength}
 use Rattle.code.specs.Description.{describe}
 use Rattle.flip_trial.specs.declared.Restart.the-variants.{After}
-use Rattle.flip_decoder.specs.Decode.{planOf, decodedWith}
+use Rattle.flip_run.specs.Plan.{planOf}
+use Rattle.flip_decoder.specs.Decode.{decodedWith}
 use Rattle.hearing.specs.Hearing.{clippedSums, addedTo}
 use Rattle.hearing.specs.Contracts.{AddPre}
 use Rattle.hearing_state.specs.declared.State.{State}

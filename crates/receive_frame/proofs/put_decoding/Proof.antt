@@ -18,7 +18,8 @@ use Rattle.code.specs.Description.{describe, onDescription}
 use Rattle.code.specs.Claims.{Coded, Described}
 use Rattle.code.proofs.Facts.{described}
 use Rattle.flip_trial.specs.declared.Restart.the-variants.{After}
-use Rattle.flip_decoder.specs.Decode.{planOf, decodedBy, decodedRestarted}
+use Rattle.flip_run.specs.Plan.{planOf}
+use Rattle.flip_decoder.specs.Decode.{decodedBy, decodedRestarted}
 use Rattle.flip_decoder.proofs.WellFormed.{decoded-by}
 use Rattle.receive_lines.specs.Line.{noLine}
 use Rattle.receive_lines.proofs.Putting.{put-as}

@@ -1,0 +1,11 @@
+-- What the theorems of this crate, and of the decoders, state of the answer to a run of trials.
+use mathlib.Core.Bool.{Bool, true, false}
+use Rattle.flip_run.specs.declared.Decoded.{Decoded}
+use Rattle.flip_run.specs.declared.Decoded.the-variants.{Accepted, Failed, Refused}
+
+-- whether an answer comes from a run of trials: no refusal before 16. The input of a decoder is well-formed exactly if its answer does:
+-- `well-formed-exactly` of flip_decoder/proofs/WellFormed.antt and of sets/proofs/WellFormed.antt.
+abbrev pub ofRun : Decoded → Bool
+ofRun (Accepted trial steps) = true
+ofRun (Failed made steps) = true
+ofRun (Refused x) = false
