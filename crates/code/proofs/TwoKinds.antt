@@ -20,7 +20,7 @@ use Rattle.code.specs.Description.{word, hasStart, maskAt, maskOf, isWid
 use Rattle.code.specs.Claims.{kind1Refusals, kind1Code, describeKind1, kind4Refusals, kind4Code, describeKind4, withStart}
 use Rattle.code.specs.Contracts.{descriptionRefusals}
 
--- where a mask can stand
+-- the least and the largest index at which a mask begins
 pub mask-at-least : (kind : ℕ) → 8 ≤ maskAt kind
 mask-at-least kind = go (hasStart kind)
   where
@@ -35,7 +35,7 @@ mask-at-most kind = go (hasStart kind)
     go true = omega arith
     go false = omega arith
 
--- past refusal 1 the fields of kind 1 are there
+-- a slice that is not refused as 1 has the fields of kind 1
 pub fields-there : (d : List ℕ) → maskAt (word d 2) ≤ length d → 8 ≤ length d
 fields-there d header = omega (arith, mask-at-least (word d 2))
 
@@ -105,6 +105,6 @@ start-0 d header kind =
     let one : eqb (word d 2) 1 ≡ true = eq-eqb (word d 2) 1 kind in
     rw (t1, t2, t5, none, one)
 
--- and the mask is the same
+-- both have one mask
 pub same-mask : (start : ℕ) (d : List ℕ) → word d 2 ≡ 1 → maskOf (withStart start d) ≡ maskOf d
 same-mask start d kind = sym (ap (λ (k : ℕ). drop (maskAt k) d) kind)

@@ -26,8 +26,8 @@ pub record Laid (d : List ℕ) : Type 0 where
   pub n-most : getD d 4 0 ≤ deepest
   pub size : length d ≡ maskAt (word d 2) + 2 ^ getD d 4 0 / 8
 
--- document 01, "Code description", with document 02, request 2.1: refusals 1 to 7, 25 and 8 in turn do not apply. `well-formed-exactly` of
--- proofs/WellFormed.antt: a description is accepted exactly there.
+-- refusals 1 to 7, 25 and 8 in turn do not apply. `well-formed-exactly` of proofs/WellFormed.antt: a description is accepted exactly if it is
+-- well-formed.
 pub record WellFormed (d : List ℕ) : Type 0 where
   pub laid : Laid d
   pub r-least : 1 ≤ getD d 5 0
@@ -37,12 +37,13 @@ pub record WellFormed (d : List ℕ) : Type 0 where
   pub start-fits : startOf d < 2 ^ getD d 5 0
   pub K-least : getD d 5 0 + 1 ≤ onesIn (maskOf d)
 
+-- whether a description is accepted
 abbrev pub accepts : Description → Bool
 accepts (Accepted c) = true
 accepts (Refused x) = false
 
--- d describes a code, and the rest of a call's input is well-formed under it, as W says. An operation that takes a description accepts
--- exactly there: `well-formed-exactly` of each.
+-- d describes a code, and the rest of a call's input is well-formed under it, which W says. An operation that takes a description accepts exactly
+-- this input: `well-formed-exactly` of each.
 pub record WellFormedUnder (d : List ℕ) (W : Code → Type 0) : Type 0 where
   pub code : Code
   pub describes : describe d ≡ Accepted code
@@ -60,7 +61,7 @@ pub record Coded (mask : List ℕ) (c : Code) : Type 0 where
   pub K-is : onesIn mask ≡ informationCount c
   pub K-most : informationCount c ≤ codeLength c
 
--- the same of the description d, with its polynomial: `described` of proofs/Facts.antt
+-- a code under the mask of the description d, and its polynomial: `described` of proofs/Facts.antt
 pub record Described (d : List ℕ) (c : Code) : Type 0 where
   pub coded : Coded (maskOf d) c
   pub polynomial-odd : bit (c .polynomial) 0 ≡ 1
@@ -115,7 +116,7 @@ abbrev pub describeKind4 : List ℕ → Description
 describeKind4 d = refusedOr (judge (kind4Refusals d)) Refused (Accepted (kind4Code d))
 
 -- the record of kind 4 with the fields and the mask of the record d of kind 1, and a start value. `start-0`: with start 0 it has the answer
--- to d, where d has the 8 bytes of its fields.
+-- to d, if d has the 8 bytes of its fields.
 abbrev pub withStart : ℕ → List ℕ → List ℕ
 withStart start d =
     let size = word d 0 + 2 in

@@ -1,4 +1,4 @@
--- Document 01, "Code description", and document 02, request 2.1: the numbers of a code. Its n, r, polynomial, start and k are fields of `Code`.
+-- Document 01, "Code description": the numbers of a code. Its n, r, polynomial, start and k are fields of `Code`.
 use mathlib.Core.List.{List}
 use Prim.Native.Nat.{ℕ, _+_, _^_}
 use Rattle.bits.specs.Bit.{bitsOf}

@@ -12,18 +12,25 @@ ghost use Rattle.code.specs.Description.{word, hasStart, isDescription, 
 ghost use Rattle.code.specs.Claims.{Laid};
 ghost use Rattle.code.specs.Contracts.{descriptionRefusals, pastFields};
 
-// A code of length 2^n with r check bits and k payload bits. The check is by a polynomial and from a start value.
+// The numbers of a code.
 pub struct Code {
+    // Its length is 2^n.
     pub n: u32,
+    // How many check bits it has.
     pub r: u32,
+    // The check polynomial without z^r: bit i is the coefficient of z^i.
     pub polynomial: u32,
+    // The start value of the check.
     pub start: u32,
+    // How many payload bits it has.
     pub k: usize,
 }
 
-// What a record describes: a code, or the refusal.
+// What a record describes.
 pub enum Description {
+    // A code.
     Accepted(Code),
+    // No code: the refusal.
     Refused(Refusal),
 }
 
@@ -57,7 +64,7 @@ pub fn is_description(kind: u32) -> bool
     kind == 1 || has_start(kind)
 }
 
-// Where the mask stands in a description of a kind.
+// The index of the first byte of the mask, in a description of a kind.
 fn mask_at(kind: u32) -> usize
     ensures { λ at. ⌜ at ≡ maskAt kind ⌝ }
 {
@@ -76,7 +83,7 @@ pub fn mask_of(d: &[u8]) -> &[u8]
     &d[at..]
 }
 
-// The start value of a description, 0 where its kind has none.
+// The start value of a description; 0 if its kind has none.
 fn start_of(d: &[u8]) -> u32
     requires { ⌜ maskAt (word (now d) 2) ≤ length (now d) ⌝ }
     ensures { λ s. ⌜ s ≡ startOf (now (d .entry)) ⌝ }
@@ -109,7 +116,7 @@ fn is_bad_polynomial(p: u32, r: u32) -> bool
     p & 1 == 0 || is_wide(p, r)
 }
 
-// Whether there are fewer bytes than the fields of the kind take.
+// Whether a slice has fewer bytes than the fields of its kind.
 fn is_short(d: &[u8]) -> bool
     ensures { λ b. ⌜ b ≡ ltb (length (now (d .entry))) (maskAt (word (now (d .entry)) 2)) ⌝ }
 {
@@ -158,7 +165,7 @@ fn judge_check(d: &[u8]) -> Judgement
     Judgement::Fine
 }
 
-// Past the refusals of all fields: refusal 8, or the code.
+// The answer if no field is refused: refusal 8, or the code.
 fn read_code(d: &[u8]) -> Description
     requires { ⌜ Laid (now d) ⌝ }
     ensures { λ a. ⌜ a ≡ pastFields (now (d .entry)) ⌝ }

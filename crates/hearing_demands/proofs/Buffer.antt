@@ -58,7 +58,7 @@ module _ (d : List ℕ) (c : Code) (code : describe d ≡ Coding c) where
       go Fine e = written k
       go (Refused x) e = record { size = nb; reads = sym (same x e) }
 
-  -- the next call on the same buffer
+  -- the next call on this buffer
   step : {b : List ℕ} {s : State} {vectors : List (List ℕ)} (calls : List Call)
       → ((b : List ℕ) (vectors : List (List ℕ)) → length b ≡ hearingSize → Invariant d c code (stateIn b) vectors → stateIn (bufferAfter b calls) ≡ after (stateIn b) calls)
       → InBuffer b s → Invariant d c code s vectors → stateIn (bufferAfter b calls) ≡ after s calls

@@ -43,7 +43,7 @@ use Rattle.hearing_demands.proofs.Descriptions.{opened-is}
 use Rattle.hearing_demands.proofs.Adding.{Inside, none-outside, each-zero, zeros-inside, fresh-is, zeros-hearing}
 use Rattle.hearing_demands.proofs.HeldAfter.{room, added-fine}
 
--- ---- adds where zeros are held
+-- ---- adds to zeros
 
 clip-same : (z : ℤ) → natAbs z ≤ 31 → clip z ≡ z
 clip-same (pos n) l = let e : min 31 n ≡ n = omega arith in ap pos e

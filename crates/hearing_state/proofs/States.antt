@@ -1,4 +1,4 @@
--- What a state says that is not refused as 40.
+-- What is true of a state that is not refused as 40.
 use mathlib.Core.Path.{_≡_, refl, ap, _∙_, subst}
 use mathlib.Core.Bool.{Bool, true, false, cond}
 use Prim.Native.Nat.{ℕ, _≤_}

@@ -16,7 +16,7 @@ use Rattle.hearing_state.specs.State.{longestDescription, recordIn}
 abbrev pub stateBy : List ℕ → ℕ → List ℕ → State
 stateBy description count values = record { description = description; hearing = hearingBy count values }
 
--- such arrays
+-- arrays of the sizes that a state has
 pub record StatePre (description values : List ℕ) : Type 0 where
   pub description-size : length description ≡ longestDescription
   pub values-size : length values ≡ 2 ^ deepest

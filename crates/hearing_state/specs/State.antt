@@ -32,11 +32,11 @@ longestDescription = 10 + 2 ^ deepest / 8
 abbrev pub stateOf : List ℕ → Hearing → State
 stateOf d h = record { description = padded longestDescription d; hearing = h }
 
--- no state: it has no description, so that every call refuses it as 40
+-- no state: it has no description, so every call refuses it as 40
 abbrev pub noState : State
 noState = stateOf [] fresh
 
--- the record at the beginning of some bytes: as many as its length field says, or all where there are fewer
+-- the record at the beginning of some bytes: as many as its length field says, or all if there are fewer
 abbrev pub recordIn : List ℕ → List ℕ
 recordIn bytes = take (word bytes 0) bytes
 
@@ -44,11 +44,11 @@ recordIn bytes = take (word bytes 0) bytes
 abbrev pub descriptionOf : State → List ℕ
 descriptionOf s = recordIn (s .description)
 
--- whether some calls leave such a state: zeros follow its description, and its hearing is one under its code c
+-- whether a list of calls can leave this state: only zeros after its description, and a hearing that is possible under code c
 abbrev pub isState : Code → State → Bool
 isState c s = allZero (drop (length (descriptionOf s)) (s .description)) && isHearing c (s .hearing)
 
--- the code of a state, or refusal 40, this codec's own: no list of calls leaves such a state
+-- the code of a state, or refusal 40, which is this codec's own: no list of calls leaves the state
 abbrev pub codeOfState : State → Description
 codeOfState s =
     onDescription (describe (descriptionOf s)) (λ x. Refused (Alone 40)) (λ c. cond (isState c s) (Accepted c) (Refused (Alone 40)))
@@ -61,7 +61,7 @@ heard j s = record { judgement = j; state = s }
 abbrev pub refusedIn : State → Refusal → Heard
 refusedIn s x = heard (judgement.Refused x) s
 
--- what a state becomes with another hearing
+-- a state with another hearing in the place of its hearing
 abbrev pub withHearing : State → Hearing → State
 withHearing s h = record { description = s .description; hearing = h }
 
@@ -89,8 +89,10 @@ hearingWith plan s output =
     onDescription (codeOfState s) (λ x. (decode.Refused x, output))
     (λ c. decodedWith plan (descriptionOf s) (combined c (s .hearing)) output)
 
+-- with each later trial repeated from the root
 abbrev pub hearingFull : State → ℕ → List ℕ → Decoded × List ℕ
 hearingFull s limit output = hearingWith (planOf Root limit) s output
 
+-- with each later trial resumed after its flipped index
 abbrev pub hearingRestarted : State → ℕ → List ℕ → Decoded × List ℕ
 hearingRestarted s limit output = hearingWith (planOf After limit) s output

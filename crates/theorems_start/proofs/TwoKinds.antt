@@ -24,7 +24,7 @@ module _ {X : Type 0} (refuse : Refusal → X) (go : List ℕ → Code → X) wh
   abbrev operation : Description → List ℕ → X
   operation x mask = onDescription x refuse (go mask)
 
-  -- under a slice that does not say kind 4 it is what document 01 says; `go′` is `go` under the mask from byte 8 on, where the start is 0
+  -- under a slice that does not say kind 4 it is what document 01 says; `go′` is `go` under the mask from byte 8 on, if the start is 0
   under-kind-1 : (d : List ℕ) → (word d 2 ≡ 4 → ⊥) → (go′ : Code → X) → go (drop 8 d) (kind1Code d) ≡ go′ (kind1Code d)
       → operation (describe d) (maskOf d) ≡ onDescription (describeKind1 d) refuse go′
   unfolding refusedOr

@@ -37,7 +37,7 @@ d3 c = d2 (c .before .before .before)
 abbrev d4 : tie.Else4 → List ℕ
 d4 c = d3 (c .before .before .before)
 
--- the fields of every kind are there
+-- the slice has the fields of every kind
 fields : (c : tie.Else1) → 8 ≤ length (d1 c)
 fields c =
     let d = d1 c in

@@ -1,4 +1,4 @@
--- `code::start_of` meets its contract: where a kind has a start, its bytes are there.
+-- `code::start_of` meets its contract: if a kind has a start, the slice has its bytes.
 use mathlib.Core.Path.{_≡_, sym, ap, _∙_}
 use mathlib.Core.Bool.{Bool, cond}
 use mathlib.Core.List.{List}

@@ -22,7 +22,7 @@ Inv-loop bytes start any₀ i₀ any i = (i ≤ length bytes) × ((eqb any 0 && 
 abbrev μ-loop : tie.MeasureT-loop
 μ-loop bytes start any₀ i₀ any i = length bytes - i
 
--- bits of either are there where one of them has some
+-- two bytes together have a bit exactly if one of them has
 or-is-zero : (a b : ℕ) → eqb (bitOr a b) 0 ≡ (eqb a 0 && eqb b 0)
 or-is-zero a b = go (eqb a 0) (eqb b 0) refl refl
   where

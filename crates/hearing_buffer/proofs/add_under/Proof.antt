@@ -58,7 +58,7 @@ module _ (s : tie.Start) where
       let x = s .args in
       kept (refusedOr j (refusedIn t) (heard Fine (withHearing t (addedTo (x .code) (t .hearing) (now (x .channel)))))) b
 
--- what no refusal gives
+-- the answer and the bytes if no refusal applies
 module _ (c : tie.After-enum-told) where
   abbrev start : tie.Start
   start = c .before .before .before .before .before .before
