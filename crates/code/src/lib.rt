@@ -7,7 +7,7 @@ ghost use mathlib.Core.Path.{_≡_};
 ghost use Prim.Native.Nat.{_+_, _<_, _≤_};
 ghost use lib.Dec.{ltb};
 ghost use lib.ListN.{length, take, drop};
-ghost use Rattle.refusal.specs.Judge.{outside, judge};
+ghost use Rattle.refusal.specs.Judge.{judge};
 ghost use Rattle.code.specs.Description.{word, hasStart, isDescription, maskAt, maskOf, startOf, isWide, badPolynomial, describe};
 ghost use Rattle.code.specs.Claims.{Laid};
 ghost use Rattle.code.specs.Contracts.{descriptionRefusals, pastFields};
@@ -94,12 +94,6 @@ fn start_of(d: &[u8]) -> u32
     0
 }
 
-fn is_outside(x: u32, least: u32, most: u32) -> bool
-    ensures { λ b. ⌜ b ≡ outside x least most ⌝ }
-{
-    x < least || most < x
-}
-
 // Whether a bit at r or above is set.
 fn is_wide(x: u32, r: u32) -> bool
     requires { ⌜ r < 32 ⌝ }
@@ -138,7 +132,7 @@ fn judge_layout(d: &[u8]) -> Judgement
         return Judgement::Refused(Refusal::Alone(3));
     }
     let n = d[4] as u32;
-    if is_outside(n, 3, DEEPEST) {
+    if refusal::is_outside(n as usize, 3, DEEPEST as usize) {
         return Judgement::Refused(Refusal::Alone(4));
     }
     if d.len() != mask_at(kind) + (1usize << n) / 8 {
@@ -153,7 +147,7 @@ fn judge_check(d: &[u8]) -> Judgement
     ensures { λ j. ⌜ j ≡ judge (take 3 (drop 5 (descriptionRefusals (now (d .entry))))) ⌝ }
 {
     let r = d[5] as u32;
-    if is_outside(r, 1, 16) {
+    if refusal::is_outside(r as usize, 1, 16) {
         return Judgement::Refused(Refusal::Alone(6));
     }
     if is_bad_polynomial(read_word(d, 6), r) {

@@ -1,6 +1,6 @@
 // Refusals as data.
 ghost use mathlib.Core.Path.{_≡_};
-ghost use Rattle.refusal.specs.Judge.{numberOf};
+ghost use Rattle.refusal.specs.Judge.{outside, numberOf};
 
 // A refusal of a call.
 pub enum Refusal {
@@ -28,4 +28,11 @@ pub enum Judgement {
     Fine,
     // The first refusal that applies.
     Refused(Refusal),
+}
+
+// Whether a number lies outside least..most.
+pub fn is_outside(x: usize, least: usize, most: usize) -> bool
+    ensures { λ b. ⌜ b ≡ outside x least most ⌝ }
+{
+    x < least || most < x
 }
