@@ -1,6 +1,7 @@
 -- Document 01, "Code description": the numbers of a code. Its n, r, polynomial, start and k are fields of `Code`.
 use mathlib.Core.List.{List}
-use Prim.Native.Nat.{ℕ, _+_, _^_}
+use Prim.Native.Nat.{ℕ, _+_, _/_, _^_}
+use Rattle.arrays.specs.Sizes.{deepest}
 use Rattle.bits.specs.Bit.{bitsOf}
 use Rattle.code.specs.declared.Code.{Code}
 
@@ -19,3 +20,7 @@ divisor c = bitsOf (c .r) (c .polynomial)
 -- the r coefficients with which the check starts
 abbrev pub startBits : Code → List ℕ
 startBits c = bitsOf (c .r) (c .start)
+
+-- the bytes of the longest description: 10 of fields, and N/8 of mask
+abbrev pub longestDescription : ℕ
+longestDescription = 10 + 2 ^ deepest / 8

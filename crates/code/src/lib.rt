@@ -9,6 +9,7 @@ ghost use lib.Dec.{ltb};
 ghost use lib.ListN.{length, take, drop};
 ghost use Rattle.refusal.specs.Judge.{judge};
 ghost use Rattle.code.specs.Description.{word, hasStart, isDescription, maskAt, maskOf, startOf, isWide, badPolynomial, describe};
+ghost use Rattle.code.specs.Record.{recordIn};
 ghost use Rattle.code.specs.Claims.{Laid};
 ghost use Rattle.code.specs.Contracts.{descriptionRefusals, pastFields};
 
@@ -48,6 +49,15 @@ pub fn read_word(d: &[u8], i: usize) -> u32
     ensures { λ r. ⌜ r ≡ word (now (d .entry)) i ⌝ }
 {
     d[i] as u32 + 256 * (d[i + 1] as u32)
+}
+
+// The record at the beginning of some bytes.
+pub fn record_in(bytes: &[u8]) -> &[u8]
+    requires { ⌜ 2 ≤ length (now bytes) ⌝ }
+    ensures { λ d. ⌜ now d ≡ recordIn (now (bytes .entry)) ⌝ }
+{
+    let size = arrays::min(read_word(bytes, 0) as usize, bytes.len());
+    &bytes[..size]
 }
 
 // Whether descriptions of a kind have a start value.

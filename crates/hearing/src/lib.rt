@@ -6,16 +6,15 @@ use refusal::Judgement;
 use refusal::Refusal;
 ghost use mathlib.Core.Path.{_≡_};
 ghost use mathlib.Core.Bool.{true};
-ghost use Prim.Native.Nat.{_+_, _^_, _≤_, min, max};
+ghost use Prim.Native.Nat.{_^_, _≤_};
 ghost use lib.Dec.{eqb};
 ghost use lib.IntN.{natAbs};
-ghost use lib.ListN.{length, take, drop};
+ghost use lib.ListN.{length, take};
 ghost use Rattle.laws.specs.Contracts.{splice};
 ghost use Rattle.refusal.specs.declared.Judgement.the-variants.{Fine};
 ghost use Rattle.refusal.specs.Judge.{judge};
 ghost use Rattle.arrays.specs.Sizes.{deepest};
 ghost use Rattle.channel.specs.Channel.{channelValue, firstOutside};
-ghost use Rattle.hearing.specs.Padded.{allZero};
 ghost use Rattle.hearing.specs.Hearing.{fresh, clippedSum, clippedSums, addedTo, addRefusals, zeroFrom, isHearing};
 ghost use Rattle.hearing.specs.Contracts.{AddPre, hearingBy};
 
@@ -37,40 +36,13 @@ pub fn fresh() -> Hearing
     }
 }
 
-// Whether every byte from an index on is zero. No branch depends on a byte, so the loop takes many at once.
-pub fn is_zero_from(bytes: &[u8], start: usize) -> bool
-    requires { ⌜ start ≤ length (now bytes) ⌝ }
-    ensures { λ b. ⌜ b ≡ allZero (drop start (now (bytes .entry))) ⌝ }
-{
-    let mut any = 0u8;
-    let mut i = start;
-    while i < bytes.len() {
-        any = any | bytes[i];
-        i += 1;
-    }
-    any == 0
-}
-
-// Clamps a sum to −31..31. Sums are kept with 62 added, so that they are not negative.
-fn clamped(x: u32) -> u32
-    ensures { λ r. ⌜ r ≡ max 31 (min 93 x) ⌝ }
-{
-    if x < 31 {
-        return 31;
-    }
-    if 93 < x {
-        return 93;
-    }
-    x
-}
-
-// The sum of two values, clipped to −31..31.
+// The sum of two values, clamped to −31..31. The sum has 62 added while it is clamped, so that it is not negative.
 fn clipped_sum(a: u8, b: u8) -> u8
     requires { ⌜ (natAbs (channelValue a) ≤ 31)
         × (natAbs (channelValue b) ≤ 31) ⌝ }
     ensures { λ s. ⌜ s ≡ clippedSum a b ⌝ }
 {
-    let sum = clamped((a as u32 + b as u32 + 62) % 256);
+    let sum = arrays::clamped((a as u32 + b as u32 + 62) % 256, 31, 93);
     ((sum + 194) % 256) as u8
 }
 
@@ -143,7 +115,7 @@ pub fn is_hearing(code: Code, count: u8, values: &[u8]) -> bool
         × (length (now values) ≡ 2 ^ deepest) ⌝ }
     ensures { λ b. ⌜ b ≡ isHearing code (hearingBy count (now (values .entry))) ⌝ }
 {
-    if is_zero_from(values, zero_from(code, count)) {
+    if arrays::is_zero_from(values, zero_from(code, count)) {
         return are_inside(values, 1usize << code.n);
     }
     false

@@ -14,8 +14,9 @@ use Rattle.code.specs.declared.Code.{Code}
 use Rattle.code.specs.declared.Description.{Description}
 use Rattle.code.specs.declared.Description.the-variants.{Accepted, Refused}
 use Rattle.code.specs.Description.{onDescription}
+use Rattle.code.specs.Code.{longestDescription}
 use Rattle.hearing_state.specs.declared.Heard.{Heard}
-use Rattle.hearing_state.specs.State.{longestDescription, noState, codeOfState, refusedIn}
+use Rattle.hearing_state.specs.State.{noState, codeOfState, refusedIn}
 use Rattle.hearing_state.specs.Contracts.{stateBy, StatePre}
 use Rattle.hearing_state.proofs.States.{no-code}
 use Rattle.hearing_buffer.specs.Lent.{hearingSize, stateAt, stateIn}

@@ -4,8 +4,8 @@ use mathlib.Core.List.{List}
 use Prim.Native.Nat.{ℕ, _^_}
 use lib.ListN.{length}
 use Rattle.arrays.specs.Sizes.{deepest}
+use Rattle.code.specs.Code.{longestDescription}
 use Rattle.hearing_state.specs.declared.State.{State}
-use Rattle.hearing_state.specs.State.{longestDescription}
 use Rattle.hearing_buffer.specs.Lent.{hearingSize, bytesOf, stateIn}
 
 -- a state that was written is read back, if its arrays have the sizes of their types: `read-written`

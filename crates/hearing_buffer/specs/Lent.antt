@@ -8,10 +8,11 @@ use lib.ListN.{length, getD, take, drop}
 use Rattle.refusal.specs.declared.Refusal.the-variants.{Alone}
 use Rattle.refusal.specs.Judge.{refusedOr}
 use Rattle.arrays.specs.Sizes.{deepest}
+use Rattle.code.specs.Code.{longestDescription}
 use Rattle.flip_run.specs.declared.Decoded.{Decoded}
 use Rattle.hearing_state.specs.declared.State.{State}
 use Rattle.hearing_state.specs.declared.Heard.{Heard}
-use Rattle.hearing_state.specs.State.{longestDescription, noState, opened, added, cleared, hearingFull, hearingRestarted}
+use Rattle.hearing_state.specs.State.{noState, opened, added, cleared, hearingFull, hearingRestarted}
 use Rattle.hearing_buffer.specs.declared.Kept.{Kept}
 use Rattle.hearing_buffer.specs.declared.Kept.the-variants.{Done, Refused}
 

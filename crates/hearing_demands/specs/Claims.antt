@@ -8,8 +8,9 @@ use Rattle.refusal.specs.declared.Judgement.the-variants.{Refused}
 use Rattle.arrays.specs.Sizes.{deepest}
 use Rattle.code.specs.declared.Code.{Code}
 use Rattle.code.specs.declared.Description.the-variants.{Accepted as Coding}
+use Rattle.code.specs.Code.{longestDescription}
 use Rattle.hearing_state.specs.declared.State.{State}
-use Rattle.hearing_state.specs.State.{longestDescription, descriptionOf, codeOfState, opened}
+use Rattle.hearing_state.specs.State.{descriptionOf, codeOfState, opened}
 use Rattle.hearing_buffer.specs.Lent.{hearingSize, bytesOf, stateIn}
 use Rattle.hearing_demands.specs.Repeats.{Call, called, after}
 

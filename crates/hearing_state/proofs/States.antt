@@ -7,14 +7,14 @@ use lib.ListN.{length, drop}
 use Rattle.refusal.specs.declared.Refusal.the-variants.{Alone}
 use Rattle.refusal.specs.Judge.{judge, refusedOr}
 use Rattle.arrays.specs.Sizes.{deepest}
+use Rattle.arrays.specs.Padded.{allZero}
+use Rattle.arrays.proofs.Zeros.{and-true}
 use Rattle.code.specs.declared.Code.{Code}
 use Rattle.code.specs.declared.Description.{Description}
 use Rattle.code.specs.declared.Description.the-variants.{Accepted, Refused}
 use Rattle.code.specs.Description.{describeUpTo, describe, onDescription}
 use Rattle.code.proofs.Facts.{described}
-use Rattle.hearing.specs.Padded.{allZero}
 use Rattle.hearing.specs.Hearing.{isHearing}
-use Rattle.hearing.proofs.Zeros.{and-true}
 use Rattle.hearing_state.specs.declared.State.{State}
 use Rattle.hearing_state.specs.State.{noState, descriptionOf, isState, codeOfState}
 

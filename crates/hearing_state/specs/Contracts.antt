@@ -6,11 +6,11 @@ use lib.ListN.{length}
 use Rattle.arrays.specs.Sizes.{deepest}
 use Rattle.code.specs.declared.Code.{Code}
 use Rattle.code.specs.declared.Description.the-variants.{Accepted}
-use Rattle.code.specs.Code.{codeLength}
+use Rattle.code.specs.Code.{codeLength, longestDescription}
 use Rattle.code.specs.Description.{describe}
+use Rattle.code.specs.Record.{recordIn}
 use Rattle.hearing.specs.Contracts.{hearingBy}
 use Rattle.hearing_state.specs.declared.State.{State}
-use Rattle.hearing_state.specs.State.{longestDescription, recordIn}
 
 -- a state by its arrays and its count
 abbrev pub stateBy : List ℕ → ℕ → List ℕ → State

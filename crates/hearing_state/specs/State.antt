@@ -1,32 +1,29 @@
 -- Document 02, request 2.6: what is kept from one call to the next, the description of a code and its hearing, and the operations on it.
 use mathlib.Core.Bool.{Bool, _&&_, cond}
 use mathlib.Core.List.{List, []}
-use Prim.Native.Nat.{ℕ, _+_, _/_, _^_}
-use lib.ListN.{length, take, drop}
+use Prim.Native.Nat.{ℕ}
+use lib.ListN.{length, drop}
 use Rattle.refusal.specs.declared.Refusal.{Refusal}
 use Rattle.refusal.specs.declared.Refusal.the-variants.{Alone}
 use Rattle.refusal.specs.declared.Judgement.{Judgement}
 use Rattle.refusal.specs.declared.Judgement.the-variants as judgement
 use Rattle.refusal.specs.Judge.{judge, refusedOr}
-use Rattle.arrays.specs.Sizes.{deepest}
+use Rattle.arrays.specs.Padded.{padded, allZero}
 use Rattle.code.specs.declared.Code.{Code}
 use Rattle.code.specs.declared.Description.{Description}
 use Rattle.code.specs.declared.Description.the-variants.{Accepted, Refused}
-use Rattle.code.specs.Description.{word, describe, onDescription}
+use Rattle.code.specs.Code.{longestDescription}
+use Rattle.code.specs.Description.{describe, onDescription}
+use Rattle.code.specs.Record.{recordIn}
 use Rattle.flip_trial.specs.declared.Restart.the-variants.{Root, After}
 use Rattle.flip_run.specs.declared.Plan.{Plan}
 use Rattle.flip_run.specs.declared.Decoded.{Decoded}
 use Rattle.flip_run.specs.declared.Decoded.the-variants as decode
 use Rattle.flip_decoder.specs.Decode.{planOf, decodedWith}
 use Rattle.hearing.specs.declared.Hearing.{Hearing}
-use Rattle.hearing.specs.Padded.{padded, allZero}
 use Rattle.hearing.specs.Hearing.{fresh, combined, addedTo, addRefusals, isHearing}
 use Rattle.hearing_state.specs.declared.State.{State}
 use Rattle.hearing_state.specs.declared.Heard.{Heard}
-
--- the longest description: 10 bytes of fields, and N/8 of mask
-abbrev pub longestDescription : ℕ
-longestDescription = 10 + 2 ^ deepest / 8
 
 -- a state by its description, which zeros follow, and its hearing
 abbrev pub stateOf : List ℕ → Hearing → State
@@ -35,10 +32,6 @@ stateOf d h = record { description = padded longestDescription d; hearing = h }
 -- no state: it has no description, so every call refuses it as 40
 abbrev pub noState : State
 noState = stateOf [] fresh
-
--- the record at the beginning of some bytes: as many as its length field says, or all if there are fewer
-abbrev pub recordIn : List ℕ → List ℕ
-recordIn bytes = take (word bytes 0) bytes
 
 -- the description that a state holds
 abbrev pub descriptionOf : State → List ℕ

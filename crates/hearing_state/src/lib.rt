@@ -9,15 +9,16 @@ use hearing::Hearing;
 use refusal::Judgement;
 use refusal::Refusal;
 ghost use mathlib.Core.Path.{_≡_};
-ghost use Prim.Native.Nat.{_≤_, min};
+ghost use Prim.Native.Nat.{_≤_};
 ghost use lib.ListN.{length, take, drop};
 ghost use Rattle.arrays.specs.Sizes.{deepest};
-ghost use Rattle.code.specs.Code.{codeLength};
+ghost use Rattle.arrays.specs.Padded.{allZero};
+ghost use Rattle.code.specs.Code.{codeLength, longestDescription};
 ghost use Rattle.code.specs.Description.{describe};
+ghost use Rattle.code.specs.Record.{recordIn};
 ghost use Rattle.flip_decoder.specs.Decode.{decodedWith};
-ghost use Rattle.hearing.specs.Padded.{allZero};
 ghost use Rattle.hearing.specs.Hearing.{fresh};
-ghost use Rattle.hearing_state.specs.State.{longestDescription, stateOf, recordIn, noState, isState, codeOfState, heard, refusedIn, withHearing};
+ghost use Rattle.hearing_state.specs.State.{stateOf, noState, isState, codeOfState, heard, refusedIn, withHearing};
 ghost use Rattle.hearing_state.specs.State.{opened, addedUnder, added, cleared, hearingWith, hearingFull, hearingRestarted};
 ghost use Rattle.hearing_state.specs.Contracts.{StatePre, DecodePre, stateBy};
 
@@ -37,27 +38,12 @@ pub struct Heard {
     pub state: State,
 }
 
-fn smaller(a: usize, b: usize) -> usize
-    ensures { λ r. ⌜ r ≡ min a b ⌝ }
-{
-    if a < b { a } else { b }
-}
-
-// The record at the beginning of some bytes.
-fn record_in(bytes: &[u8]) -> &[u8]
-    requires { ⌜ 2 ≤ length (now bytes) ⌝ }
-    ensures { λ d. ⌜ now d ≡ recordIn (now (bytes .entry)) ⌝ }
-{
-    let size = smaller(code::read_word(bytes, 0) as usize, bytes.len());
-    &bytes[..size]
-}
-
 // The description at the start of these bytes.
 fn described_in(bytes: &[u8]) -> Description
     requires { ⌜ 2 ≤ length (now bytes) ⌝ }
     ensures { λ a. ⌜ a ≡ describe (recordIn (now (bytes .entry))) ⌝ }
 {
-    code::read_description(record_in(bytes))
+    code::read_description(code::record_in(bytes))
 }
 
 // Whether only zeros follow the description at the start of these bytes.
@@ -65,7 +51,7 @@ fn ends_in_zeros(bytes: &[u8]) -> bool
     requires { ⌜ 2 ≤ length (now bytes) ⌝ }
     ensures { λ b. ⌜ b ≡ allZero (drop (length (recordIn (now (bytes .entry)))) (now (bytes .entry))) ⌝ }
 {
-    hearing::is_zero_from(bytes, record_in(bytes).len())
+    arrays::is_zero_from(bytes, code::record_in(bytes).len())
 }
 
 // Whether a list of calls can leave a state with these parts, under the code that it describes.
@@ -210,7 +196,7 @@ pub fn decode_values(
     let size = 1usize << code.n;
     flip_decoder::decode_by(
         plan,
-        code::mask_of(record_in(bytes)),
+        code::mask_of(code::record_in(bytes)),
         code,
         &values[..size],
         output,

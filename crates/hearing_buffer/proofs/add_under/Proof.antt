@@ -11,12 +11,13 @@ use Rattle.refusal.specs.declared.Judgement.{Judgement}
 use Rattle.refusal.specs.declared.Judgement.the-variants.{Fine}
 use Rattle.refusal.specs.Judge.{judge, refusedOr}
 use Rattle.arrays.specs.Sizes.{deepest}
+use Rattle.code.specs.Code.{longestDescription}
 use Rattle.hearing.specs.declared.Hearing.{Hearing}
 use Rattle.hearing.specs.Hearing.{addedTo, addRefusals, isHearing}
 use Rattle.hearing.specs.Contracts.{hearingBy}
 use Rattle.hearing.proofs.Adding.{count-most, not-full, add-pre, sums-are}
 use Rattle.hearing_state.specs.declared.State.{State}
-use Rattle.hearing_state.specs.State.{longestDescription, codeOfState, heard, refusedIn, withHearing}
+use Rattle.hearing_state.specs.State.{codeOfState, heard, refusedIn, withHearing}
 use Rattle.hearing_state.specs.Contracts.{stateBy}
 use Rattle.hearing_state.proofs.States.{code-most, is-hearing}
 use Rattle.hearing_buffer.specs.declared.Kept.{Kept}
