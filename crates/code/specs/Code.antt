@@ -4,6 +4,7 @@ use Prim.Native.Nat.{ℕ, _+_, _/_, _^_}
 use Rattle.arrays.specs.Sizes.{deepest}
 use Rattle.bits.specs.Bit.{bitsOf}
 use Rattle.code.specs.declared.Code.{Code}
+use Rattle.code.specs.Description.{maskAt}
 
 -- N = 2^n
 abbrev pub codeLength : Code → ℕ
@@ -21,6 +22,6 @@ divisor c = bitsOf (c .r) (c .polynomial)
 abbrev pub startBits : Code → List ℕ
 startBits c = bitsOf (c .r) (c .start)
 
--- the bytes of the longest description: 10 of fields, and N/8 of mask
+-- the bytes of the longest description: the fields of kind 4, and N/8 of mask
 abbrev pub longestDescription : ℕ
-longestDescription = 10 + 2 ^ deepest / 8
+longestDescription = maskAt 4 + 2 ^ deepest / 8

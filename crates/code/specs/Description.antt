@@ -27,10 +27,10 @@ hasStart kind = eqb kind 4
 abbrev pub isDescription : ℕ → Bool
 isDescription kind = eqb kind 1 || hasStart kind
 
--- the index of the first byte of the mask: 10 for kind 4, 8 for every other kind. A shorter slice is refused as 1. `word` reads zeros past the
--- end: a slice too short to hold a kind has fewer than 8 bytes, so it is refused as 1 whatever kind is read.
+-- the index of the first byte of the mask, which follows the fields: 8 bytes of every kind, and 2 of a start value. A shorter slice is refused
+-- as 1. `word` reads zeros past the end: a slice too short to hold a kind has fewer than 8 bytes, so it is refused as 1 whatever kind is read.
 abbrev pub maskAt : ℕ → ℕ
-maskAt kind = cond (hasStart kind) 10 8
+maskAt kind = 8 + cond (hasStart kind) 2 0
 
 -- the mask: the bytes from that index on
 abbrev pub maskOf : List ℕ → List ℕ

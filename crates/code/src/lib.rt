@@ -4,6 +4,7 @@ use arrays::DEEPEST;
 use refusal::Judgement;
 use refusal::Refusal;
 ghost use mathlib.Core.Path.{_≡_};
+ghost use mathlib.Core.Bool.{cond};
 ghost use Prim.Native.Nat.{_+_, _<_, _≤_};
 ghost use lib.Dec.{ltb};
 ghost use lib.ListN.{length, take, drop};
@@ -35,13 +36,14 @@ pub enum Description {
     Refused(Refusal),
 }
 
-// Where the mask stands in a description of kind 1, and in one with a start value.
-const MASK_AT: usize = 8;
+// The bytes of the fields that every kind of description has.
+const FIELDS: usize = 8;
 
-const MASK_AFTER_START: usize = 10;
+// The bytes of a start value.
+const START: usize = 2;
 
-// The longest description: its fixed fields and its mask.
-pub const LONGEST: usize = MASK_AFTER_START + BYTES;
+// The longest description: all fields, and the mask.
+pub const LONGEST: usize = FIELDS + START + BYTES;
 
 // The little-endian number at bytes i and i + 1.
 pub fn read_word(d: &[u8], i: usize) -> u32
@@ -74,14 +76,18 @@ pub fn is_description(kind: u32) -> bool
     kind == 1 || has_start(kind)
 }
 
+// How many bytes the start value takes in a description of a kind.
+fn start_size(kind: u32) -> usize
+    ensures { λ size. ⌜ size ≡ cond (hasStart kind) 2 0 ⌝ }
+{
+    if has_start(kind) { START } else { 0 }
+}
+
 // The index of the first byte of the mask, in a description of a kind.
 fn mask_at(kind: u32) -> usize
     ensures { λ at. ⌜ at ≡ maskAt kind ⌝ }
 {
-    if has_start(kind) {
-        return MASK_AFTER_START;
-    }
-    MASK_AT
+    FIELDS + start_size(kind)
 }
 
 // The mask of a description: its bytes after the fixed fields.
@@ -124,7 +130,7 @@ fn is_bad_polynomial(p: u32, r: u32) -> bool
 fn is_short(d: &[u8]) -> bool
     ensures { λ b. ⌜ b ≡ ltb (length (now (d .entry))) (maskAt (word (now (d .entry)) 2)) ⌝ }
 {
-    d.len() < MASK_AT || d.len() < mask_at(read_word(d, 2))
+    d.len() < FIELDS || d.len() < mask_at(read_word(d, 2))
 }
 
 // Refusals 1 to 5, of sizes and kind.
