@@ -1,8 +1,9 @@
 // The longest code, and the working arrays that are made for it.
 ghost use mathlib.Core.Path.{_≡_};
-ghost use Prim.Native.Nat.{_+_, _≤_};
-ghost use lib.ListN.{length};
+ghost use Prim.Native.Nat.{_+_, _≤_, min, max};
+ghost use lib.ListN.{length, drop};
 ghost use Rattle.laws.specs.Contracts.{splice, segment};
+ghost use Rattle.arrays.specs.Padded.{allZero};
 
 // The largest n: a code has at most 2^n bits.
 pub const DEEPEST: u32 = 12;
@@ -35,4 +36,39 @@ pub fn copy(source: &[u8], start: usize, target: &mut [u8], at: usize, count: us
         target[at + j] = source[start + j];
         j += 1;
     }
+}
+
+// The smaller of two numbers.
+pub fn min(a: usize, b: usize) -> usize
+    ensures { λ r. ⌜ r ≡ min a b ⌝ }
+{
+    if a < b { a } else { b }
+}
+
+// The number in least..most that is nearest to x.
+pub fn clamped(x: u32, least: u32, most: u32) -> u32
+    requires { ⌜ least ≤ most ⌝ }
+    ensures { λ r. ⌜ r ≡ max least (min most x) ⌝ }
+{
+    if x < least {
+        return least;
+    }
+    if most < x {
+        return most;
+    }
+    x
+}
+
+// Whether every byte from an index on is zero. No branch depends on a byte, so the loop takes many at once.
+pub fn is_zero_from(bytes: &[u8], start: usize) -> bool
+    requires { ⌜ start ≤ length (now bytes) ⌝ }
+    ensures { λ b. ⌜ b ≡ allZero (drop start (now (bytes .entry))) ⌝ }
+{
+    let mut any = 0u8;
+    let mut i = start;
+    while i < bytes.len() {
+        any = any | bytes[i];
+        i += 1;
+    }
+    any == 0
 }

@@ -1,4 +1,4 @@
--- Operations that take a description: past its refusals they have tests of their own. Where these judge whether the rest of the input is
+-- Operations that take a description: after its refusals come the tests of the operation. If these judge whether the rest of the input is
 -- well-formed, an operation accepts exactly the calls that are well-formed as a whole.
 use mathlib.Core.Path.{_≡_, refl, sym, ap, _∙_}
 use mathlib.Core.Bool.{Bool, true, false, true≢false}

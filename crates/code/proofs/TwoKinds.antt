@@ -2,7 +2,7 @@
 -- with start 0 a record of kind 4 has the answer of kind 1.
 use mathlib.Core.Path.{_≡_, refl, sym, ap, ap₂, _∙_}
 use mathlib.Core.Bool.{Bool, true, false, not, _||_, cond}
-use mathlib.Core.List.{List, _∷_, _++_}
+use mathlib.Core.List.{List, [], _∷_, _++_}
 use Prim.Native.Nat.{ℕ, _+_, _*_, _/_, _%_, _^_, _≤_}
 use native.Mathlib.Nat.{zero-div}
 use native.Mathlib.Omega.{arith}
@@ -17,25 +17,21 @@ use Rattle.code.specs.declared.Code.{Code}
 use Rattle.code.specs.declared.Description.{Description}
 use Rattle.code.specs.declared.Description.the-variants.{Accepted, Refused}
 use Rattle.code.specs.Description.{word, hasStart, maskAt, maskOf, isWide, codeOf, describeUpTo, describe}
-use Rattle.code.specs.Claims.{kind1Refusals, kind1Code, describeKind1, kind4Refusals, kind4Code, describeKind4, withStart}
+use Rattle.code.specs.Claims.{refusalsAt, codeAt, describeKind1, describeKind4, withStart}
 use Rattle.code.specs.Contracts.{descriptionRefusals}
 
--- where a mask can stand
+-- the least and the largest index at which a mask begins
 pub mask-at-least : (kind : ℕ) → 8 ≤ maskAt kind
-mask-at-least kind = go (hasStart kind)
-  where
-    go : (b : Bool) → 8 ≤ cond b 10 8
-    go true = omega arith
-    go false = omega arith
+mask-at-least kind = omega arith
 
-pub mask-at-most : (kind : ℕ) → maskAt kind ≤ 10
+pub mask-at-most : (kind : ℕ) → maskAt kind ≤ maskAt 4
 mask-at-most kind = go (hasStart kind)
   where
-    go : (b : Bool) → cond b 10 8 ≤ 10
+    go : (b : Bool) → 8 + cond b 2 0 ≤ maskAt 4
     go true = omega arith
     go false = omega arith
 
--- past refusal 1 the fields of kind 1 are there
+-- a slice that is not refused as 1 has the fields of kind 1
 pub fields-there : (d : List ℕ) → maskAt (word d 2) ≤ length d → 8 ≤ length d
 fields-there d header = omega (arith, mask-at-least (word d 2))
 
@@ -58,25 +54,23 @@ pub kind-1 : (d : List ℕ) → (word d 2 ≡ 4 → ⊥) → describe d ≡ desc
 unfolding describeUpTo
 kind-1 d other =
     let none : hasStart (word d 2) ≡ false = ne-eqb (word d 2) 4 other in
-    let first = take 7 (kind1Refusals d) in
-    let last = drop 7 (kind1Refusals d) in
+    let first = take 7 (refusalsAt 1 8 [] d) in
+    let last = drop 7 (refusalsAt 1 8 [] d) in
     let wide = isWide 0 (getD d 5 0) in
     let tests : descriptionRefusals d ≡ first ++ ((wide, Alone 25) ∷ last) = rw (none, or-no (eqb (word d 2) 1)) in
-    let code : codeOf d ≡ kind1Code d = rw none in
+    let code : codeOf d ≡ codeAt 8 0 d = rw none in
     ap₂ answer (ap judge tests ∙ judge-without first last wide (Alone 25) (wide-zero (getD d 5 0))) code
 
 pub mask-1 : (d : List ℕ) → (word d 2 ≡ 4 → ⊥) → maskOf d ≡ drop 8 d
-mask-1 d other = ap (λ (t : Bool). drop (cond t 10 8) d) (ne-eqb (word d 2) 4 other)
+mask-1 d other = ap (λ (t : Bool). drop (8 + cond t 2 0) d) (ne-eqb (word d 2) 4 other)
 
 pub kind-4 : (d : List ℕ) → word d 2 ≡ 4 → describe d ≡ describeKind4 d
 unfolding describeUpTo
 kind-4 d kind =
     let some : hasStart (word d 2) ≡ true = eq-eqb (word d 2) 4 kind in
-    let first = take 2 (kind4Refusals d) in
-    let last = drop 2 (kind4Refusals d) in
-    let tests : descriptionRefusals d ≡ first ++ ((false, Alone 3) ∷ last) = rw (some, or-yes (eqb (word d 2) 1)) in
-    let code : codeOf d ≡ kind4Code d = rw some in
-    ap₂ answer (ap judge tests ∙ judge-without first last false (Alone 3) refl) code
+    let tests : descriptionRefusals d ≡ refusalsAt 4 10 ((isWide (word d 8) (getD d 5 0), Alone 25) ∷ []) d = rw (some, or-yes (eqb (word d 2) 1)) in
+    let code : codeOf d ≡ codeAt 10 (word d 8) d = rw some in
+    ap₂ answer (ap judge tests) code
 
 -- two numbers that are both greater by two
 differs-both : (a b a′ b′ : ℕ) → a′ ≡ a + 2 → b′ ≡ b + 2 → differs a′ b′ ≡ differs a b
@@ -105,6 +99,6 @@ start-0 d header kind =
     let one : eqb (word d 2) 1 ≡ true = eq-eqb (word d 2) 1 kind in
     rw (t1, t2, t5, none, one)
 
--- and the mask is the same
+-- both have one mask
 pub same-mask : (start : ℕ) (d : List ℕ) → word d 2 ≡ 1 → maskOf (withStart start d) ≡ maskOf d
 same-mask start d kind = sym (ap (λ (k : ℕ). drop (maskAt k) d) kind)

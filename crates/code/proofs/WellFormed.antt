@@ -1,4 +1,4 @@
--- A description is well-formed exactly where it is accepted.
+-- A description is well-formed exactly if it is accepted.
 use mathlib.Core.Path.{_≡_, refl, ap, ap₂, _∙_, subst}
 use mathlib.Core.Bool.{Bool, true, false, not, _||_}
 use mathlib.Core.Logic.{_↔_}
@@ -24,7 +24,7 @@ use Rattle.code.specs.Description.{word, maskAt, maskOf, startOf, isWide
 use Rattle.code.specs.Claims.{Laid, WellFormed, accepts}
 use Rattle.code.specs.Contracts.{descriptionRefusals}
 
--- nothing stands at bit r or above
+-- no bit at r or above is set
 wide-past : (x r : ℕ) → isWide x r ≡ false → x < 2 ^ r
 wide-past x r e =
     let none = differs-past (x / 2 ^ r) 0 e in

@@ -1,5 +1,5 @@
--- Document 01, "Code description", and document 02, requests 2.1 and 2.3: what the bytes of a record of kind 1 or 4 describe, and refusals
--- 1 to 7, 25 and 8 in order. The largest n is a parameter: crate `longer` compares the answers of two.
+-- Document 01, "Code description": what the bytes of a record of kind 1 or 4 describe, and refusals 1 to 7, 25 and 8 in order. The largest n is
+-- a parameter: crate `theorems_largest` compares the answers of two.
 use mathlib.Core.Bool.{Bool, not, _||_, cond}
 use mathlib.Core.List.{List, [], _∷_}
 use Prim.Native.Nat.{ℕ, _+_, _-_, _*_, _/_, _^_}
@@ -27,12 +27,12 @@ hasStart kind = eqb kind 4
 abbrev pub isDescription : ℕ → Bool
 isDescription kind = eqb kind 1 || hasStart kind
 
--- where the mask stands: at byte 10 for kind 4, at byte 8 for every other kind. A slice with fewer bytes is refused 1. Past its end `word` reads
--- zeros: a slice too short to say a kind has fewer than 8.
+-- the index of the first byte of the mask, which follows the fields: 8 bytes of every kind, and 2 of a start value. A shorter slice is refused
+-- as 1. `word` reads zeros past the end: a slice too short to hold a kind has fewer than 8 bytes, so it is refused as 1 whatever kind is read.
 abbrev pub maskAt : ℕ → ℕ
-maskAt kind = cond (hasStart kind) 10 8
+maskAt kind = 8 + cond (hasStart kind) 2 0
 
--- the mask: the bytes from there on
+-- the mask: the bytes from that index on
 abbrev pub maskOf : List ℕ → List ℕ
 maskOf d = drop (maskAt (word d 2)) d
 
@@ -77,7 +77,7 @@ describeUpTo largest d = refusedOr (judge (refusalsUpTo largest d)) Refused (Acc
 abbrev pub describe : List ℕ → Description
 describe d = describeUpTo deepest d
 
--- Operations that take a description apply its refusals first: `refuse` is their answer to a refusal, `go` what they do with a code.
+-- Operations that take a description apply its refusals first: `refuse` is their answer to a refusal, `go` their answer under a code.
 abbrev pub onDescription : {X : Type 0} → Description → (Refusal → X) → (Code → X) → X
 onDescription (Accepted c) refuse go = go c
 onDescription (Refused x) refuse go = refuse x

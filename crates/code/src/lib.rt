@@ -4,36 +4,46 @@ use arrays::DEEPEST;
 use refusal::Judgement;
 use refusal::Refusal;
 ghost use mathlib.Core.Path.{_≡_};
+ghost use mathlib.Core.Bool.{cond};
 ghost use Prim.Native.Nat.{_+_, _<_, _≤_};
 ghost use lib.Dec.{ltb};
 ghost use lib.ListN.{length, take, drop};
-ghost use Rattle.refusal.specs.Judge.{outside, judge};
+ghost use Rattle.refusal.specs.Judge.{judge};
 ghost use Rattle.code.specs.Description.{word, hasStart, isDescription, maskAt, maskOf, startOf, isWide, badPolynomial, describe};
+ghost use Rattle.code.specs.Record.{recordIn};
 ghost use Rattle.code.specs.Claims.{Laid};
 ghost use Rattle.code.specs.Contracts.{descriptionRefusals, pastFields};
 
-// A code of length 2^n with r check bits and k payload bits. The check is by a polynomial and from a start value.
+// The numbers of a code.
 pub struct Code {
+    // Its length is 2^n.
     pub n: u32,
+    // How many check bits it has.
     pub r: u32,
+    // The check polynomial without z^r: bit i is the coefficient of z^i.
     pub polynomial: u32,
+    // The start value of the check.
     pub start: u32,
+    // How many payload bits it has.
     pub k: usize,
 }
 
-// What a record describes: a code, or the refusal.
+// What a record describes.
 pub enum Description {
+    // A code.
     Accepted(Code),
+    // No code: the refusal.
     Refused(Refusal),
 }
 
-// Where the mask stands in a description of kind 1, and in one with a start value.
-const MASK_AT: usize = 8;
+// The bytes of the fields that every kind of description has.
+const FIELDS: usize = 8;
 
-const MASK_AFTER_START: usize = 10;
+// The bytes of a start value.
+const START: usize = 2;
 
-// The longest description: its fixed fields and its mask.
-pub const LONGEST: usize = MASK_AFTER_START + BYTES;
+// The longest description: all fields, and the mask.
+pub const LONGEST: usize = FIELDS + START + BYTES;
 
 // The little-endian number at bytes i and i + 1.
 pub fn read_word(d: &[u8], i: usize) -> u32
@@ -41,6 +51,15 @@ pub fn read_word(d: &[u8], i: usize) -> u32
     ensures { λ r. ⌜ r ≡ word (now (d .entry)) i ⌝ }
 {
     d[i] as u32 + 256 * (d[i + 1] as u32)
+}
+
+// The record at the beginning of some bytes.
+pub fn record_in(bytes: &[u8]) -> &[u8]
+    requires { ⌜ 2 ≤ length (now bytes) ⌝ }
+    ensures { λ d. ⌜ now d ≡ recordIn (now (bytes .entry)) ⌝ }
+{
+    let size = arrays::min(read_word(bytes, 0) as usize, bytes.len());
+    &bytes[..size]
 }
 
 // Whether descriptions of a kind have a start value.
@@ -57,14 +76,18 @@ pub fn is_description(kind: u32) -> bool
     kind == 1 || has_start(kind)
 }
 
-// Where the mask stands in a description of a kind.
+// How many bytes the start value takes in a description of a kind.
+fn start_size(kind: u32) -> usize
+    ensures { λ size. ⌜ size ≡ cond (hasStart kind) 2 0 ⌝ }
+{
+    if has_start(kind) { START } else { 0 }
+}
+
+// The index of the first byte of the mask, in a description of a kind.
 fn mask_at(kind: u32) -> usize
     ensures { λ at. ⌜ at ≡ maskAt kind ⌝ }
 {
-    if has_start(kind) {
-        return MASK_AFTER_START;
-    }
-    MASK_AT
+    FIELDS + start_size(kind)
 }
 
 // The mask of a description: its bytes after the fixed fields.
@@ -76,7 +99,7 @@ pub fn mask_of(d: &[u8]) -> &[u8]
     &d[at..]
 }
 
-// The start value of a description, 0 where its kind has none.
+// The start value of a description; 0 if its kind has none.
 fn start_of(d: &[u8]) -> u32
     requires { ⌜ maskAt (word (now d) 2) ≤ length (now d) ⌝ }
     ensures { λ s. ⌜ s ≡ startOf (now (d .entry)) ⌝ }
@@ -85,12 +108,6 @@ fn start_of(d: &[u8]) -> u32
         return read_word(d, 8);
     }
     0
-}
-
-fn is_outside(x: u32, least: u32, most: u32) -> bool
-    ensures { λ b. ⌜ b ≡ outside x least most ⌝ }
-{
-    x < least || most < x
 }
 
 // Whether a bit at r or above is set.
@@ -109,11 +126,11 @@ fn is_bad_polynomial(p: u32, r: u32) -> bool
     p & 1 == 0 || is_wide(p, r)
 }
 
-// Whether there are fewer bytes than the fields of the kind take.
+// Whether a slice has fewer bytes than the fields of its kind.
 fn is_short(d: &[u8]) -> bool
     ensures { λ b. ⌜ b ≡ ltb (length (now (d .entry))) (maskAt (word (now (d .entry)) 2)) ⌝ }
 {
-    d.len() < MASK_AT || d.len() < mask_at(read_word(d, 2))
+    d.len() < FIELDS || d.len() < mask_at(read_word(d, 2))
 }
 
 // Refusals 1 to 5, of sizes and kind.
@@ -131,7 +148,7 @@ fn judge_layout(d: &[u8]) -> Judgement
         return Judgement::Refused(Refusal::Alone(3));
     }
     let n = d[4] as u32;
-    if is_outside(n, 3, DEEPEST) {
+    if refusal::is_outside(n as usize, 3, DEEPEST as usize) {
         return Judgement::Refused(Refusal::Alone(4));
     }
     if d.len() != mask_at(kind) + (1usize << n) / 8 {
@@ -146,7 +163,7 @@ fn judge_check(d: &[u8]) -> Judgement
     ensures { λ j. ⌜ j ≡ judge (take 3 (drop 5 (descriptionRefusals (now (d .entry))))) ⌝ }
 {
     let r = d[5] as u32;
-    if is_outside(r, 1, 16) {
+    if refusal::is_outside(r as usize, 1, 16) {
         return Judgement::Refused(Refusal::Alone(6));
     }
     if is_bad_polynomial(read_word(d, 6), r) {
@@ -158,7 +175,7 @@ fn judge_check(d: &[u8]) -> Judgement
     Judgement::Fine
 }
 
-// Past the refusals of all fields: refusal 8, or the code.
+// The answer if no field is refused: refusal 8, or the code.
 fn read_code(d: &[u8]) -> Description
     requires { ⌜ Laid (now d) ⌝ }
     ensures { λ a. ⌜ a ≡ pastFields (now (d .entry)) ⌝ }

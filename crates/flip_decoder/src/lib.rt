@@ -20,7 +20,7 @@ fn is_bad_limit(limit: u32, code: Code) -> bool
     requires { ⌜ informationCount code ≤ longest ⌝ }
     ensures { λ b. ⌜ b ≡ outside limit 1 (informationCount code + 1) ⌝ }
 {
-    limit < 1 || code.k + code.r as usize + 1 < limit as usize
+    refusal::is_outside(limit as usize, 1, code.k + code.r as usize + 1)
 }
 
 // Refusals 14 and 15.

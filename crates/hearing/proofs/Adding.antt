@@ -16,17 +16,17 @@ use Rattle.refusal.specs.declared.Judgement.the-variants.{Fine}
 use Rattle.refusal.specs.Judge.{judge}
 use Rattle.refusal.proofs.Judge.{judge-past, append-past}
 use Rattle.arrays.specs.Sizes.{deepest}
+use Rattle.arrays.specs.Padded.{allZero}
 use Rattle.arrays.proofs.Sizes.{fits}
+use Rattle.arrays.proofs.Zeros.{and-true, zeros-past, splice-padded}
 use Rattle.code.specs.declared.Code.{Code}
 use Rattle.code.specs.Code.{codeLength}
 use Rattle.channel.specs.Channel.{channelValue, firstOutside, channelRefusals}
 use Rattle.channel.proofs.Judge.{fine-channel}
 use Rattle.channel.proofs.Outside.{each-inside}
 use Rattle.hearing.specs.declared.Hearing.{Hearing}
-use Rattle.hearing.specs.Padded.{allZero}
 use Rattle.hearing.specs.Hearing.{combined, clippedSums, addedTo, addRefusals, zeroFrom, isHearing}
 use Rattle.hearing.specs.Contracts.{AddPre}
-use Rattle.hearing.proofs.Zeros.{and-true, zeros-past, splice-padded}
 
 pub from-most : (c : Code) (count : ℕ) → zeroFrom c count ≤ codeLength c
 from-most c count = cond-ind (λ (k : ℕ). k ≤ codeLength c) (eqb count 0) 0 (codeLength c) (λ t. omega arith) (λ t. omega arith)
@@ -65,7 +65,7 @@ module _ (c : Code) (count : ℕ) (channel : List ℕ) (fine : judge (addRefusal
   pub channel-size : length channel ≡ codeLength c
   channel-size = channel-facts .0
 
-  pub channel-inside : firstOutside channel ≡ length channel
+  channel-inside : firstOutside channel ≡ length channel
   channel-inside = channel-facts .1
 
   pub not-full : count ≤ 255 → count < 255

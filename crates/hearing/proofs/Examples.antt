@@ -23,7 +23,7 @@ pub record HearingExamples : Type 0 where
   -- 20 + 20, −20 − 20, 5 − 7, −31 + 31, 31 + 0
   pub sums :
       clippedSums 5 (20 ∷ 0xEC ∷ 5 ∷ 0xE1 ∷ 31 ∷ []) (20 ∷ 0xEC ∷ 0xF9 ∷ 31 ∷ 0 ∷ []) ≡ 31 ∷ 0xE1 ∷ 0xFE ∷ 0 ∷ 31 ∷ []
-  -- each sum is clipped, so that the order matters: 20 + 20 − 31 is 0, and −31 + 20 + 20 is 9
+  -- each sum is clipped, so the order matters: 20 + 20 − 31 is 0, and −31 + 20 + 20 is 9
   pub each-clipped : (clippedSum (clippedSum 20 20) 0xE1 ≡ 0) × (clippedSum (clippedSum 0xE1 20) 20 ≡ 9)
   -- 12 and 13 come before 27; with a good vector 255 is refused and 254 is not
   pub refusals :

@@ -1,4 +1,4 @@
-pub mod Zeros
 pub mod Sums
 pub mod Adding
 pub mod Examples
+pub mod Inside

@@ -6,7 +6,7 @@ use mathlib.Core.List.{List}
 use Rattle.channel.specs.Channel.{channelValue}
 use Rattle.hearing.specs.declared.Hearing.{Hearing}
 
--- values to which a vector may be added: there is one for each of its values, and all lie in −31..31
+-- values to which a vector may be added: at least as many as it has, and all lie in −31..31
 pub record AddPre (values channel : List ℕ) : Type 0 where
   pub room : length channel ≤ length values
   pub values-small : (i : ℕ) → i < length channel → natAbs (channelValue (getD values i 0)) ≤ 31

@@ -1,5 +1,5 @@
--- Document 02, request 2.6: "Hold N combined values for a code, starting at zero, and a count of hearings." Values are bytes as a channel's
--- are. A hearing has room for those of the longest code; what follows the N of its code is zero.
+-- Document 02, request 2.6: "Hold N combined values for a code, starting at zero, and a count of hearings." Values are bytes in two's
+-- complement, like those of a channel. A hearing has room for those of the longest code; what follows the N of its code is zero.
 use mathlib.Core.Bool.{Bool, _&&_, cond}
 use mathlib.Core.List.{List, [], _∷_, _++_}
 use Prim.Native.Nat.{ℕ, _+_, _^_}
@@ -10,11 +10,11 @@ use Rattle.laws.specs.Table.{table}
 use Rattle.refusal.specs.declared.Refusal.{Refusal}
 use Rattle.refusal.specs.declared.Refusal.the-variants.{Alone}
 use Rattle.arrays.specs.Sizes.{deepest}
+use Rattle.arrays.specs.Padded.{padded, allZero}
 use Rattle.code.specs.declared.Code.{Code}
 use Rattle.code.specs.Code.{codeLength}
 use Rattle.channel.specs.Channel.{channelValue, byteOf, clip, firstOutside, channelRefusals}
 use Rattle.hearing.specs.declared.Hearing.{Hearing}
-use Rattle.hearing.specs.Padded.{padded, allZero}
 
 -- a hearing by its values and its count
 abbrev pub hearingOf : List ℕ → ℕ → Hearing
@@ -36,6 +36,7 @@ clippedSum a b = byteOf (clip (channelValue a +ℤ channelValue b))
 abbrev pub clippedSums : ℕ → List ℕ → List ℕ → List ℕ
 clippedSums size values channel = table (λ i. clippedSum (getD values i 0) (getD channel i 0)) size
 
+-- a hearing after one more vector
 abbrev pub addedTo : Code → Hearing → List ℕ → Hearing
 addedTo c h channel = hearingOf (clippedSums (codeLength c) (h .values) channel) (h .count + 1)
 
@@ -43,12 +44,12 @@ addedTo c h channel = hearingOf (clippedSums (codeLength c) (h .values) channel)
 abbrev pub addRefusals : Code → ℕ → List ℕ → List (Bool × Refusal)
 addRefusals c count channel = channelRefusals c channel ++ ((eqb count 255, Alone 27) ∷ [])
 
--- the place from which on all values are zero: the first where the count is 0, else N
+-- the index from which on all values are zero: 0 if the count is 0, otherwise N
 abbrev pub zeroFrom : Code → ℕ → ℕ
 zeroFrom c count = cond (eqb count 0) 0 (codeLength c)
 
--- Which values and count some adds and clears leave under a code: a count of at most 255, values in −31..31, and zeros from `zeroFrom` on.
--- `held-after` and `left-by-some` of crate `repeats` prove that these are the ones.
+-- whether a list of adds and clears can leave this hearing under a code: a count of at most 255, values in −31..31, and zeros from `zeroFrom` on.
+-- `held-after` and `left-by-some` of crate `hearing_demands` prove that these are the ones.
 abbrev pub isHearing : Code → Hearing → Bool
 isHearing c h =
     leb (h .count) 255 && (allZero (drop (zeroFrom c (h .count)) (h .values)) && eqb (firstOutside (combined c h)) (codeLength c))

@@ -6,22 +6,23 @@ use refusal::Judgement;
 use refusal::Refusal;
 ghost use mathlib.Core.Path.{_≡_};
 ghost use mathlib.Core.Bool.{true};
-ghost use Prim.Native.Nat.{_+_, _^_, _≤_, min, max};
+ghost use Prim.Native.Nat.{_^_, _≤_};
 ghost use lib.Dec.{eqb};
 ghost use lib.IntN.{natAbs};
-ghost use lib.ListN.{length, take, drop};
+ghost use lib.ListN.{length, take};
 ghost use Rattle.laws.specs.Contracts.{splice};
 ghost use Rattle.refusal.specs.declared.Judgement.the-variants.{Fine};
 ghost use Rattle.refusal.specs.Judge.{judge};
 ghost use Rattle.arrays.specs.Sizes.{deepest};
 ghost use Rattle.channel.specs.Channel.{channelValue, firstOutside};
-ghost use Rattle.hearing.specs.Padded.{allZero};
 ghost use Rattle.hearing.specs.Hearing.{fresh, clippedSum, clippedSums, addedTo, addRefusals, zeroFrom, isHearing};
 ghost use Rattle.hearing.specs.Contracts.{AddPre, hearingBy};
 
-// Combined values, as many as the longest code has, and how many vectors they are of.
+// The vectors of a frame, added up.
 pub struct Hearing {
+    // The combined values: as many as the longest code has, and zeros after those of the code.
     pub values: ByteArray,
+    // How many vectors they are of.
     pub count: u8,
 }
 
@@ -35,46 +36,21 @@ pub fn fresh() -> Hearing
     }
 }
 
-// Whether every byte from an index on is zero. No branch depends on a byte: the loop takes many at once.
-pub fn is_zero_from(bytes: &[u8], start: usize) -> bool
-    requires { ⌜ start ≤ length (now bytes) ⌝ }
-    ensures { λ b. ⌜ b ≡ allZero (drop start (now (bytes .entry))) ⌝ }
-{
-    let mut any = 0u8;
-    let mut i = start;
-    while i < bytes.len() {
-        any = any | bytes[i];
-        i += 1;
-    }
-    any == 0
-}
-
-// The nearest number in 31..93: −31..31, 62 too large.
-fn clamped(x: u32) -> u32
-    ensures { λ r. ⌜ r ≡ max 31 (min 93 x) ⌝ }
-{
-    if x < 31 {
-        return 31;
-    }
-    if 93 < x {
-        return 93;
-    }
-    x
-}
-
-// The sum of two values, clipped to −31..31. On the way it is 62 too large, and so never negative.
+// The sum of two values, clamped to −31..31. The sum has 62 added while it is clamped, so that it is not negative.
 fn clipped_sum(a: u8, b: u8) -> u8
-    requires { ⌜ (natAbs (channelValue a) ≤ 31) × (natAbs (channelValue b) ≤ 31) ⌝ }
+    requires { ⌜ (natAbs (channelValue a) ≤ 31)
+        × (natAbs (channelValue b) ≤ 31) ⌝ }
     ensures { λ s. ⌜ s ≡ clippedSum a b ⌝ }
 {
-    let sum = clamped((a as u32 + b as u32 + 62) % 256);
+    let sum = arrays::clamped((a as u32 + b as u32 + 62) % 256, 31, 93);
     ((sum + 194) % 256) as u8
 }
 
 // Adds a vector to the first values, value by value.
 pub fn add_values(values: &mut [u8], channel: &[u8])
     requires { ⌜ AddPre (now values) (now channel) ⌝ }
-    ensures { λ _. ⌜ now (values .exit) ≡ splice (now (values .entry)) 0 (clippedSums (length (now (channel .entry))) (now (values .entry)) (now (channel .entry))) ⌝ }
+    ensures { λ _. ⌜ now (values .exit)
+        ≡ splice (now (values .entry)) 0 (clippedSums (length (now (channel .entry))) (now (values .entry)) (now (channel .entry))) ⌝ }
 {
     let mut i = 0;
     while i < channel.len() {
@@ -85,7 +61,9 @@ pub fn add_values(values: &mut [u8], channel: &[u8])
 
 // Adds a vector that no refusal applies to.
 pub fn add(code: Code, hearing: Hearing, channel: &[u8]) -> Hearing
-    requires { ⌜ (code .n ≤ deepest) × (isHearing code hearing ≡ true) × (judge (addRefusals code (hearing .count) (now channel)) ≡ Fine) ⌝ }
+    requires { ⌜ (code .n ≤ deepest)
+        × (isHearing code hearing ≡ true)
+        × (judge (addRefusals code (hearing .count) (now channel)) ≡ Fine) ⌝ }
     ensures { λ h. ⌜ h ≡ addedTo code hearing (now (channel .entry)) ⌝ }
 {
     let mut values = hearing.values;
@@ -112,7 +90,7 @@ pub fn judge_add(code: Code, count: u8, channel: &[u8]) -> Judgement
     }
 }
 
-// Where the values of a hearing are zero from.
+// The index from which on all values of a hearing are zero.
 fn zero_from(code: Code, count: u8) -> usize
     requires { ⌜ code .n ≤ deepest ⌝ }
     ensures { λ i. ⌜ i ≡ zeroFrom code count ⌝ }
@@ -131,12 +109,13 @@ fn are_inside(values: &[u8], size: usize) -> bool
     channel::are_inside(&values[..size])
 }
 
-// Whether some adds and clears leave a hearing with this count and these values.
+// Whether a list of adds and clears can leave a hearing with this count and these values.
 pub fn is_hearing(code: Code, count: u8, values: &[u8]) -> bool
-    requires { ⌜ (code .n ≤ deepest) × (length (now values) ≡ 2 ^ deepest) ⌝ }
+    requires { ⌜ (code .n ≤ deepest)
+        × (length (now values) ≡ 2 ^ deepest) ⌝ }
     ensures { λ b. ⌜ b ≡ isHearing code (hearingBy count (now (values .entry))) ⌝ }
 {
-    if is_zero_from(values, zero_from(code, count)) {
+    if arrays::is_zero_from(values, zero_from(code, count)) {
         return are_inside(values, 1usize << code.n);
     }
     false

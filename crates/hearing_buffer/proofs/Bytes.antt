@@ -10,8 +10,9 @@ use lib.Seq.{take-at, drop-at, getD-at, drop-cons, append-snoc}
 use Rattle.laws.specs.Contracts.{splice}
 use Rattle.laws.proofs.Segment.{set-splice, splice-next, splice-whole, length-splice}
 use Rattle.arrays.specs.Sizes.{deepest}
+use Rattle.code.specs.Code.{longestDescription}
 use Rattle.hearing_state.specs.declared.State.{State}
-use Rattle.hearing_state.specs.State.{longestDescription, noState}
+use Rattle.hearing_state.specs.State.{noState}
 use Rattle.hearing_buffer.specs.Lent.{hearingSize, bytesOf, stateAt, stateIn}
 use Rattle.hearing_buffer.specs.Claims.{ReadWritten, WrittenRead}
 

@@ -1,4 +1,4 @@
--- The parts of a buffer that holds a state, and what an add in place leaves there.
+-- The parts of a buffer that holds a state, and what an add in place leaves in it.
 use mathlib.Core.Path.{_≡_, refl, sym, ap, ap₂, _∙_}
 use mathlib.Core.Bool.{Bool, true, false, cond}
 use mathlib.Core.List.{List, [], _∷_, _++_, append-nil}
@@ -14,8 +14,9 @@ use Rattle.code.specs.declared.Code.{Code}
 use Rattle.code.specs.declared.Description.{Description}
 use Rattle.code.specs.declared.Description.the-variants.{Accepted, Refused}
 use Rattle.code.specs.Description.{onDescription}
+use Rattle.code.specs.Code.{longestDescription}
 use Rattle.hearing_state.specs.declared.Heard.{Heard}
-use Rattle.hearing_state.specs.State.{longestDescription, noState, codeOfState, refusedIn}
+use Rattle.hearing_state.specs.State.{noState, codeOfState, refusedIn}
 use Rattle.hearing_state.specs.Contracts.{stateBy, StatePre}
 use Rattle.hearing_state.proofs.States.{no-code}
 use Rattle.hearing_buffer.specs.Lent.{hearingSize, stateAt, stateIn}
@@ -32,7 +33,7 @@ code-size b c = at (eqb (length b) hearingSize) refl
         let z : _≡_ {A = ℕ} 0 1 = cc in
         absurd (omega arith)
 
--- and so has one on whose state an operation is not refused
+-- a buffer on whose state an operation is not refused has the right size
 pub fine-size : (b : List ℕ) (go : Code → Heard) → onDescription (codeOfState (stateIn b)) (refusedIn (stateIn b)) go .judgement ≡ Fine → length b ≡ hearingSize
 fine-size b go = by (codeOfState (stateIn b)) refl
   where

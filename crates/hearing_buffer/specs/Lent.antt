@@ -8,10 +8,11 @@ use lib.ListN.{length, getD, take, drop}
 use Rattle.refusal.specs.declared.Refusal.the-variants.{Alone}
 use Rattle.refusal.specs.Judge.{refusedOr}
 use Rattle.arrays.specs.Sizes.{deepest}
+use Rattle.code.specs.Code.{longestDescription}
 use Rattle.flip_run.specs.declared.Decoded.{Decoded}
 use Rattle.hearing_state.specs.declared.State.{State}
 use Rattle.hearing_state.specs.declared.Heard.{Heard}
-use Rattle.hearing_state.specs.State.{longestDescription, noState, opened, added, cleared, hearingFull, hearingRestarted}
+use Rattle.hearing_state.specs.State.{noState, opened, added, cleared, hearingFull, hearingRestarted}
 use Rattle.hearing_buffer.specs.declared.Kept.{Kept}
 use Rattle.hearing_buffer.specs.declared.Kept.the-variants.{Done, Refused}
 
@@ -19,17 +20,18 @@ use Rattle.hearing_buffer.specs.declared.Kept.the-variants.{Done, Refuse
 abbrev pub hearingSize : ℕ
 hearingSize = longestDescription + (1 + 2 ^ deepest)
 
--- the bytes of a state, and the state of so many bytes
+-- the bytes of a state
 abbrev pub bytesOf : State → List ℕ
 bytesOf s = s .description ++ (s .hearing .count ∷ s .hearing .values)
 
+-- the state that has these bytes, as many as the size of a buffer
 abbrev pub stateAt : List ℕ → State
 stateAt b = record {
   description = take longestDescription b;
   hearing = record { values = drop (1 + longestDescription) b; count = getD b longestDescription 0 };
 }
 
--- the state in a buffer, and none in a buffer of another size
+-- the state in a buffer; no state if the buffer has another size
 abbrev pub stateIn : List ℕ → State
 stateIn b = cond (eqb (length b) hearingSize) (stateAt b) noState
 
@@ -37,19 +39,22 @@ stateIn b = cond (eqb (length b) hearingSize) (stateAt b) noState
 abbrev pub kept : Heard → List ℕ → Kept × List ℕ
 kept a b = refusedOr (a .judgement) (λ x. (Refused x, b)) (Done (a .state .hearing .count), bytesOf (a .state))
 
--- open, whatever a buffer of the right size holds; add; clear
+-- open: what a buffer of the right size held before does not matter
 abbrev pub openedIn : List ℕ → List ℕ → Kept × List ℕ
 openedIn d b = cond (eqb (length b) hearingSize) (kept (opened d) b) (Refused (Alone 40), b)
 
+-- add
 abbrev pub addedIn : List ℕ → List ℕ → Kept × List ℕ
 addedIn b channel = kept (added (stateIn b) channel) b
 
+-- clear
 abbrev pub clearedIn : List ℕ → Kept × List ℕ
 clearedIn b = kept (cleared (stateIn b)) b
 
--- decode: the state is only read
+-- decode with each later trial repeated from the root: the state is only read
 abbrev pub fullIn : List ℕ → ℕ → List ℕ → Decoded × List ℕ
 fullIn b limit output = hearingFull (stateIn b) limit output
 
+-- decode with each later trial resumed after its flipped index
 abbrev pub restartedIn : List ℕ → ℕ → List ℕ → Decoded × List ℕ
 restartedIn b limit output = hearingRestarted (stateIn b) limit output

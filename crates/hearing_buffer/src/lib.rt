@@ -18,15 +18,18 @@ ghost use Rattle.hearing.specs.Hearing.{combined};
 ghost use Rattle.hearing_state.specs.State.{descriptionOf, codeOfState, addedUnder, hearingWith};
 ghost use Rattle.hearing_buffer.specs.Lent.{hearingSize, bytesOf, stateAt, stateIn, kept, openedIn, addedIn, clearedIn, fullIn, restartedIn};
 
-// What a call on a lent state answers: the count of hearings, or the refusal.
+// What a call on a state in a buffer answers.
 pub enum Kept {
+    // The call is done: the state now holds the sums of `count` vectors.
     Done { count: u8 },
+    // The call is refused, and the buffer is as it was.
     Refused(Refusal),
 }
 
-// Where the values stand, and the size of a buffer.
+// The index of the first value in a buffer.
 pub const VALUES_AT: usize = LONGEST + 1;
 
+// The size of a buffer.
 const HEARING_SIZE: usize = VALUES_AT + SIZE;
 
 // The state in a buffer of the right size.
@@ -48,7 +51,7 @@ fn read_at(buffer: &[u8]) -> State
     }
 }
 
-// The state in a buffer, and none in a buffer of another size.
+// The state in a buffer; no state if its size is another.
 fn read(buffer: &[u8]) -> State
     ensures { λ s. ⌜ s ≡ stateIn (now (buffer .entry)) ⌝ }
 {
@@ -69,7 +72,7 @@ fn write(state: State, buffer: &mut [u8])
     arrays::copy(&hearing.values, 0, buffer, VALUES_AT, SIZE);
 }
 
-// Keeps the state that a call leaves, where it is not refused.
+// Writes the state that a call leaves, if the call is not refused.
 fn keep(heard: Heard, buffer: &mut [u8]) -> Kept
     requires { ⌜ (heard .judgement ≡ Judgement.Fine → length (now buffer) ≡ hearingSize) ⌝ }
     ensures { λ a. ⌜ (a, now (buffer .exit)) ≡ kept heard (now (buffer .entry)) ⌝ }
@@ -108,10 +111,11 @@ pub fn code_in(buffer: &[u8]) -> Description
     Description::Refused(Refusal::Alone(40))
 }
 
-// Adds a vector under the code of the state, in place: no other byte of the buffer is moved.
+// Adds a vector under the code of the state, in place: no byte of the buffer changes but its values and count.
 fn add_under(code: Code, buffer: &mut [u8], channel: &[u8]) -> Kept
     requires { ⌜ codeOfState (stateIn (now buffer)) ≡ Description.Accepted code ⌝ }
-    ensures { λ a. ⌜ (a, now (buffer .exit)) ≡ kept (addedUnder code (stateIn (now (buffer .entry))) (now (channel .entry))) (now (buffer .entry)) ⌝ }
+    ensures { λ a. ⌜ (a, now (buffer .exit))
+        ≡ kept (addedUnder code (stateIn (now (buffer .entry))) (now (channel .entry))) (now (buffer .entry)) ⌝ }
 {
     let count = buffer[LONGEST];
     match hearing::judge_add(code, count, channel) {
@@ -142,15 +146,17 @@ pub fn clear(buffer: &mut [u8]) -> Kept
     keep(heard, buffer)
 }
 
-// Decodes under the code of the state.
+// Decodes the values in a buffer under the code of its state.
 fn decode_under(plan: Plan, code: Code, buffer: &[u8], output: &mut [u8]) -> Decoded
     requires { ⌜ codeOfState (stateIn (now buffer)) ≡ Description.Accepted code ⌝ }
-    ensures { λ a. ⌜ (a, now (output .exit)) ≡ decodedWith plan (descriptionOf (stateIn (now (buffer .entry)))) (combined code (stateIn (now (buffer .entry)) .hearing)) (now (output .entry)) ⌝ }
+    ensures { λ a. ⌜ (a, now (output .exit))
+        ≡ decodedWith plan (descriptionOf (stateIn (now (buffer .entry))))
+        (combined code (stateIn (now (buffer .entry)) .hearing)) (now (output .entry)) ⌝ }
 {
     hearing_state::decode_values(plan, code, &buffer[..LONGEST], &buffer[VALUES_AT..], output)
 }
 
-// Decodes the hearing in a buffer, from the values as they stand there.
+// Decodes the hearing in a buffer. Its values are not copied.
 fn decode(plan: Plan, buffer: &[u8], output: &mut [u8]) -> Decoded
     ensures { λ a. ⌜ (a, now (output .exit)) ≡ hearingWith plan (stateIn (now (buffer .entry))) (now (output .entry)) ⌝ }
 {
@@ -160,6 +166,7 @@ fn decode(plan: Plan, buffer: &[u8], output: &mut [u8]) -> Decoded
     }
 }
 
+// Decodes the hearing in a buffer with each later trial repeated from the root.
 pub fn decode_full(buffer: &[u8], limit: u32, output: &mut [u8]) -> Decoded
     ensures { λ a. ⌜ (a, now (output .exit)) ≡ fullIn (now (buffer .entry)) limit (now (output .entry)) ⌝ }
 {
@@ -170,6 +177,7 @@ pub fn decode_full(buffer: &[u8], limit: u32, output: &mut [u8]) -> Decoded
     decode(full, buffer, output)
 }
 
+// Decodes the hearing in a buffer with each later trial resumed after its flipped index.
 pub fn decode_restarted(buffer: &[u8], limit: u32, output: &mut [u8]) -> Decoded
     ensures { λ a. ⌜ (a, now (output .exit)) ≡ restartedIn (now (buffer .entry)) limit (now (output .entry)) ⌝ }
 {

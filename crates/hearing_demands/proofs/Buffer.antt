@@ -12,14 +12,15 @@ use Rattle.refusal.specs.declared.Judgement.{Judgement}
 use Rattle.refusal.specs.declared.Judgement.the-variants.{Fine, Refused}
 use Rattle.refusal.specs.Judge.{judge, refusedOr}
 use Rattle.arrays.specs.Sizes.{deepest}
+use Rattle.arrays.proofs.Zeros.{length-padded}
 use Rattle.code.specs.declared.Code.{Code}
 use Rattle.code.specs.declared.Description.the-variants.{Accepted as Coding}
 use Rattle.code.specs.Description.{describe}
+use Rattle.code.specs.Code.{longestDescription}
 use Rattle.hearing.specs.Hearing.{fresh, addRefusals}
-use Rattle.hearing.proofs.Zeros.{length-padded}
 use Rattle.hearing_state.specs.declared.State.{State}
 use Rattle.hearing_state.specs.declared.Heard.{Heard}
-use Rattle.hearing_state.specs.State.{longestDescription, stateOf, opened, added, cleared}
+use Rattle.hearing_state.specs.State.{stateOf, opened, added, cleared}
 use Rattle.hearing_buffer.specs.declared.Kept.{Kept as Answer}
 use Rattle.hearing_buffer.specs.declared.Kept.the-variants as keep
 use Rattle.hearing_buffer.specs.Lent.{hearingSize, bytesOf, stateIn, kept, openedIn}
@@ -58,7 +59,7 @@ module _ (d : List ℕ) (c : Code) (code : describe d ≡ Coding c) where
       go Fine e = written k
       go (Refused x) e = record { size = nb; reads = sym (same x e) }
 
-  -- the next call on the same buffer
+  -- the next call on this buffer
   step : {b : List ℕ} {s : State} {vectors : List (List ℕ)} (calls : List Call)
       → ((b : List ℕ) (vectors : List (List ℕ)) → length b ≡ hearingSize → Invariant d c code (stateIn b) vectors → stateIn (bufferAfter b calls) ≡ after (stateIn b) calls)
       → InBuffer b s → Invariant d c code s vectors → stateIn (bufferAfter b calls) ≡ after s calls

@@ -7,11 +7,14 @@ use native.Mathlib.Omega.{arith}
 use lib.ListN.{length, take, drop, replicate, List·getD-append}
 use Rattle.refusal.specs.declared.Refusal.{Refusal}
 use Rattle.refusal.specs.declared.Judgement.the-variants.{Fine}
+use Rattle.arrays.specs.Padded.{padded, allZero}
+use Rattle.arrays.proofs.Zeros.{are-zeros, take-padded, drop-padded}
 use Rattle.code.specs.declared.Code.{Code}
 use Rattle.code.specs.declared.Description.{Description}
 use Rattle.code.specs.declared.Description.the-variants.{Accepted as Coding}
 use Rattle.code.specs.Description.{word, describe, onDescription}
 use Rattle.code.specs.Claims.{Laid, accepts}
+use Rattle.code.specs.Code.{longestDescription}
 use Rattle.code.proofs.WellFormed.{well-formed-exactly}
 use Rattle.code.proofs.Facts.{described}
 use Rattle.code.proofs.TwoKinds.{fields-there}
@@ -20,11 +23,9 @@ use Rattle.flip_run.specs.declared.Plan.{Plan}
 use Rattle.flip_run.specs.declared.Decoded.the-variants.{Refused}
 use Rattle.flip_decoder.specs.Decode.{decodedWith}
 use Rattle.hearing.specs.declared.Hearing.{Hearing}
-use Rattle.hearing.specs.Padded.{padded, allZero}
 use Rattle.hearing.specs.Hearing.{combined, fresh, isHearing}
-use Rattle.hearing.proofs.Zeros.{are-zeros, take-padded, drop-padded}
 use Rattle.hearing_state.specs.declared.State.{State}
-use Rattle.hearing_state.specs.State.{longestDescription, stateOf, noState, descriptionOf, codeOfState, heard, refusedIn, opened, hearingWith}
+use Rattle.hearing_state.specs.State.{stateOf, noState, descriptionOf, codeOfState, heard, refusedIn, opened, hearingWith}
 use Rattle.hearing_state.proofs.States.{code-by}
 
 module _ (d : List ℕ) (c : Code) (code : describe d ≡ Coding c) where

@@ -28,13 +28,12 @@ use Rattle.flip_demands.proofs.Demand3.{demand-3}
 use Rattle.hearing.specs.declared.Hearing.{Hearing}
 use Rattle.hearing.specs.Hearing.{hearingOf, combined, fresh, clippedSums, addRefusals, isHearing}
 use Rattle.hearing.proofs.Adding.{not-full}
+use Rattle.hearing.proofs.Inside.{Inside, none-outside, zeros-inside, sums-inside, zeros-values, sums-values, fresh-is, combined-is, added-to, zeros-hearing, heard-hearing}
 use Rattle.hearing_state.specs.declared.State.{State}
 use Rattle.hearing_state.specs.declared.Heard.{Heard}
 use Rattle.hearing_state.specs.State.{stateOf, heard, refusedIn, addedUnder, added, cleared}
 use Rattle.hearing_demands.specs.Repeats.{Call, add, clear, after, acceptedIn, foldOfSums, Holds, HeldAfter}
 use Rattle.hearing_demands.proofs.Descriptions.{opened-is, description-of, code-of, on-state, heard-is}
-use Rattle.hearing_demands.proofs.Adding.{Inside, none-outside, zeros-inside, sums-inside, zeros-values, sums-values}
-use Rattle.hearing_demands.proofs.Adding.{fresh-is, combined-is, added-to, zeros-hearing, heard-hearing}
 
 -- the last vector apart
 fold-snoc : (size : ℕ) (sums : List ℤ) (vectors : List (List ℕ)) (channel : List ℕ)

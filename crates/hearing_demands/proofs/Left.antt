@@ -17,9 +17,11 @@ use Rattle.refusal.specs.declared.Judgement.the-variants.{Fine}
 use Rattle.refusal.specs.Judge.{judge}
 use Rattle.refusal.proofs.Judge.{judge-none, judge-no, append-fine}
 use Rattle.arrays.specs.Sizes.{deepest}
+use Rattle.arrays.specs.Padded.{padded, allZero}
+use Rattle.arrays.proofs.Zeros.{and-true, zeros-are, zeros-past}
 use Rattle.code.specs.declared.Code.{Code}
 use Rattle.code.specs.declared.Description.the-variants.{Accepted as Coding}
-use Rattle.code.specs.Code.{codeLength}
+use Rattle.code.specs.Code.{codeLength, longestDescription}
 use Rattle.code.specs.Description.{word, describe}
 use Rattle.code.proofs.Facts.{described}
 use Rattle.channel.specs.Channel.{channelValue, byteOf, clip, channelRefusals}
@@ -27,23 +29,21 @@ use Rattle.channel.proofs.Bytes.{byte-channel}
 use Rattle.channel.proofs.Judge.{channel-fine}
 use Rattle.channel.proofs.Outside.{each-inside}
 use Rattle.hearing.specs.declared.Hearing.{Hearing}
-use Rattle.hearing.specs.Padded.{padded, allZero}
 use Rattle.hearing.specs.Hearing.{hearingOf, combined, fresh, clippedSum, clippedSums, addRefusals, zeroFrom, isHearing}
-use Rattle.hearing.proofs.Zeros.{and-true, zeros-are, zeros-past}
 use Rattle.hearing.proofs.Adding.{from-most, count-most, zero-from, held-size, held-inside}
+use Rattle.hearing.proofs.Inside.{Inside, none-outside, each-zero, zeros-inside, fresh-is, zeros-hearing}
 use Rattle.hearing_state.specs.declared.State.{State}
 use Rattle.hearing_state.specs.declared.Heard.{Heard}
-use Rattle.hearing_state.specs.State.{longestDescription, stateOf, descriptionOf, codeOfState, added, opened}
+use Rattle.hearing_state.specs.State.{stateOf, descriptionOf, codeOfState, added, opened}
 use Rattle.hearing_state.proofs.States.{state-is}
 use Rattle.hearing_demands.specs.Repeats.{Call, add, after}
 use Rattle.hearing_buffer.specs.Lent.{bytesOf, stateIn}
 use Rattle.hearing_buffer.proofs.Bytes.{state-at, written-read}
 use Rattle.hearing_demands.specs.Claims.{Sized, LeftBySome, BytesLeft}
 use Rattle.hearing_demands.proofs.Descriptions.{opened-is}
-use Rattle.hearing_demands.proofs.Adding.{Inside, none-outside, each-zero, zeros-inside, fresh-is, zeros-hearing}
 use Rattle.hearing_demands.proofs.HeldAfter.{room, added-fine}
 
--- ---- adds where zeros are held
+-- ---- adds to zeros
 
 clip-same : (z : ℤ) → natAbs z ≤ 31 → clip z ≡ z
 clip-same (pos n) l = let e : min 31 n ≡ n = omega arith in ap pos e

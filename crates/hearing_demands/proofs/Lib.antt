@@ -1,5 +1,4 @@
 pub mod Descriptions
-pub mod Adding
 pub mod HeldAfter
 pub mod Refused
 pub mod Buffer

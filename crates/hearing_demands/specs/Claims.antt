@@ -1,4 +1,4 @@
--- What else the theorems of this crate state.
+-- What the theorems of this crate state besides `HeldAfter` and `BufferAfter`.
 use mathlib.Core.Path.{_≡_}
 use mathlib.Core.List.{List}
 use Prim.Native.Nat.{ℕ, _<_, _^_}
@@ -8,8 +8,9 @@ use Rattle.refusal.specs.declared.Judgement.the-variants.{Refused}
 use Rattle.arrays.specs.Sizes.{deepest}
 use Rattle.code.specs.declared.Code.{Code}
 use Rattle.code.specs.declared.Description.the-variants.{Accepted as Coding}
+use Rattle.code.specs.Code.{longestDescription}
 use Rattle.hearing_state.specs.declared.State.{State}
-use Rattle.hearing_state.specs.State.{longestDescription, descriptionOf, codeOfState, opened}
+use Rattle.hearing_state.specs.State.{descriptionOf, codeOfState, opened}
 use Rattle.hearing_buffer.specs.Lent.{hearingSize, bytesOf, stateIn}
 use Rattle.hearing_demands.specs.Repeats.{Call, called, after}
 
@@ -23,11 +24,12 @@ pub record Sized (s : State) : Type 0 where
   pub values-size : length (s .hearing .values) ≡ 2 ^ deepest
   pub bytes : (i : ℕ) → getD (s .hearing .values) i 0 < 256
 
--- Refusal 40 is for what no list of calls leaves: a state that is not refused is left by some adds, from a fresh hearing of its description,
--- `left-by-some`; and so are bytes of which it is the state, `bytes-left`. That what calls leave is not refused is `Holds .code-is`.
+-- Refusal 40 is for what no list of calls leaves: a state that is not refused is left by some adds, from a fresh hearing of its description.
+-- `left-by-some` of proofs/Left.antt. That what calls leave is not refused is `Holds .code-is`.
 abbrev pub LeftBySome : Type 0
 LeftBySome = (s : State) (c : Code) → Sized s → codeOfState s ≡ Coding c → (calls : List Call) × (after (opened (descriptionOf s) .state) calls ≡ s)
 
+-- So are the bytes of a buffer whose state is not refused: `bytes-left` of proofs/Left.antt.
 abbrev pub BytesLeft : Type 0
 BytesLeft =
     (b : List ℕ) (c : Code) → length b ≡ hearingSize → ((i : ℕ) → getD b i 0 < 256) → codeOfState (stateIn b) ≡ Coding c

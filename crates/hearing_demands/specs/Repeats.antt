@@ -23,9 +23,12 @@ use Rattle.hearing_buffer.specs.Lent.{hearingSize, stateIn, openedIn, addedIn, 
 
 -- a call that may change a state
 pub data Call : Type 0 where
+  -- add a vector
   add : List ℕ → Call
+  -- clear
   clear : Call
 
+-- what a call answers, and the state afterwards
 abbrev pub called : State → Call → Heard
 called s (add channel) = added s channel
 called s clear = cleared s
@@ -49,18 +52,23 @@ foldOfSums size sums (v ∷ vs) = foldOfSums size (table (λ i. clip (getD sums 
 
 -- the state s, of a code c with description d, holds these vectors
 pub record Holds (d : List ℕ) (c : Code) (s : State) (vectors : List (List ℕ)) : Type 0 where
-  -- it is a state of that code: no later call is refused as 40
+  -- it holds the description
   pub description-is : descriptionOf s ≡ d
+  -- it is a state of that code: no later call is refused as 40
   pub code-is : codeOfState s ≡ Coding c
-  -- the count is their number
+  -- the count is the number of the vectors
   pub count-is : s .hearing .count ≡ length vectors
+  -- which is at most 255
   pub count-most : length vectors ≤ 255
-  -- the held values are the fold of clipped sums, and well-formed
+  -- the held values are the fold of clipped sums
   pub values-are : channelValues (combined c (s .hearing)) ≡ foldOfSums (codeLength c) (replicate (codeLength c) (pos 0)) (map channelValues vectors)
+  -- they are N
   pub size-is : length (combined c (s .hearing)) ≡ codeLength c
+  -- they lie in −31..31
   pub in-range : firstOutside (combined c (s .hearing)) ≡ codeLength c
-  -- decoding is that of the held values
+  -- full decoding is that of the held values
   pub full-is : (limit : ℕ) (output : List ℕ) → hearingFull s limit output ≡ decodedFull d (combined c (s .hearing)) limit output
+  -- restarted decoding is that of the held values
   pub restarted-is : (limit : ℕ) (output : List ℕ) → hearingRestarted s limit output ≡ decodedRestarted d (combined c (s .hearing)) limit output
   -- "Restart and full decoding must agree on the combined vector": demand 3, with every T and every output buffer that the code allows
   pub agree :
@@ -72,16 +80,17 @@ pub record Holds (d : List ℕ) (c : Code) (s : State) (vectors : List (List ℕ
 abbrev pub HeldAfter : Type 0
 HeldAfter = (d : List ℕ) (c : Code) (calls : List Call) → describe d ≡ Coding c → Holds d c (after (opened d .state) calls) (acceptedIn c [] calls)
 
--- for C: what a call leaves in a buffer, and what a list of calls does
+-- for C: what a call leaves in a buffer
 abbrev pub calledIn : List ℕ → Call → List ℕ
 calledIn b (add channel) = addedIn b channel .1
 calledIn b clear = clearedIn b .1
 
+-- for C: what a list of calls leaves in a buffer
 abbrev pub bufferAfter : List ℕ → List Call → List ℕ
 bufferAfter b [] = b
 bufferAfter b (call ∷ calls) = bufferAfter (calledIn b call) calls
 
--- In any buffer of the right size in which a hearing is opened, any list of adds and clears leaves the state that it leaves in Rattle, so that
+-- In any buffer of the right size in which a hearing is opened, any list of adds and clears leaves the state that it leaves in Rattle, so
 -- `HeldAfter` says what it holds: `buffer-after` of proofs/Buffer.antt.
 abbrev pub BufferAfter : Type 0
 BufferAfter =

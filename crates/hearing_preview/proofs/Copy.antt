@@ -1,4 +1,4 @@
--- Add and then decode on a copy of a buffer: what the add writes there is read back.
+-- Add and then decode on a copy of a buffer: what the add writes in the copy is read back.
 use mathlib.Core.Path.{_≡_, refl, ap}
 use mathlib.Core.List.{List}
 use Prim.Native.Nat.{ℕ}

@@ -9,29 +9,29 @@ use lib.Seq.{length-take-le}
 use Rattle.laws.specs.Contracts.{splice, segment}
 use Rattle.laws.proofs.Table.{length-table}
 use Rattle.arrays.specs.Sizes.{deepest}
+use Rattle.arrays.specs.Padded.{allZero}
 use Rattle.arrays.proofs.Sizes.{fits}
+use Rattle.arrays.proofs.Zeros.{and-true, drop-replicate, length-padded, splice-padded}
 use Rattle.code.specs.declared.Code.{Code}
 use Rattle.code.specs.declared.Description.{Description}
 use Rattle.code.specs.declared.Description.the-variants.{Accepted}
-use Rattle.code.specs.Code.{codeLength}
+use Rattle.code.specs.Code.{codeLength, longestDescription}
 use Rattle.code.specs.Description.{describe, onDescription}
 use Rattle.flip_run.specs.declared.Decoded.the-variants.{Refused}
 use Rattle.flip_trial.specs.declared.Restart.the-variants.{After}
 use Rattle.flip_run.specs.Plan.{planOf}
 use Rattle.flip_decoder.specs.Decode.{decodedWith}
 use Rattle.hearing.specs.declared.Hearing.{Hearing}
-use Rattle.hearing.specs.Padded.{allZero}
 use Rattle.hearing.specs.Hearing.{combined, clippedSums, addedTo, isHearing}
 use Rattle.hearing.specs.Contracts.{AddPre}
-use Rattle.hearing.proofs.Zeros.{and-true, drop-replicate, length-padded, splice-padded}
 use Rattle.hearing.proofs.Adding.{count-most, zeros-after, channel-size, not-full, add-pre, sums-are}
+use Rattle.hearing.proofs.Inside.{sums-inside, heard-hearing}
 use Rattle.hearing_state.specs.declared.State.{State}
-use Rattle.hearing_state.specs.State.{longestDescription, descriptionOf, codeOfState, withHearing, hearingRestarted}
+use Rattle.hearing_state.specs.State.{descriptionOf, codeOfState, withHearing, hearingRestarted}
 use Rattle.hearing_state.proofs.States.{code-by, state-is, code-most, is-hearing}
 use Rattle.hearing_buffer.specs.Lent.{hearingSize, stateIn}
 use Rattle.hearing_buffer.proofs.Bytes.{state-at}
 use Rattle.hearing_buffer.proofs.InPlace.{code-size}
-use Rattle.hearing_demands.proofs.Adding.{sums-inside, heard-hearing}
 use Rattle.hearing_preview.specs.Contracts.{MayAdd}
 
 module _ (c : Code) (b channel : List ℕ) (may : MayAdd c b channel) where

@@ -28,10 +28,11 @@ pub record Previews (d : List ℕ) (c : Code) (s : State) (vectors : List (List 
   pub refused :
       (x : Refusal) → judge (addRefusals c (length vectors) channel) ≡ judgement.Refused x
       → (limit : ℕ) (output : List ℕ) → previewed s channel limit output ≡ (Refused x, output)
-  -- otherwise it is that of restarted decoding of the sums: those that a state holds which holds this vector too
+  -- otherwise the answer is that of restarted decoding of the sums
   pub decoded :
       judge (addRefusals c (length vectors) channel) ≡ judgement.Fine
       → (limit : ℕ) (output : List ℕ) → previewed s channel limit output ≡ decodedRestarted d (combined c (added s channel .state .hearing)) limit output
+  -- and they are the sums of a state that holds this vector too
   pub sums : judge (addRefusals c (length vectors) channel) ≡ judgement.Fine → Holds d c (added s channel .state) (vectors ++ (channel ∷ []))
 
 -- any code, and any list of adds and clears from a fresh hearing: `preview-after`
@@ -40,7 +41,7 @@ PreviewAfter =
     (d : List ℕ) (c : Code) (calls : List Call) (channel : List ℕ)
     → describe d ≡ Coding c → Previews d c (after (opened d .state) calls) (acceptedIn c [] calls) channel
 
--- and for C, in any buffer of the right size, the answer is that in Rattle: `preview-in-after`
+-- for C, in any buffer of the right size, the answer is that in Rattle: `preview-in-after`
 abbrev pub PreviewInAfter : Type 0
 PreviewInAfter =
     (d b : List ℕ) (c : Code) (calls : List Call) (channel : List ℕ) (limit : ℕ) (output : List ℕ)

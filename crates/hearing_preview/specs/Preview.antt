@@ -21,7 +21,7 @@ thenRestarted a limit output = refusedOr (a .judgement) (λ x. (Refused x, outpu
 abbrev pub previewed : State → List ℕ → ℕ → List ℕ → Decoded × List ℕ
 previewed s channel limit output = thenRestarted (added s channel) limit output
 
--- for C: what follows an add to a copy of a buffer, by its answer and the bytes that it leaves there
+-- for C: what follows an add to a copy of a buffer, by its answer and the bytes that it leaves in the copy
 abbrev pub thenRestartedIn : Kept × List ℕ → ℕ → List ℕ → Decoded × List ℕ
 thenRestartedIn (keep.Done count, copy) limit output = restartedIn copy limit output
 thenRestartedIn (keep.Refused x, copy) limit output = (Refused x, output)

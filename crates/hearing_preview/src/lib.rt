@@ -28,10 +28,12 @@ pub fn preview(state: State, channel: &[u8], limit: u32, output: &mut [u8]) -> D
     }
 }
 
-// Decodes the sums of the values in a buffer and a vector, which are made in a copy of the values.
+// Adds a vector to a copy of the values in a buffer, and decodes the sums.
 fn decode_sums(code: Code, buffer: &[u8], channel: &[u8], limit: u32, output: &mut [u8]) -> Decoded
     requires { ⌜ MayAdd code (now buffer) (now channel) ⌝ }
-    ensures { λ a. ⌜ (a, now (output .exit)) ≡ hearingRestarted (withHearing (stateIn (now (buffer .entry))) (addedTo code (stateIn (now (buffer .entry)) .hearing) (now (channel .entry)))) limit (now (output .entry)) ⌝ }
+    ensures { λ a. ⌜ (a, now (output .exit))
+        ≡ hearingRestarted (withHearing (stateIn (now (buffer .entry)))
+        (addedTo code (stateIn (now (buffer .entry)) .hearing) (now (channel .entry)))) limit (now (output .entry)) ⌝ }
 {
     let restarted = Plan {
         restart: Restart::After,
@@ -52,7 +54,8 @@ fn preview_under(
     output: &mut [u8],
 ) -> Decoded
     requires { ⌜ codeOfState (stateIn (now buffer)) ≡ Description.Accepted code ⌝ }
-    ensures { λ a. ⌜ (a, now (output .exit)) ≡ thenRestarted (addedUnder code (stateIn (now (buffer .entry))) (now (channel .entry))) limit (now (output .entry)) ⌝ }
+    ensures { λ a. ⌜ (a, now (output .exit))
+        ≡ thenRestarted (addedUnder code (stateIn (now (buffer .entry))) (now (channel .entry))) limit (now (output .entry)) ⌝ }
 {
     match hearing::judge_add(code, buffer[LONGEST], channel) {
         Judgement::Fine => decode_sums(code, buffer, channel, limit, output),
@@ -62,7 +65,8 @@ fn preview_under(
 
 // Previews an add to the hearing in a buffer, which is only read and holds afterwards what it held.
 pub fn preview_in(buffer: &[u8], channel: &[u8], limit: u32, output: &mut [u8]) -> Decoded
-    ensures { λ a. ⌜ ((a, now (output .exit)) ≡ previewedIn (now (buffer .entry)) (now (channel .entry)) limit (now (output .entry))) × (now (buffer .exit) ≡ now (buffer .entry)) ⌝ }
+    ensures { λ a. ⌜ ((a, now (output .exit)) ≡ previewedIn (now (buffer .entry)) (now (channel .entry)) limit (now (output .entry)))
+        × (now (buffer .exit) ≡ now (buffer .entry)) ⌝ }
 {
     match hearing_buffer::code_in(buffer) {
         Description::Accepted(code) => preview_under(code, buffer, channel, limit, output),

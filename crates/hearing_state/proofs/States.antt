@@ -1,4 +1,4 @@
--- What a state says that is not refused as 40.
+-- What is true of a state that is not refused as 40.
 use mathlib.Core.Path.{_≡_, refl, ap, _∙_, subst}
 use mathlib.Core.Bool.{Bool, true, false, cond}
 use Prim.Native.Nat.{ℕ, _≤_}
@@ -7,14 +7,14 @@ use lib.ListN.{length, drop}
 use Rattle.refusal.specs.declared.Refusal.the-variants.{Alone}
 use Rattle.refusal.specs.Judge.{judge, refusedOr}
 use Rattle.arrays.specs.Sizes.{deepest}
+use Rattle.arrays.specs.Padded.{allZero}
+use Rattle.arrays.proofs.Zeros.{and-true}
 use Rattle.code.specs.declared.Code.{Code}
 use Rattle.code.specs.declared.Description.{Description}
 use Rattle.code.specs.declared.Description.the-variants.{Accepted, Refused}
 use Rattle.code.specs.Description.{describeUpTo, describe, onDescription}
 use Rattle.code.proofs.Facts.{described}
-use Rattle.hearing.specs.Padded.{allZero}
 use Rattle.hearing.specs.Hearing.{isHearing}
-use Rattle.hearing.proofs.Zeros.{and-true}
 use Rattle.hearing_state.specs.declared.State.{State}
 use Rattle.hearing_state.specs.State.{noState, descriptionOf, isState, codeOfState}
 

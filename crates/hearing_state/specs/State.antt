@@ -1,18 +1,20 @@
 -- Document 02, request 2.6: what is kept from one call to the next, the description of a code and its hearing, and the operations on it.
 use mathlib.Core.Bool.{Bool, _&&_, cond}
 use mathlib.Core.List.{List, []}
-use Prim.Native.Nat.{ℕ, _+_, _/_, _^_}
-use lib.ListN.{length, take, drop}
+use Prim.Native.Nat.{ℕ}
+use lib.ListN.{length, drop}
 use Rattle.refusal.specs.declared.Refusal.{Refusal}
 use Rattle.refusal.specs.declared.Refusal.the-variants.{Alone}
 use Rattle.refusal.specs.declared.Judgement.{Judgement}
 use Rattle.refusal.specs.declared.Judgement.the-variants as judgement
 use Rattle.refusal.specs.Judge.{judge, refusedOr}
-use Rattle.arrays.specs.Sizes.{deepest}
+use Rattle.arrays.specs.Padded.{padded, allZero}
 use Rattle.code.specs.declared.Code.{Code}
 use Rattle.code.specs.declared.Description.{Description}
 use Rattle.code.specs.declared.Description.the-variants.{Accepted, Refused}
-use Rattle.code.specs.Description.{word, describe, onDescription}
+use Rattle.code.specs.Code.{longestDescription}
+use Rattle.code.specs.Description.{describe, onDescription}
+use Rattle.code.specs.Record.{recordIn}
 use Rattle.flip_trial.specs.declared.Restart.the-variants.{Root, After}
 use Rattle.flip_run.specs.declared.Plan.{Plan}
 use Rattle.flip_run.specs.declared.Decoded.{Decoded}
@@ -20,36 +22,27 @@ use Rattle.flip_run.specs.declared.Decoded.the-variants as decode
 use Rattle.flip_run.specs.Plan.{planOf}
 use Rattle.flip_decoder.specs.Decode.{decodedWith}
 use Rattle.hearing.specs.declared.Hearing.{Hearing}
-use Rattle.hearing.specs.Padded.{padded, allZero}
 use Rattle.hearing.specs.Hearing.{fresh, combined, addedTo, addRefusals, isHearing}
 use Rattle.hearing_state.specs.declared.State.{State}
 use Rattle.hearing_state.specs.declared.Heard.{Heard}
-
--- the longest description: 10 bytes of fields, and N/8 of mask
-abbrev pub longestDescription : ℕ
-longestDescription = 10 + 2 ^ deepest / 8
 
 -- a state by its description, which zeros follow, and its hearing
 abbrev pub stateOf : List ℕ → Hearing → State
 stateOf d h = record { description = padded longestDescription d; hearing = h }
 
--- no state: it has no description, so that every call refuses it as 40
+-- no state: it has no description, so every call refuses it as 40
 abbrev pub noState : State
 noState = stateOf [] fresh
-
--- the record at the beginning of some bytes: as many as its length field says, or all where there are fewer
-abbrev pub recordIn : List ℕ → List ℕ
-recordIn bytes = take (word bytes 0) bytes
 
 -- the description that a state holds
 abbrev pub descriptionOf : State → List ℕ
 descriptionOf s = recordIn (s .description)
 
--- whether some calls leave such a state: zeros follow its description, and its hearing is one under its code c
+-- whether a list of calls can leave this state: only zeros after its description, and a hearing that is possible under code c
 abbrev pub isState : Code → State → Bool
 isState c s = allZero (drop (length (descriptionOf s)) (s .description)) && isHearing c (s .hearing)
 
--- the code of a state, or refusal 40, this codec's own: no list of calls leaves such a state
+-- the code of a state, or refusal 40, which is this codec's own: no list of calls leaves the state
 abbrev pub codeOfState : State → Description
 codeOfState s =
     onDescription (describe (descriptionOf s)) (λ x. Refused (Alone 40)) (λ c. cond (isState c s) (Accepted c) (Refused (Alone 40)))
@@ -62,7 +55,7 @@ heard j s = record { judgement = j; state = s }
 abbrev pub refusedIn : State → Refusal → Heard
 refusedIn s x = heard (judgement.Refused x) s
 
--- what a state becomes with another hearing
+-- a state with another hearing in the place of its hearing
 abbrev pub withHearing : State → Hearing → State
 withHearing s h = record { description = s .description; hearing = h }
 
@@ -90,8 +83,10 @@ hearingWith plan s output =
     onDescription (codeOfState s) (λ x. (decode.Refused x, output))
     (λ c. decodedWith plan (descriptionOf s) (combined c (s .hearing)) output)
 
+-- with each later trial repeated from the root
 abbrev pub hearingFull : State → ℕ → List ℕ → Decoded × List ℕ
 hearingFull s limit output = hearingWith (planOf Root limit) s output
 
+-- with each later trial resumed after its flipped index
 abbrev pub hearingRestarted : State → ℕ → List ℕ → Decoded × List ℕ
 hearingRestarted s limit output = hearingWith (planOf After limit) s output

@@ -9,64 +9,55 @@ use hearing::Hearing;
 use refusal::Judgement;
 use refusal::Refusal;
 ghost use mathlib.Core.Path.{_≡_};
-ghost use Prim.Native.Nat.{_≤_, min};
+ghost use Prim.Native.Nat.{_≤_};
 ghost use lib.ListN.{length, take, drop};
 ghost use Rattle.arrays.specs.Sizes.{deepest};
-ghost use Rattle.code.specs.Code.{codeLength};
+ghost use Rattle.arrays.specs.Padded.{allZero};
+ghost use Rattle.code.specs.Code.{codeLength, longestDescription};
 ghost use Rattle.code.specs.Description.{describe};
+ghost use Rattle.code.specs.Record.{recordIn};
 ghost use Rattle.flip_decoder.specs.Decode.{decodedWith};
-ghost use Rattle.hearing.specs.Padded.{allZero};
 ghost use Rattle.hearing.specs.Hearing.{fresh};
-ghost use Rattle.hearing_state.specs.State.{longestDescription, stateOf, recordIn, noState, isState, codeOfState, heard, refusedIn, withHearing};
+ghost use Rattle.hearing_state.specs.State.{stateOf, noState, isState, codeOfState, heard, refusedIn, withHearing};
 ghost use Rattle.hearing_state.specs.State.{opened, addedUnder, added, cleared, hearingWith, hearingFull, hearingRestarted};
 ghost use Rattle.hearing_state.specs.Contracts.{StatePre, DecodePre, stateBy};
 
-// The description, zeros after it, and the hearing.
+// What is kept from one call to the next.
 pub struct State {
+    // The description of the code, and zeros after it.
     pub description: [u8; LONGEST],
+    // The combined values and their count.
     pub hearing: Hearing,
 }
 
-// What an operation answers: nothing applies, or the refusal; and the state, as it was where a refusal applies. A refused open has no state.
+// What an operation answers.
 pub struct Heard {
+    // The refusal, if one applies.
     pub judgement: Judgement,
+    // The state afterwards; if a refusal applies, the state before. A refused open has no state.
     pub state: State,
 }
 
-fn smaller(a: usize, b: usize) -> usize
-    ensures { λ r. ⌜ r ≡ min a b ⌝ }
-{
-    if a < b { a } else { b }
-}
-
-// The record at the beginning of some bytes.
-fn record_in(bytes: &[u8]) -> &[u8]
-    requires { ⌜ 2 ≤ length (now bytes) ⌝ }
-    ensures { λ d. ⌜ now d ≡ recordIn (now (bytes .entry)) ⌝ }
-{
-    let size = smaller(code::read_word(bytes, 0) as usize, bytes.len());
-    &bytes[..size]
-}
-
-// What is described there.
+// The description at the start of these bytes.
 fn described_in(bytes: &[u8]) -> Description
     requires { ⌜ 2 ≤ length (now bytes) ⌝ }
     ensures { λ a. ⌜ a ≡ describe (recordIn (now (bytes .entry))) ⌝ }
 {
-    code::read_description(record_in(bytes))
+    code::read_description(code::record_in(bytes))
 }
 
-// Whether zeros follow the description there.
+// Whether only zeros follow the description at the start of these bytes.
 fn ends_in_zeros(bytes: &[u8]) -> bool
     requires { ⌜ 2 ≤ length (now bytes) ⌝ }
     ensures { λ b. ⌜ b ≡ allZero (drop (length (recordIn (now (bytes .entry)))) (now (bytes .entry))) ⌝ }
 {
-    hearing::is_zero_from(bytes, record_in(bytes).len())
+    arrays::is_zero_from(bytes, code::record_in(bytes).len())
 }
 
-// Whether some calls leave a state with this description, count and values, under the code that it describes.
+// Whether a list of calls can leave a state with these parts, under the code that it describes.
 fn is_state(code: Code, description: &[u8], count: u8, values: &[u8]) -> bool
-    requires { ⌜ (code .n ≤ deepest) × StatePre (now description) (now values) ⌝ }
+    requires { ⌜ (code .n ≤ deepest)
+        × StatePre (now description) (now values) ⌝ }
     ensures { λ b. ⌜ b ≡ isState code (stateBy (now (description .entry)) count (now (values .entry))) ⌝ }
 {
     if ends_in_zeros(description) {
@@ -75,7 +66,7 @@ fn is_state(code: Code, description: &[u8], count: u8, values: &[u8]) -> bool
     false
 }
 
-// The code of such a state, or refusal 40.
+// The code of a state given by its parts, or refusal 40.
 pub fn code_by(description: &[u8], count: u8, values: &[u8]) -> Description
     requires { ⌜ StatePre (now description) (now values) ⌝ }
     ensures { λ a. ⌜ a ≡ codeOfState (stateBy (now (description .entry)) count (now (values .entry))) ⌝ }
@@ -91,7 +82,7 @@ pub fn code_by(description: &[u8], count: u8, values: &[u8]) -> Description
     }
 }
 
-// The same of a state by value.
+// The code of a state, or refusal 40.
 fn code_of(state: State) -> Description
     ensures { λ a. ⌜ a ≡ codeOfState state ⌝ }
 {
@@ -99,7 +90,7 @@ fn code_of(state: State) -> Description
     code_by(&state.description, hearing.count, &hearing.values)
 }
 
-// A state with a fresh hearing, by its description.
+// The state of a description and a fresh hearing.
 fn fresh_state(description: &[u8]) -> State
     requires { ⌜ length (now description) ≤ longestDescription ⌝ }
     ensures { λ s. ⌜ s ≡ stateOf (now (description .entry)) fresh ⌝ }
@@ -113,14 +104,14 @@ fn fresh_state(description: &[u8]) -> State
     }
 }
 
-// No state.
+// No state: every call refuses it as 40.
 pub fn no_state() -> State
     ensures { λ s. ⌜ s ≡ noState ⌝ }
 {
     fresh_state(&[])
 }
 
-// A refused call changes nothing.
+// The answer of a refused call, which changes nothing.
 fn refused(x: Refusal, state: State) -> Heard
     ensures { λ a. ⌜ a ≡ refusedIn state x ⌝ }
 {
@@ -130,7 +121,7 @@ fn refused(x: Refusal, state: State) -> Heard
     }
 }
 
-// A call that is not refused leaves another hearing.
+// The answer of a call that is not refused: it leaves another hearing.
 fn with_hearing(state: State, hearing: Hearing) -> Heard
     ensures { λ a. ⌜ a ≡ heard Judgement.Fine (withHearing state hearing) ⌝ }
 {
@@ -190,7 +181,7 @@ pub fn clear(state: State) -> Heard
     }
 }
 
-// Decodes the first values under a code.
+// Decodes the first values under a code. `decode_by` serves all decoders, so it judges once more that the values lie in −31..31.
 pub fn decode_values(
     plan: Plan,
     code: Code,
@@ -199,12 +190,13 @@ pub fn decode_values(
     output: &mut [u8],
 ) -> Decoded
     requires { ⌜ DecodePre code (now bytes) (now values) ⌝ }
-    ensures { λ a. ⌜ (a, now (output .exit)) ≡ decodedWith plan (recordIn (now (bytes .entry))) (take (codeLength code) (now (values .entry))) (now (output .entry)) ⌝ }
+    ensures { λ a. ⌜ (a, now (output .exit))
+        ≡ decodedWith plan (recordIn (now (bytes .entry))) (take (codeLength code) (now (values .entry))) (now (output .entry)) ⌝ }
 {
     let size = 1usize << code.n;
     flip_decoder::decode_by(
         plan,
-        code::mask_of(record_in(bytes)),
+        code::mask_of(code::record_in(bytes)),
         code,
         &values[..size],
         output,
@@ -235,7 +227,7 @@ pub fn decode_full(state: State, limit: u32, output: &mut [u8]) -> Decoded
     decode(full, state, output)
 }
 
-// Decodes the combined values with each later trial resumed past its flipped index.
+// Decodes the combined values with each later trial resumed after its flipped index.
 pub fn decode_restarted(state: State, limit: u32, output: &mut [u8]) -> Decoded
     ensures { λ a. ⌜ (a, now (output .exit)) ≡ hearingRestarted state limit (now (output .entry)) ⌝ }
 {

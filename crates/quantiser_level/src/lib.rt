@@ -1,7 +1,7 @@
 // One sample as a channel value in quarter units.
 ghost use mathlib.Core.Path.{_≡_};
 ghost use mathlib.Core.Bool.{not};
-ghost use Prim.Native.Nat.{_<_, min, max};
+ghost use Prim.Native.Nat.{_<_, min};
 ghost use lib.Dec.{T};
 ghost use lib.Ieee.{binary32, mul, isNan};
 ghost use Rattle.channel.specs.Channel.{byteOf};
@@ -17,18 +17,11 @@ pub struct Level {
     pub magnitude: f32,
 }
 
-// The bit pattern of a magnitude, clamped between the largest float below 1/8 and the largest below 8.
-fn clamped(bits: u32) -> u32
-    ensures { λ r. ⌜ r ≡ max 0x3dff_ffff (min 0x40ff_ffff bits) ⌝ }
-{
-    if bits < 0x3dff_ffff {
-        return 0x3dff_ffff;
-    }
-    if 0x40ff_ffff < bits {
-        return 0x40ff_ffff;
-    }
-    bits
-}
+// The bit pattern of the largest float below 1/8.
+const BELOW_EIGHTH: u32 = 0x3dff_ffff;
+
+// The bit pattern of the largest float below 8.
+const BELOW_EIGHT: u32 = 0x40ff_ffff;
 
 // The whole number nearest to v / 2^25, halves up.
 fn rounded(v: u32) -> u32
@@ -44,7 +37,7 @@ fn nearest_quarters(p: f32) -> u32
     requires { ⌜ T (not (isNan p)) ⌝ }
     ensures { λ n. ⌜ n ≡ min 32 (quarters p) ⌝ }
 {
-    let bits = clamped(f32::to_bits(p) % 0x8000_0000);
+    let bits = arrays::clamped(f32::to_bits(p) % 0x8000_0000, BELOW_EIGHTH, BELOW_EIGHT);
     let significand = 0x80_0000 + bits % 0x80_0000;
     rounded(significand << (bits / 0x80_0000 - 123))
 }

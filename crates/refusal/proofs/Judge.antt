@@ -25,7 +25,7 @@ module _ (t : Bool) (x : Refusal) (rest : List (Bool × Refusal)) where
   unfolding judge
   judge-no e = rw e
 
-  -- where no test holds, the first does not
+  -- if no test holds, the first does not
   pub judge-past : judge ((t, x) ∷ rest) ≡ Fine → (t ≡ false) × (judge rest ≡ Fine)
   unfolding judge
   judge-past e = go t refl e
@@ -34,7 +34,7 @@ module _ (t : Bool) (x : Refusal) (rest : List (Bool × Refusal)) where
       go true h f = let z : _≡_ {A = ℕ} 0 1 = cc in absurd (omega arith)
       go false h f = (h, f)
 
--- what a call gives, `refuse` being its answer to a refusal
+-- what a call answers, `refuse` being its answer to a refusal
 module _ {X : Type 0} (refuse : Refusal → X) (answer : X) where
   pub refused-fine : (j : Judgement) → j ≡ Fine → refusedOr j refuse answer ≡ answer
   unfolding refusedOr
@@ -48,7 +48,7 @@ module _ {X : Type 0} (refuse : Refusal → X) (answer : X) where
   pub at-test : (t : Bool) (x : Refusal) (rest : List (Bool × Refusal)) → t ≡ true → refuse x ≡ refusedOr (judge ((t, x) ∷ rest)) refuse answer
   at-test t x rest e = sym (refused-by _ x (judge-yes t x rest e))
 
-  -- past one that does not
+  -- past a test that does not hold
   pub past-test : (t : Bool) (x : Refusal) (rest : List (Bool × Refusal)) → t ≡ false → refusedOr (judge ((t, x) ∷ rest)) refuse answer ≡ refusedOr (judge rest) refuse answer
   past-test t x rest e = ap (λ (j : Judgement). refusedOr j refuse answer) (judge-no t x rest e)
 
@@ -56,9 +56,9 @@ module _ {X : Type 0} (refuse : Refusal → X) (answer : X) where
   pub past-all : refusedOr (judge []) refuse answer ≡ answer
   past-all = refused-fine (judge []) judge-none
 
--- what a call gives, `accepts` telling its answer from every refusal
+-- what a call answers, `accepts` telling its answer from every refusal
 module _ {X : Type 0} (accepts : X → Bool) (refuse : Refusal → X) (refuses : (x : Refusal) → accepts (refuse x) ≡ false) (answer : X) where
-  -- where it accepts, no test holds
+  -- if it accepts, no test holds
   pub accepted-fine : (j : Judgement) → accepts (refusedOr j refuse answer) ≡ true → j ≡ Fine
   unfolding refusedOr
   accepted-fine Fine e = refl
@@ -86,7 +86,7 @@ module _ (xs ys : List (Bool × Refusal)) where
   pub append-refused : (x : Refusal) → judge xs ≡ Refused x → judge (xs ++ ys) ≡ Refused x
   append-refused x e = judge-append xs ys ∙ refused-by Refused (judge ys) (judge xs) x e
 
-  -- where no test of both holds, none of either does
+  -- if no test of both lists holds, none of either does
   pub append-past : judge (xs ++ ys) ≡ Fine → (judge xs ≡ Fine) × (judge ys ≡ Fine)
   unfolding refusedOr
   append-past e = go (judge xs) refl (sym (judge-append xs ys) ∙ e)
@@ -100,7 +100,7 @@ pub judge-without : (xs ys : List (Bool × Refusal)) (t : Bool) (x : Refusal) �
 judge-without xs ys t x e =
     judge-append xs ((t, x) ∷ ys) ∙ ap (refusedOr (judge xs) Refused) (judge-no t x ys e) ∙ sym (judge-append xs ys)
 
--- what holds of each refusal that a list of tests can give: a test is reached only where those before it fail
+-- what holds of each refusal in which a list of tests can end: a test is reached only if those before it fail
 module _ (P : Refusal → Type 0) where
   abbrev pub Reached : List (Bool × Refusal) → Type 0
   Reached [] = Unit

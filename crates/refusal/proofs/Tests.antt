@@ -1,4 +1,4 @@
--- What the tests of a refusal say where they fail.
+-- What the tests of a refusal say if they fail.
 use mathlib.Core.Path.{_≡_, ap, ap₂}
 use mathlib.Core.Bool.{false, not, _||_}
 use Prim.Native.Nat.{ℕ, _≤_}

@@ -1,15 +1,17 @@
 // Refusals as data.
 ghost use mathlib.Core.Path.{_≡_};
-ghost use Rattle.refusal.specs.Judge.{numberOf};
+ghost use Rattle.refusal.specs.Judge.{outside, numberOf};
 
-// A refusal's number, alone or with the first index that it names.
+// A refusal of a call.
 pub enum Refusal {
+    // Its number alone.
     Alone(u8),
+    // Its number, and the first index that it names.
     At { refusal: u8, index: usize },
 }
 
 impl Refusal {
-    // Its number.
+    // The number of a refusal.
     pub fn number(self) -> u8
         ensures { λ i. ⌜ i ≡ numberOf self ⌝ }
     {
@@ -20,8 +22,17 @@ impl Refusal {
     }
 }
 
-// What the tests of a call say: nothing applies, or the first refusal that does.
+// What the tests of a call say.
 pub enum Judgement {
+    // No refusal applies.
     Fine,
+    // The first refusal that applies.
     Refused(Refusal),
+}
+
+// Whether a number lies outside least..most.
+pub fn is_outside(x: usize, least: usize, most: usize) -> bool
+    ensures { λ b. ⌜ b ≡ outside x least most ⌝ }
+{
+    x < least || most < x
 }

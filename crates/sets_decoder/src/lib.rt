@@ -34,7 +34,7 @@ fn most_limit(w: u32, code: Code) -> usize
 fn is_bad_count(w: u32) -> bool
     ensures { λ b. ⌜ b ≡ outside w 1 3 ⌝ }
 {
-    w < 1 || 3 < w
+    refusal::is_outside(w as usize, 1, 3)
 }
 
 // Whether the trial limit is outside its range.
@@ -42,7 +42,7 @@ fn is_bad_limit(search: Search, code: Code) -> bool
     requires { ⌜ informationCount code ≤ longest ⌝ }
     ensures { λ b. ⌜ b ≡ outside (search .limit) 1 (mostLimit (search .w) code) ⌝ }
 {
-    search.limit < 1 || most_limit(search.w, code) < search.limit as usize
+    refusal::is_outside(search.limit as usize, 1, most_limit(search.w, code))
 }
 
 // Refusals 26, 14 and 15.

@@ -2,7 +2,7 @@
 use arrays::SIZE;
 ghost use mathlib.Core.Path.{_≡_};
 ghost use mathlib.Core.List.{[], _∷_, map};
-ghost use Prim.Native.Nat.{_*_, _^_, _≤_, _<_, min};
+ghost use Prim.Native.Nat.{_*_, _^_, _≤_, _<_};
 ghost use lib.ListN.{length, take};
 ghost use Rattle.flip_order.specs.Order.{magnitude};
 ghost use Rattle.flip_order.specs.Contracts.{mostMagnitude};
@@ -26,13 +26,6 @@ pub struct Stem {
     pub weight: u64,
     // The first index that may be appended.
     pub from: usize,
-}
-
-// The lesser of two numbers.
-fn lesser(a: usize, b: usize) -> usize
-    ensures { λ r. ⌜ r ≡ min a b ⌝ }
-{
-    if a < b { a } else { b }
 }
 
 // The place of a key among the ordered `keys[low..end]`: after all that are not above it.
@@ -73,9 +66,9 @@ fn insert(key: u64, low: usize, count: usize, room: usize, keys: &mut [u64]) -> 
     if at == room {
         return count;
     }
-    shift(at, lesser(count, room - 1), keys);
+    shift(at, arrays::min(count, room - 1), keys);
     keys[at] = key;
-    lesser(count + 1, room)
+    arrays::min(count + 1, room)
 }
 
 // The magnitude of a leaf value.

@@ -36,7 +36,7 @@ use Rattle.theorems_largest.specs.Claims.{NewAnswer, AnswersAs}
 under : {X : Type 0} (refuse : Refusal → X) (go : Code → X) {x y : Description} → x ≡ y → onDescription x refuse go ≡ onDescription y refuse go
 under refuse go e = ap (λ (x : Description). onDescription x refuse go) e
 
--- where the description has one answer, so has each operation
+-- if the description has one answer, so has each operation
 by-description : (small large : ℕ) (d : List ℕ) → describeUpTo small d ≡ describeUpTo large d → SameAnswers small large d
 by-description small large d e = record {
   description = e;
@@ -59,7 +59,7 @@ module _ (d : List ℕ) where
   abbrev after : List (Bool × Refusal)
   after = drop 4 (refusalsUpTo deepest d)
 
-  -- the answer where the test of n has the outcome t
+  -- the answer if the test of n has the outcome t
   abbrev answer : Bool → Description
   answer t = refusedOr (judge (before ++ ((t, Alone 4) ∷ after))) NoCode (Accepted (codeOf d))
 
@@ -67,17 +67,17 @@ module _ (d : List ℕ) where
   unfolding describeUpTo
   answered largest = refl
 
-  -- where a test before it holds, that of n does not count
+  -- if a test before it holds, that of n does not count
   answer-before : (x : Refusal) → judge before ≡ Refused x → (t : Bool) → answer t ≡ NoCode x
   answer-before x e t = refused-by NoCode (Accepted (codeOf d)) _ x (append-refused before ((t, Alone 4) ∷ after) x e)
 
-  -- where it counts and holds, the answer is 4
+  -- if it counts and holds, the answer is 4
   answer-4 : judge before ≡ Fine → answer true ≡ NoCode (Alone 4)
   answer-4 e =
       refused-by NoCode (Accepted (codeOf d)) _ (Alone 4)
       (append-fine before ((true, Alone 4) ∷ after) e ∙ judge-yes true (Alone 4) after refl)
 
-  -- no other test gives 4
+  -- no other test is of refusal 4
   abbrev Not4 : Refusal → Type 0
   Not4 x = numberOf x ≡ 4 → ⊥
 
@@ -86,7 +86,7 @@ module _ (d : List ℕ) where
       judged-reached Not4 after
       (λ _ e. omega arith, λ _. (λ _ e. omega arith, λ _. (λ _ e. omega arith, λ _. (λ _ e. omega arith, λ _. (λ _ e. omega arith, λ _. tt)))))
 
-  -- so where it does not hold, the answer is not 4
+  -- so if it does not hold, the answer is not 4
   answer-not-4 : judge before ≡ Fine → answer false ≡ NoCode (Alone 4) → ⊥
   unfolding refusedOr
   answer-not-4 e = go (judge (before ++ ((false, Alone 4) ∷ after))) (append-fine before ((false, Alone 4) ∷ after) e ∙ judge-no false (Alone 4) after refl)
@@ -106,7 +106,7 @@ module _ (small large : ℕ) (d : List ℕ) where
   alike : outside (n d) 3 small ≡ outside (n d) 3 large → SameAnswers small large d
   alike e = by-description small large d (answered d small ∙ ap (answer d) e ∙ sym (answered d large))
 
-  -- it holds with `small` alone: that changes the answer where no test before it holds
+  -- it holds with `small` alone: that changes the answer if no test before it holds
   apart : outside (n d) 3 small ≡ true → outside (n d) 3 large ≡ false → (j : Judgement) → judge (before d) ≡ j → SameAnswers small large d ⊎ NewAnswer small large d
   apart s l Fine e =
       let within = outside-past (n d) 3 large l in

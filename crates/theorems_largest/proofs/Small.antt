@@ -31,7 +31,7 @@ most-deepest n s l =
     let less : n - s ≤ deepest - s = omega arith in
     omega (arith, pow-mono less)
 
--- where all bits are forced, nothing is worked on
+-- if all bits are forced, nothing is worked on
 worked-none : (s : ℕ) (p : List ℕ) (rule : ℕ → Rule) (v : List ℤ) → 2 ^ s ≤ length p → worked s p rule v ≡ []
 unfolding worked
 worked-none zero p rule v l = rw (le-leb 1 (length p) l)

@@ -1,5 +1,5 @@
--- What the theorems of this crate state besides: which answers a larger n changes, the operations with n up to `deepest`, and the bound on
--- the values of a pass.
+-- What the theorems of this crate state besides `OldAnswers`: which answers a larger n changes, the operations with n up to `deepest`, and the
+-- bound on the values of a pass.
 use mathlib.Core.Path.{_≡_}
 use mathlib.Core.List.{List, List·Memᴰ}
 use Prim.Native.Nat.{ℕ, _<_, _≤_}
@@ -29,21 +29,33 @@ pub record NewAnswer (small large : ℕ) (d : List ℕ) : Type 0 where
   pub most : getD d 4 0 ≤ large
   pub other : describeUpTo large d ≡ Refused (Alone 4) → ⊥
 
--- Every operation answers d as it does with n up to `largest`. `as-accepted` of proofs/Longer.antt: so it is where that accepts d; `as-10` is
--- document 01's n.
+-- Every operation answers d as with n up to `largest`. `as-accepted` of proofs/Longer.antt: this holds if d is accepted with n up to `largest`;
+-- `as-10` is the case of document 01's largest n.
 pub record AnswersAs (largest : ℕ) (d : List ℕ) : Type 0 where
   pub description : describe d ≡ describeUpTo largest d
   pub encode : (payload output : List ℕ) → encoded d payload output ≡ encodedUpTo largest d payload output
   pub resume : (channel prefix output : List ℕ) → resumed d channel prefix output ≡ resumedUpTo largest d channel prefix output
-  pub full : (channel : List ℕ) (limit : ℕ) (output : List ℕ) → decodedFull d channel limit output ≡ decodedUpTo largest (planOf Root limit) d channel output
-  pub half : (channel : List ℕ) (limit : ℕ) (output : List ℕ) → decodedHalf d channel limit output ≡ decodedUpTo largest (planOf Half limit) d channel output
-  pub restarted : (channel : List ℕ) (limit : ℕ) (output : List ℕ) → decodedRestarted d channel limit output ≡ decodedUpTo largest (planOf After limit) d channel output
-  pub sets-full : (channel : List ℕ) (w limit : ℕ) (output : List ℕ) → setsFull d channel w limit output ≡ setsUpTo largest (searchOf Root w limit) d channel output
-  pub sets-half : (channel : List ℕ) (w limit : ℕ) (output : List ℕ) → setsHalf d channel w limit output ≡ setsUpTo largest (searchOf Half w limit) d channel output
-  pub sets-restarted : (channel : List ℕ) (w limit : ℕ) (output : List ℕ) → setsRestarted d channel w limit output ≡ setsUpTo largest (searchOf After w limit) d channel output
+  pub full :
+      (channel : List ℕ) (limit : ℕ) (output : List ℕ)
+      → decodedFull d channel limit output ≡ decodedUpTo largest (planOf Root limit) d channel output
+  pub half :
+      (channel : List ℕ) (limit : ℕ) (output : List ℕ)
+      → decodedHalf d channel limit output ≡ decodedUpTo largest (planOf Half limit) d channel output
+  pub restarted :
+      (channel : List ℕ) (limit : ℕ) (output : List ℕ)
+      → decodedRestarted d channel limit output ≡ decodedUpTo largest (planOf After limit) d channel output
+  pub sets-full :
+      (channel : List ℕ) (w limit : ℕ) (output : List ℕ)
+      → setsFull d channel w limit output ≡ setsUpTo largest (searchOf Root w limit) d channel output
+  pub sets-half :
+      (channel : List ℕ) (w limit : ℕ) (output : List ℕ)
+      → setsHalf d channel w limit output ≡ setsUpTo largest (searchOf Half w limit) d channel output
+  pub sets-restarted :
+      (channel : List ℕ) (w limit : ℕ) (output : List ℕ)
+      → setsRestarted d channel w limit output ≡ setsUpTo largest (searchOf After w limit) d channel output
 
--- "The inner bound is 31 · 2^n at a leaf, up to 126,976": no magnitude at a leaf exceeds that, nor one at layer s what `most` allows there at the
--- largest n. `small-values` of proofs/Small.antt: so it is in every pass under a description, resumed or not and by any rules.
+-- "The inner bound is 31 · 2^n at a leaf, up to 126,976": no magnitude at a leaf exceeds that, nor one at layer s what `most` allows at the
+-- largest n. `small-values` of proofs/Small.antt: this holds in every pass under a description, resumed or not and by any rules.
 pub record SmallValues (c : Code) (p : List ℕ) (rule : ℕ → Rule) (v : List ℤ) : Type 0 where
   pub leaves : Within 126976 (node (c .n) p rule v .leaves)
   pub layers : (x : ℕ × List ℤ) → List·Memᴰ x (worked (c .n) p rule v) → Within (most deepest (x .0)) (x .1)

@@ -13,8 +13,9 @@ use Rattle.flip_decoder.specs.Decode.{decodedUpTo}
 use Rattle.sets.specs.declared.Search.{Search}
 use Rattle.sets.specs.DecodeSets.{setsUpTo}
 
--- Every operation gives the bytes d the same whole answer, output and steps included, with n up to `small` and with n up to `large`. Full and
--- restarted decoding are a plan each, and by sets a search each.
+-- Every operation has one answer to the bytes d, output and steps included, with n up to `small` and with n up to `large`. Full, half and
+-- restarted decoding are a plan each, and by sets a search each. An operation that reads the largest n by the description alone needs no field
+-- here: `description` says it.
 pub record SameAnswers (small large : ℕ) (d : List ℕ) : Type 0 where
   pub description : describeUpTo small d ≡ describeUpTo large d
   pub encoding : (payload output : List ℕ) → encodedUpTo small d payload output ≡ encodedUpTo large d payload output
@@ -22,7 +23,7 @@ pub record SameAnswers (small large : ℕ) (d : List ℕ) : Type 0 where
   pub decoding : (plan : Plan) (channel output : List ℕ) → decodedUpTo small plan d channel output ≡ decodedUpTo large plan d channel output
   pub decoding-sets : (s : Search) (channel output : List ℕ) → setsUpTo small s d channel output ≡ setsUpTo large s d channel output
 
--- So it is with all bytes but those that are refused as 4 with n up to `small`. Document 01's largest n is 10, and the operations are those with
+-- This holds of all bytes but those that are refused as 4 with n up to `small`. Document 01's largest n is 10, and the operations are those with
 -- `deepest`, 12.
 abbrev pub OldAnswers : Type 0
 OldAnswers = (small large : ℕ) (d : List ℕ) → small ≤ large → (describeUpTo small d ≡ Refused (Alone 4) → ⊥) → SameAnswers small large d

@@ -1,4 +1,4 @@
--- Silence: zero values decode to zeros, and the check of zeros is zero exactly where the start is. Bits pass with at most one
+-- Silence: zero values decode to zeros, and the check of zeros is zero exactly if the start is. Bits pass with at most one
 -- start.
 use mathlib.Core.Path.{_≡_, refl, sym, ap, ap₂, _∙_}
 use mathlib.Core.Bool.{true, false, true≢false}

@@ -1,6 +1,6 @@
 -- Operations under descriptions of kinds 1 and 4: what document 01 by itself says of kind 1 stands, and kind 4 with start 0 answers as kind 1.
 use mathlib.Core.Path.{_≡_, refl, ap₂, _∙_}
-use mathlib.Core.List.{List}
+use mathlib.Core.List.{List, []}
 use Prim.Native.Nat.{ℕ, _≤_}
 use lib.ListN.{length, drop}
 use Rattle.refusal.specs.declared.Refusal.{Refusal}
@@ -11,7 +11,7 @@ use Rattle.code.specs.declared.Code.{Code}
 use Rattle.code.specs.declared.Description.{Description}
 use Rattle.code.specs.declared.Description.the-variants.{Accepted, Refused as NoCode}
 use Rattle.code.specs.Description.{word, maskOf, describe, onDescription}
-use Rattle.code.specs.Claims.{kind1Refusals, kind1Code, describeKind1, withStart}
+use Rattle.code.specs.Claims.{refusalsAt, codeAt, describeKind1, withStart}
 use Rattle.code.proofs.TwoKinds.{kind-1, mask-1, start-0, same-mask}
 use Rattle.encoder.specs.Encode.{codeword, encodedBy, encoded}
 use Rattle.pass_resume.specs.Resume.{resumedBy, resumed}
@@ -24,13 +24,13 @@ module _ {X : Type 0} (refuse : Refusal → X) (go : List ℕ → Code → X) wh
   abbrev operation : Description → List ℕ → X
   operation x mask = onDescription x refuse (go mask)
 
-  -- under a slice that does not say kind 4 it is what document 01 says; `go′` is `go` under the mask from byte 8 on, where the start is 0
-  under-kind-1 : (d : List ℕ) → (word d 2 ≡ 4 → ⊥) → (go′ : Code → X) → go (drop 8 d) (kind1Code d) ≡ go′ (kind1Code d)
+  -- under a slice that does not say kind 4 it is what document 01 says; `go′` is `go` under the mask from byte 8 on, if the start is 0
+  under-kind-1 : (d : List ℕ) → (word d 2 ≡ 4 → ⊥) → (go′ : Code → X) → go (drop 8 d) (codeAt 8 0 d) ≡ go′ (codeAt 8 0 d)
       → operation (describe d) (maskOf d) ≡ onDescription (describeKind1 d) refuse go′
   unfolding refusedOr
-  under-kind-1 d other go′ same = ap₂ operation (kind-1 d other) (mask-1 d other) ∙ by (judge (kind1Refusals d))
+  under-kind-1 d other go′ same = ap₂ operation (kind-1 d other) (mask-1 d other) ∙ by (judge (refusalsAt 1 8 [] d))
     where
-      by : (j : Judgement) → operation (refusedOr j NoCode (Accepted (kind1Code d))) (drop 8 d) ≡ onDescription (refusedOr j NoCode (Accepted (kind1Code d))) refuse go′
+      by : (j : Judgement) → operation (refusedOr j NoCode (Accepted (codeAt 8 0 d))) (drop 8 d) ≡ onDescription (refusedOr j NoCode (Accepted (codeAt 8 0 d))) refuse go′
       by Fine = same
       by (Refused x) = refl
 

@@ -33,8 +33,8 @@ use Rattle.flip_run.specs.WellFormed.{WellFormed}
 use Rattle.flip_decoder.specs.Decode.{decodingRefusals, decodedFull, decodedRestarted}
 use Rattle.theorems_start.specs.Silence.{silence}
 
--- Why a start is wanted: with start 0 silence is accepted on trial 1 as a payload of zeros, by full and restarted decoding and with any T that 14 allows.
--- `silence-accepted` of proofs/Silence.antt
+-- Why a start is wanted: with start 0 silence is accepted on trial 1 as a payload of zeros, by full and restarted decoding and with any T that
+-- 14 allows. `silence-accepted` of proofs/Silence.antt
 abbrev pub SilenceAccepted : Type 0
 SilenceAccepted =
     (d : List ℕ) (c : Code) (limit : ℕ) (output : List ℕ) → describe d ≡ Coding c → c .start ≡ 0 → WellFormed c (silence c) limit output
@@ -45,11 +45,11 @@ SilenceAccepted =
 abbrev pub startingAt : ℕ → Code → Code
 startingAt start c = record { n = c .n; r = c .r; polynomial = c .polynomial; start = start; k = c .k }
 
--- The trials of a run do not depend on the start, and given bits pass with at most one start. So of all starts of a code at most one for each
--- trial accepts silence. `trials-alike`, `one-start` of proofs/Silence.antt
+-- The trials of a run do not depend on the start: `trials-alike` of proofs/Silence.antt.
 abbrev pub TrialsAlike : Type 0
 TrialsAlike = (plan : Plan) (mask : List ℕ) (c : Code) (v : List ℤ) (start : ℕ) → trials plan mask (startingAt start c) v ≡ trials plan mask c v
 
+-- Given bits pass with at most one start: `one-start` of proofs/Silence.antt. So of all starts of a code at most one for each trial accepts silence.
 abbrev pub OneStart : Type 0
 OneStart =
     (d : List ℕ) (c : Code) (bits : List ℕ) (s s′ : ℕ) → describe d ≡ Coding c → Bits bits → s < 2 ^ c .r → s′ < 2 ^ c .r
@@ -58,6 +58,8 @@ OneStart =
 -- Document 01's operations by themselves: a description of kind 1, its mask from byte 8 on, and the check with start 0, which is the one of
 -- payload · z^r (`check-multiple-zero` and `check-only-zero` of crc/proofs/Message.antt). `encode-kind-1`, `resume-kind-1` and `decode-kind-1`
 -- of proofs/TwoKinds.antt: these are the answers under every slice that does not say kind 4.
+
+-- encode
 abbrev pub encodedKind1 : List ℕ → List ℕ → List ℕ → Encoded × List ℕ
 encodedKind1 d payload output =
     onDescription (describeKind1 d) (λ x. (NotEncoded x, output))
@@ -66,10 +68,12 @@ encodedKind1 d payload output =
     refusedOr (judge (encodingRefusals c payload output)) (λ x. (NotEncoded x, output))
     (Done, packed (transformed (c .n) (placed (drop 8 d) (bits ++ checkOf (divisor c) (bitsOf (c .r) 0) bits) (codeLength c)))))
 
+-- resume
 abbrev pub resumedKind1 : List ℕ → List ℕ → List ℕ → List ℕ → Resumed × List ℕ
 resumedKind1 d channel prefix output =
     onDescription (describeKind1 d) (λ x. (NotResumed x, output)) (λ c. resumedBy (drop 8 d) c channel prefix output)
 
+-- decode by a plan
 abbrev pub decodedKind1 : Plan → List ℕ → List ℕ → List ℕ → Decoded × List ℕ
 decodedKind1 plan d channel output =
     onDescription (describeKind1 d) (λ x. (Refused x, output))

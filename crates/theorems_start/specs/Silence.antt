@@ -26,14 +26,14 @@ Trial1Fails =
     (d : List ℕ) (c : Code) → describe d ≡ Coding c → 0 < c .start
     → trialPasses (maskOf d) c (firstTrial (maskOf d) c (channelValues (silence c)) .bits) ≡ false
 
--- so with T = 1 full and restarted decoding give refusal 16, with T = 1 and n · N steps, and any output of the right size stays as it was
+-- so with T = 1 full and restarted decoding answer refusal 16, with T = 1 and n · N steps, and any output of the right size stays as it was
 abbrev pub SilenceFails : Type 0
 SilenceFails =
     (d : List ℕ) (c : Code) (output : List ℕ) → describe d ≡ Coding c → 0 < c .start → length output ≡ bytesFor (c .k)
     → (decodedFull d (silence c) 1 output ≡ (Failed 1 (c .n * codeLength c), output))
     × (decodedRestarted d (silence c) 1 output ≡ (Failed 1 (c .n * codeLength c), output))
 
--- and a decoder that accepts silence, with whatever T, does so on a later trial
+-- a decoder that accepts silence, with any T, does so on a later trial
 abbrev pub SilenceLater : Type 0
 SilenceLater =
     (plan : Plan) (d : List ℕ) (c : Code) (output : List ℕ) (trial steps : ℕ) (payload : List ℕ) → describe d ≡ Coding c → 0 < c .start

@@ -16,10 +16,12 @@ use Rattle.laws.proofs.Table.{getD-table}
 use Rattle.laws.specs.Insert.{insertBy, sortBy}
 use Rattle.refusal.specs.Judge.{judge, refusedOr}
 use Rattle.arrays.specs.Sizes.{deepest}
+use Rattle.arrays.proofs.Zeros.{and-true, length-padded}
 use Rattle.bits.specs.Bit.{number}
 use Rattle.bits.specs.Mask.{onesBelow}
 use Rattle.bits.specs.Packing.{packed, unpacked}
 use Rattle.code.specs.Description.{describeUpTo}
+use Rattle.code.specs.Code.{longestDescription}
 use Rattle.crc.specs.Check.{checkOf}
 use Rattle.transform.specs.Transform.{covers, parity, transformed, xors}
 use Rattle.placing.specs.Place.{taken}
@@ -36,14 +38,13 @@ use Rattle.flip_demands.specs.Noiseless.{Received}
 use Rattle.flip_demands.proofs.NoiselessDecoding.{noiseless-decoding}
 use Rattle.sets.proofs.Examples.{wideD, wideCode, vector}
 use Rattle.hearing.specs.Hearing.{hearingOf, combined}
-use Rattle.hearing.proofs.Zeros.{and-true, length-padded}
+use Rattle.hearing.proofs.Inside.{Inside, each-zero, heard-hearing}
 use Rattle.hearing_state.specs.declared.State.{State}
-use Rattle.hearing_state.specs.State.{longestDescription, stateOf, descriptionOf, opened, hearingFull, hearingRestarted}
+use Rattle.hearing_state.specs.State.{stateOf, descriptionOf, opened, hearingFull, hearingRestarted}
 use Rattle.hearing_buffer.specs.Lent.{hearingSize, stateIn, openedIn, fullIn, restartedIn}
 use Rattle.hearing_demands.specs.Repeats.{Call, add, clear, after, acceptedIn, Holds, bufferAfter}
 use Rattle.hearing_demands.specs.Claims.{Sized}
 use Rattle.hearing_demands.proofs.Descriptions.{code-of}
-use Rattle.hearing_demands.proofs.Adding.{Inside, each-zero, heard-hearing}
 use Rattle.hearing_demands.proofs.HeldAfter.{held-after}
 use Rattle.hearing_demands.proofs.Left.{left-by-some}
 use Rattle.hearing_demands.proofs.Buffer.{buffer-after}

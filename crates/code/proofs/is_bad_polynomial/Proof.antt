@@ -1,4 +1,4 @@
--- `code::is_bad_polynomial` meets its contract: the mask 1 gives bit 0.
+-- `code::is_bad_polynomial` meets its contract: `& 1` is bit 0.
 use mathlib.Core.Path.{_≡_, ap, _∙_, sym}
 use mathlib.Core.Bool.{Bool, _||_}
 use Prim.Native.Nat.{ℕ, _%_}

@@ -50,6 +50,7 @@ judge-check-spec =
     (tie.spec
     (λ c. omega (arith, fields-there (now (c .before .before .args .d)) (c .before .before .pre)))
     (λ c. omega (arith, c .shared-slice-known2 .given 5))
+    (λ c. omega (arith, c .shared-slice-known2 .given 5))
     (λ c κs. search needs)
     (λ c. sym (judge-yes _ _ _ (sym (c .before .is-outside .ensures) ∙ c .if1 .taken)))
     (λ c κs. omega (arith, fields-there (now (c .before .before .before .before .args .d)) (c .before .before .before .before .pre)))

@@ -37,7 +37,7 @@ d3 c = d2 (c .before .before .before)
 abbrev d4 : tie.Else4 → List ℕ
 d4 c = d3 (c .before .before .before)
 
--- the fields of every kind are there
+-- the slice has the fields of every kind
 fields : (c : tie.Else1) → 8 ≤ length (d1 c)
 fields c =
     let d = d1 c in
@@ -86,6 +86,8 @@ judge-layout-spec =
     (λ c. sym (past-2 (c .before .before .before) ∙ judge-yes _ _ _ (sym (ap not (kind-is (c .before))) ∙ c .if3 .taken)))
     (λ c. omega (arith, fields (c .before .before .before .before .before .before)))
     (λ c. omega (arith, c .shared-slice-known2 .given 4))
+    (λ c. omega (arith, c .shared-slice-known2 .given 4))
+    (λ c. search needs)
     (λ c κs. search needs)
     (λ c. sym (past-3 (c .before .before .before) ∙ judge-yes _ _ _ (sym (c .before .is-outside .ensures) ∙ c .if4 .taken)))
     (λ c κs. search needs)

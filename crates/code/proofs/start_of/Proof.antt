@@ -1,8 +1,8 @@
--- `code::start_of` meets its contract: where a kind has a start, its bytes are there.
+-- `code::start_of` meets its contract: if a kind has a start, the slice has its bytes.
 use mathlib.Core.Path.{_≡_, sym, ap, _∙_}
 use mathlib.Core.Bool.{Bool, cond}
 use mathlib.Core.List.{List}
-use Prim.Native.Nat.{ℕ}
+use Prim.Native.Nat.{ℕ, _+_}
 use native.Mathlib.Omega.{arith}
 use borrow.Author.Needs.{needs}
 use denote.Ref.{now}
@@ -25,7 +25,7 @@ by d t = cond t (word d 8) 0
 read-word-requires-2 : tie.Need-read-word-requires-2
 read-word-requires-2 c κs =
     let h = c .before in
-    let ten : maskAt (word (d h) 2) ≡ 10 = ap (λ (t : Bool). cond t 10 8) (sym (test-is h) ∙ c .if1 .taken) in
+    let ten : maskAt (word (d h) 2) ≡ 10 = ap (λ (t : Bool). 8 + cond t 2 0) (sym (test-is h) ∙ c .if1 .taken) in
     omega (arith, h .before .before .before .pre)
 
 pub start-of-spec : {M : Type 1} → statement M

@@ -10,9 +10,9 @@ use denote.Ref.{now}
 use lib.Dec.{eqb}
 use lib.ListN.{drop, take}
 use Rattle.laws.proofs.Powers.{one-shl}
+use Rattle.arrays.specs.Padded.{allZero}
 use Rattle.arrays.proofs.Sizes.{fits}
 use Rattle.channel.specs.Channel.{firstOutside}
-use Rattle.hearing.specs.Padded.{allZero}
 use Rattle.hearing.specs.Hearing.{zeroFrom, isHearing}
 use Rattle.hearing.specs.Contracts.{hearingBy}
 use Rattle.hearing.proofs.Adding.{from-most}

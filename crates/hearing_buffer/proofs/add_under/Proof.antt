@@ -11,12 +11,13 @@ use Rattle.refusal.specs.declared.Judgement.{Judgement}
 use Rattle.refusal.specs.declared.Judgement.the-variants.{Fine}
 use Rattle.refusal.specs.Judge.{judge, refusedOr}
 use Rattle.arrays.specs.Sizes.{deepest}
+use Rattle.code.specs.Code.{longestDescription}
 use Rattle.hearing.specs.declared.Hearing.{Hearing}
 use Rattle.hearing.specs.Hearing.{addedTo, addRefusals, isHearing}
 use Rattle.hearing.specs.Contracts.{hearingBy}
 use Rattle.hearing.proofs.Adding.{count-most, not-full, add-pre, sums-are}
 use Rattle.hearing_state.specs.declared.State.{State}
-use Rattle.hearing_state.specs.State.{longestDescription, codeOfState, heard, refusedIn, withHearing}
+use Rattle.hearing_state.specs.State.{codeOfState, heard, refusedIn, withHearing}
 use Rattle.hearing_state.specs.Contracts.{stateBy}
 use Rattle.hearing_state.proofs.States.{code-most, is-hearing}
 use Rattle.hearing_buffer.specs.declared.Kept.{Kept}
@@ -58,7 +59,7 @@ module _ (s : tie.Start) where
       let x = s .args in
       kept (refusedOr j (refusedIn t) (heard Fine (withHearing t (addedTo (x .code) (t .hearing) (now (x .channel)))))) b
 
--- what no refusal gives
+-- the answer and the bytes if no refusal applies
 module _ (c : tie.After-enum-told) where
   abbrev start : tie.Start
   start = c .before .before .before .before .before .before

@@ -9,11 +9,12 @@ use lib.ListN.{length, getD, take}
 use Rattle.arrays.proofs.Sizes.{fits}
 use Rattle.code.specs.declared.Description.the-variants.{Accepted}
 use Rattle.code.specs.Description.{describe}
+use Rattle.code.specs.Code.{longestDescription}
 use Rattle.code.proofs.Facts.{described}
 use Rattle.flip_decoder.specs.Decode.{decodedWith}
 use Rattle.hearing.specs.Hearing.{combined}
 use Rattle.hearing_state.specs.declared.State.{State}
-use Rattle.hearing_state.specs.State.{longestDescription, descriptionOf, codeOfState}
+use Rattle.hearing_state.specs.State.{descriptionOf, codeOfState}
 use Rattle.hearing_state.specs.Contracts.{stateBy}
 use Rattle.hearing_state.proofs.States.{state-is}
 use Rattle.hearing_buffer.specs.Lent.{hearingSize}

@@ -9,7 +9,7 @@ use lib.ListN.{getD, take, drop, replicate, length-drop}
 use lib.Seq.{take-all, length-take-le}
 use Rattle.laws.proofs.Segment.{splice-whole, length-segment}
 use Rattle.arrays.specs.Sizes.{deepest}
-use Rattle.hearing_state.specs.State.{longestDescription}
+use Rattle.code.specs.Code.{longestDescription}
 use Rattle.hearing_buffer.proofs.read_at.Statement.{statement}
 use Rattle.hearing_buffer.proofs.read_at.Tie as tie
 

@@ -10,7 +10,7 @@ use lib.Seq.{take-all}
 use Rattle.laws.specs.Contracts.{splice}
 use Rattle.laws.proofs.Segment.{length-splice}
 use Rattle.arrays.specs.Sizes.{deepest}
-use Rattle.hearing_state.specs.State.{longestDescription}
+use Rattle.code.specs.Code.{longestDescription}
 use Rattle.hearing_buffer.specs.Lent.{hearingSize}
 use Rattle.hearing_buffer.proofs.Bytes.{written, size-of}
 use Rattle.hearing_buffer.proofs.write.Statement.{statement}

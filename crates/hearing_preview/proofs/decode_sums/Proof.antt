@@ -10,15 +10,16 @@ use lib.Seq.{length-take-le}
 use Rattle.laws.specs.Contracts.{splice}
 use Rattle.arrays.specs.Sizes.{deepest}
 use Rattle.code.specs.declared.Code.{Code}
-use Rattle.code.specs.Code.{codeLength}
+use Rattle.code.specs.Code.{codeLength, longestDescription}
 use Rattle.code.specs.Description.{describe}
+use Rattle.code.specs.Record.{recordIn}
 use Rattle.flip_trial.specs.declared.Restart.the-variants.{After}
 use Rattle.flip_run.specs.Plan.{planOf}
 use Rattle.flip_decoder.specs.Decode.{decodedWith}
 use Rattle.hearing.specs.Hearing.{clippedSums, addedTo}
 use Rattle.hearing.specs.Contracts.{AddPre}
 use Rattle.hearing_state.specs.declared.State.{State}
-use Rattle.hearing_state.specs.State.{longestDescription, recordIn, descriptionOf}
+use Rattle.hearing_state.specs.State.{descriptionOf}
 use Rattle.hearing_buffer.specs.Lent.{hearingSize, stateIn}
 use Rattle.hearing_buffer.proofs.Bytes.{state-at}
 use Rattle.hearing_preview.proofs.Sums as sums

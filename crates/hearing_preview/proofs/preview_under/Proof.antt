@@ -39,7 +39,7 @@ module _ (s : tie.Start) where
       let t = stateIn b in
       thenRestarted (refusedOr j (refusedIn t) (heard Fine (withHearing t (addedTo (x .code) (t .hearing) (now (x .channel)))))) (x .limit) (now (x .output))
 
--- the count stands in the buffer
+-- the count is that in the buffer
 judged : (j : tie.After-judge-add) → let s = j .before .before .before .before .before in j .judge-add .result ≡ judge (addRefusals (s .args .code) (stateIn (b s) .hearing .count) (now (s .args .channel)))
 judged j =
     let s = j .before .before .before .before .before in

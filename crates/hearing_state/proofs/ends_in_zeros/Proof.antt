@@ -6,8 +6,8 @@ use native.Mathlib.Omega.{arith}
 use borrow.Author.Needs.{needs}
 use denote.Ref.{now}
 use lib.ListN.{length, drop, length-take}
+use Rattle.arrays.specs.Padded.{allZero}
 use Rattle.code.specs.Description.{word}
-use Rattle.hearing.specs.Padded.{allZero}
 use Rattle.hearing_state.proofs.ends_in_zeros.Statement.{statement}
 use Rattle.hearing_state.proofs.ends_in_zeros.Tie as tie
 

@@ -7,8 +7,8 @@ use denote.Ref.{now}
 use lib.ListN.{length, replicate}
 use lib.Seq.{take-length}
 use Rattle.laws.specs.Contracts.{splice}
-use Rattle.hearing.proofs.Zeros.{drop-replicate, splice-padded}
-use Rattle.hearing_state.specs.State.{longestDescription}
+use Rattle.arrays.proofs.Zeros.{drop-replicate, splice-padded}
+use Rattle.code.specs.Code.{longestDescription}
 use Rattle.hearing_state.proofs.fresh_state.Statement.{statement}
 use Rattle.hearing_state.proofs.fresh_state.Tie as tie
 

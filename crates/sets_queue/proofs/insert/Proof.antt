@@ -30,7 +30,7 @@ module _ (c : tie.Else1) where
 shift-requires : tie.Need-shift-requires
 shift-requires c κs =
     let e = c .before .before in
-    let l = c .before .lesser .ensures in
+    let l = c .before .min .ensures in
     (omega (arith, l, below e, e .before .place-of .ensures .most), omega (arith, l, below e, s e .pre .room-most))
 
 returns-2 : tie.Need-returns-2
@@ -39,8 +39,8 @@ returns-2 c =
     let e = h .before .before .before in
     let x = s e .args in
     let shifted : Shifted (at e) (min (x .count) (x .room - 1)) (now (x .keys)) (h .shift .last .1 .1 .0) =
-    subst (λ (k : ℕ). Shifted (at e) k (now (x .keys)) (h .shift .last .1 .1 .0)) (h .before .before .lesser .ensures) (h .shift .ensures) in
-    subst (λ (r : ℕ). Inserted (x .low) (x .count) (x .room) r (x .key ∷ []) (now (x .keys)) (set (h .shift .last .1 .1 .0) (at e) (x .key))) (sym (c .lesser2 .ensures))
+    subst (λ (k : ℕ). Shifted (at e) k (now (x .keys)) (h .shift .last .1 .1 .0)) (h .before .before .min .ensures) (h .shift .ensures) in
+    subst (λ (r : ℕ). Inserted (x .low) (x .count) (x .room) r (x .key ∷ []) (now (x .keys)) (set (h .shift .last .1 .1 .0) (at e) (x .key))) (sym (c .min2 .ensures))
     (record {
       places = record {
         low-most = omega (arith, s e .pre .low-most, s e .pre .count-most, below e, e .before .place-of .ensures .least);

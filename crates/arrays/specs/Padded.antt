@@ -1,4 +1,4 @@
--- Lists of bytes in arrays that have room for longer ones: what follows is zero.
+-- Document 02, request 2.6, holds lists of bytes in arrays that have room for longer ones: what follows is zero.
 use mathlib.Core.Bool.{Bool, true, _&&_}
 use mathlib.Core.List.{List, [], _∷_, _++_}
 use Prim.Native.Nat.{ℕ, _-_}

@@ -1,4 +1,4 @@
--- `hearing_state::record_in` meets its contract: a length field past the end takes all bytes.
+-- `code::record_in` meets its contract: a length field past the end takes all bytes.
 use mathlib.Core.Path.{_≡_, refl, sym, ap, _∙_}
 use mathlib.Core.Bool.{Bool, true, false}
 use mathlib.Core.List.{List}
@@ -10,20 +10,20 @@ use denote.Ref.{now}
 use lib.Dec.{leb}
 use lib.ListN.{length, take}
 use lib.Seq.{length-take-le, take-all, take-length}
 use Rattle.code.specs.Description.{word}
-use Rattle.hearing_state.proofs.record_in.Statement.{statement}
-use Rattle.hearing_state.proofs.record_in.Tie as tie
+use Rattle.code.proofs.record_in.Statement.{statement}
+use Rattle.code.proofs.record_in.Tie as tie
 
-module _ (c : tie.After-smaller) where
+module _ (c : tie.After-min) where
   abbrev bytes : List ℕ
   bytes = now (c .before .before .before .args .bytes)
 
-  size-is : c .smaller .result ≡ min (word bytes 0) (length bytes)
-  size-is = c .smaller .ensures ∙ ap (λ (k : ℕ). min k (length bytes)) (c .before .read-word .ensures)
+  size-is : c .min .result ≡ min (word bytes 0) (length bytes)
+  size-is = c .min .ensures ∙ ap (λ (k : ℕ). min k (length bytes)) (c .before .read-word .ensures)
 
 -- the first bytes are those of the smaller number
-take-smaller : (n : ℕ) (l : List ℕ) → take (min n (length l)) l ≡ take n l
-take-smaller n l = go (leb n (length l)) refl
+take-min : (n : ℕ) (l : List ℕ) → take (min n (length l)) l ≡ take n l
+take-min n l = go (leb n (length l)) refl
   where
     go : (t : Bool) → leb n (length l) ≡ t → take (min n (length l)) l ≡ take n l
     go true e =
@@ -40,5 +40,5 @@ record-in-spec =
     (λ c κs. search needs)
     (λ c. search needs)
     (λ c κs. search needs)
-    (λ c. sym (length-take-le (c .before .smaller .result) (bytes (c .before)) (omega (arith, size-is (c .before)))))
-    (λ c. ap (λ (k : ℕ). take k (bytes (c .before))) (size-is (c .before)) ∙ take-smaller (word (bytes (c .before)) 0) (bytes (c .before))))
+    (λ c. sym (length-take-le (c .before .min .result) (bytes (c .before)) (omega (arith, size-is (c .before)))))
+    (λ c. ap (λ (k : ℕ). take k (bytes (c .before))) (size-is (c .before)) ∙ take-min (word (bytes (c .before)) 0) (bytes (c .before))))

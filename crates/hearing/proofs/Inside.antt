@@ -14,13 +14,13 @@ use Rattle.laws.proofs.First.{first-is}
 use Rattle.laws.proofs.Signed.{abs-neg}
 use Rattle.laws.proofs.Table.{length-table, table-ext, table-replicate}
 use Rattle.arrays.specs.Sizes.{deepest}
+use Rattle.arrays.specs.Padded.{padded, allZero}
+use Rattle.arrays.proofs.Zeros.{drop-replicate, are-zeros}
 use Rattle.code.specs.declared.Code.{Code}
 use Rattle.code.specs.Code.{codeLength}
 use Rattle.channel.specs.Channel.{channelValue, channelValues, clip, firstOutside}
 use Rattle.channel.proofs.Bytes.{channel-byte}
-use Rattle.hearing.specs.Padded.{padded, allZero}
 use Rattle.hearing.specs.Hearing.{hearingOf, combined, fresh, clippedSum, clippedSums, addedTo, zeroFrom, isHearing}
-use Rattle.hearing.proofs.Zeros.{drop-replicate, are-zeros}
 
 -- ---- values in −31..31
 

@@ -1,8 +1,8 @@
--- `code::is_outside` meets its contract.
+-- `refusal::is_outside` meets its contract.
 use borrow.Author.Tests.{lt-ltb, le-ltb}
 use Rattle.laws.proofs.Choice.{or-first, or-second}
-use Rattle.code.proofs.is_outside.Statement.{statement}
-use Rattle.code.proofs.is_outside.Tie as tie
+use Rattle.refusal.proofs.is_outside.Statement.{statement}
+use Rattle.refusal.proofs.is_outside.Tie as tie
 
 pub is-outside-spec : {M : Type 1} → statement M
 is-outside-spec =

@@ -1,4 +1,4 @@
--- `hearing::is_zero_from` meets its contract. The invariant: what is found so far, and the rest, are all of it.
+-- `arrays::is_zero_from` meets its contract. The invariant: what is found so far, and the rest, are all of it.
 use mathlib.Core.Path.{_≡_, refl, sym, ap, _∙_}
 use mathlib.Core.Bool.{Bool, true, false, _&&_}
 use mathlib.Core.List.{List}
@@ -12,9 +12,9 @@ use lib.Bits.{bitOr, or-add-and, or-zero-l, and-le-l, and-le-r}
 use lib.Dec.{eqb}
 use lib.ListN.{length, getD, drop, drop-of-length-le}
 use lib.Seq.{drop-cons}
-use Rattle.hearing.specs.Padded.{allZero}
-use Rattle.hearing.proofs.is_zero_from.Statement.{statement}
-use Rattle.hearing.proofs.is_zero_from.Tie as tie
+use Rattle.arrays.specs.Padded.{allZero}
+use Rattle.arrays.proofs.is_zero_from.Statement.{statement}
+use Rattle.arrays.proofs.is_zero_from.Tie as tie
 
 abbrev Inv-loop : tie.InvT-loop
 Inv-loop bytes start any₀ i₀ any i = (i ≤ length bytes) × ((eqb any 0 && allZero (drop i bytes)) ≡ allZero (drop start bytes))
@@ -22,7 +22,7 @@ Inv-loop bytes start any₀ i₀ any i = (i ≤ length bytes) × ((eqb any 0 && 
 abbrev μ-loop : tie.MeasureT-loop
 μ-loop bytes start any₀ i₀ any i = length bytes - i
 
--- bits of either are there where one of them has some
+-- two bytes together have a bit exactly if one of them has
 or-is-zero : (a b : ℕ) → eqb (bitOr a b) 0 ≡ (eqb a 0 && eqb b 0)
 or-is-zero a b = go (eqb a 0) (eqb b 0) refl refl
   where
