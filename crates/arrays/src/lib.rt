@@ -1,4 +1,4 @@
-// The longest code, and the working arrays that are made for it.
+// The longest code, the working arrays that are made for it, and lists with zeros after them.
 ghost use mathlib.Core.Path.{_≡_};
 ghost use Prim.Native.Nat.{_+_, _≤_, min, max};
 ghost use lib.ListN.{length, drop};

@@ -1,4 +1,4 @@
--- Well-formed input: no refusal before 16 applies exactly there, and there the answer of a decoder is that of its run of trials.
+-- Input is well-formed exactly if no refusal before 16 applies. Then the answer of a decoder is that of its run of trials.
 use mathlib.Core.Path.{_≡_, refl, sym, ap, _∙_}
 use mathlib.Core.Bool.{true}
 use mathlib.Core.Logic.{_↔_}

@@ -1,4 +1,4 @@
 pub mod WellFormed
 pub mod Limit
-pub mod Doubtful
+pub mod Metric
 pub mod Examples

@@ -1,4 +1,4 @@
--- Well-formed input of a decoder by sets: no refusal before 16 applies exactly there, and there its answer is that of its run of trials.
+-- Input of a decoder by sets is well-formed exactly if no refusal before 16 applies. Then its answer is that of its run of trials.
 use mathlib.Core.Path.{_≡_, refl, sym, ap, _∙_}
 use mathlib.Core.Bool.{true}
 use mathlib.Core.Logic.{_↔_}

@@ -23,7 +23,7 @@ use Rattle.sets_tried.specs.Claims.{FlipSet, insertAll, triedOfAll}
 use Rattle.sets_tried.proofs.Members.{past-last}
 use Rattle.sets_tried.proofs.Kept.{kept-loses-nothing}
 
--- ---- what is inserted is there, and what was there stays
+-- ---- what is inserted is a member, and members stay
 
 all-stay : (xs ys : List Candidate) {z : Candidate} → List·Memᴰ z ys → List·Memᴰ z (insertAll xs ys)
 unfolding insertAll

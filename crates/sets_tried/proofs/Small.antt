@@ -19,7 +19,7 @@ use Rattle.flip_trial.specs.Trial.{firstTrial, flipRule, forcedPrefix, restartA
 use Rattle.sets.specs.declared.Search.{Search}
 use Rattle.sets.specs.Candidate.{pastLargest, magnitudes, Candidate}
 use Rattle.sets.specs.Tried.{leavesOf, generated}
-use Rattle.sets.proofs.Doubtful.{doubtful-most}
+use Rattle.sets.proofs.Metric.{doubtful-most}
 use Rattle.sets_tried.proofs.Members.{past-last, generated-member}
 
 -- ---- the parts of a metric

@@ -5,7 +5,7 @@ use native.Mathlib.Omega.{arith}
 use borrow.Author.Needs.{needs}
 use denote.Ref.{now}
 use Rattle.sets.specs.Candidate.{doubtful}
-use Rattle.sets.proofs.Doubtful.{doubtful-most}
+use Rattle.sets.proofs.Metric.{doubtful-most}
 use Rattle.sets_queue.proofs.Walking.{doubtful-none, doubtful-more}
 use Rattle.sets_queue.proofs.doubtful.Statement.{statement}
 use Rattle.sets_queue.proofs.doubtful.Tie as tie

@@ -9,7 +9,7 @@ use lib.IntN.{ℤ}
 use lib.ListN.{length}
 use Rattle.arrays.specs.Claims.{longest}
 use Rattle.sets.specs.Candidate.{pastLargest, doubtful, extensions}
-use Rattle.sets.proofs.Doubtful.{doubtful-most}
+use Rattle.sets.proofs.Metric.{doubtful-most}
 use Rattle.sets_queue.specs.declared.Stem.{Stem}
 use Rattle.sets_queue.specs.Contracts.{keyOf, StemFits, keysWith, Inserted}
 use Rattle.sets_queue.proofs.Walking.{doubtful-more}

@@ -1,4 +1,4 @@
--- Of n indices at most n are doubtful.
+-- The parts of a metric are small: of n indices at most n are doubtful.
 use mathlib.Core.Bool.{Bool, true, false, _&&_, cond}
 use mathlib.Core.List.{List}
 use Prim.Native.Nat.{ℕ, zero, suc, _≤_}
