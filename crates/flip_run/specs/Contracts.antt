@@ -41,6 +41,12 @@ pub record LaterTrialsPre (room : ℕ) (mask : List ℕ) (c : Code) (channel : L
   pub plain : PlainRules room mask c rules
   pub goes-on : (later : List Out) → run (trialPasses mask c) 0 0 (firstTrial mask c (channelValues channel) ∷ later) ≡ run (trialPasses mask c) 1 start later
 
+-- trial 1 failed, in `start` steps: what later trials need of it, in the arrays where it left its bits and leaf values
+pub record FirstFailed (room : ℕ) (mask : List ℕ) (c : Code) (channel : List ℕ) (start : ℕ) (rules : List ℕ) (a : Arrays) : Type 0 where
+  pub later : LaterTrialsPre room mask c channel start (a .bits) rules
+  pub leaves : FirstLeaves room mask c channel (a .leaves)
+  pub whole : Whole room a
+
 -- the bits of a message, if a trial passed
 abbrev pub PassedBits : Ended → List ℕ → Type 0
 PassedBits (Passed trial steps) bits = Bits bits
@@ -63,7 +69,7 @@ BeginPost room mask c channel rules a (Passed trial steps) =
     ((later : List Out) → Ran mask c (run (trialPasses mask c) 0 0 (firstTrial mask c (channelValues channel) ∷ later)) (Passed trial steps) (a .sums))
     × (length (a .sums) ≡ room)
 BeginPost room mask c channel rules a (Failed made start) =
-    (made ≡ 1) × LaterTrialsPre room mask c channel start (a .bits) rules × FirstLeaves room mask c channel (a .leaves) × Whole room a
+    (made ≡ 1) × FirstFailed room mask c channel start rules a
 
 -- the keys of trial 1's leaf values
 abbrev pub FirstKeys : List ℕ → Code → List ℕ → List ℤ → Type 0

@@ -12,8 +12,7 @@ ghost use lib.ListN.{length, take};
 ghost use Rattle.bits.specs.Packing.{bytesFor};
 ghost use Rattle.code.specs.Code.{informationCount};
 ghost use Rattle.pass_ends.specs.Contracts.{arrays, Whole};
-ghost use Rattle.flip_trial.specs.Contracts.{FirstLeaves};
-ghost use Rattle.flip_run.specs.Contracts.{FramePre, RunPre, LaterTrialsPre, PassedBits, answered, BeginPost, Ran, verdictBy, answerBy};
+ghost use Rattle.flip_run.specs.Contracts.{FramePre, RunPre, FirstFailed, PassedBits, answered, BeginPost, Ran, verdictBy, answerBy};
 
 // How a frame is decoded.
 pub struct Plan {
@@ -107,9 +106,7 @@ fn flip_trials(
       ⌜ FramePre (now mask) code (now channel)
           × (1 ≤ plan .limit)
           × (plan .limit ≤ informationCount code + 1)
-          × LaterTrialsPre (← ⟦SIZE⟧) (now mask) code (now channel) start (now first) (now rules)
-          × FirstLeaves (← ⟦SIZE⟧) (now mask) code (now channel) (now values)
-          × Whole (← ⟦SIZE⟧) (arrays (now work) (now first) (now sums) (now values)) ⌝ }
+          × FirstFailed (← ⟦SIZE⟧) (now mask) code (now channel) start (now rules) (arrays (now work) (now first) (now sums) (now values)) ⌝ }
     ensures { λ e. do
       ⌜ Ran (now (mask .entry)) code (verdictBy plan (now (mask .entry)) code (now (channel .entry))) e (now (sums .exit))
           × (length (now (sums .exit)) ≡ (← ⟦SIZE⟧ .entry)) ⌝ }

@@ -15,8 +15,7 @@ ghost use lib.ListN.{length, take};
 ghost use Rattle.laws.specs.Contracts.{splice};
 ghost use Rattle.pass_ends.specs.Contracts.{arrays, Whole};
 ghost use Rattle.flip_trial.specs.Claims.{Flips};
-ghost use Rattle.flip_trial.specs.Contracts.{FirstLeaves};
-ghost use Rattle.flip_run.specs.Contracts.{LaterTrialsPre, Ran};
+ghost use Rattle.flip_run.specs.Contracts.{LaterTrialsPre, FirstFailed, Ran};
 ghost use Rattle.sets_queue.specs.Contracts.{keyOf, Small, PoolPre, Inserted};
 ghost use Rattle.sets_run.specs.Contracts.{LeavesPre, generatedFrom, SetsPre, SearchPre, LeavesIfRead, FirstPool, verdictBy, answerBy};
 
@@ -150,9 +149,7 @@ fn single_trials(
 ) -> Ended
     requires { do
       ⌜ SetsPre search (now mask) code (now channel)
-          × LaterTrialsPre (← ⟦SIZE⟧) (now mask) code (now channel) start (now first) (now rules)
-          × FirstLeaves (← ⟦SIZE⟧) (now mask) code (now channel) (now values)
-          × Whole (← ⟦SIZE⟧) (arrays (now work) (now first) (now sums) (now values))
+          × FirstFailed (← ⟦SIZE⟧) (now mask) code (now channel) start (now rules) (arrays (now work) (now first) (now sums) (now values))
           × (search .w ≡ 1) ⌝ }
     ensures { λ e. do
       ⌜ Ran (now (mask .entry)) code (verdictBy search (now (mask .entry)) code (now (channel .entry))) e (now (sums .exit))
@@ -195,9 +192,7 @@ fn larger_trials(
 ) -> Ended
     requires { do
       ⌜ SetsPre search (now mask) code (now channel)
-          × LaterTrialsPre (← ⟦SIZE⟧) (now mask) code (now channel) start (now first) (now rules)
-          × FirstLeaves (← ⟦SIZE⟧) (now mask) code (now channel) (now values)
-          × Whole (← ⟦SIZE⟧) (arrays (now work) (now first) (now sums) (now values))
+          × FirstFailed (← ⟦SIZE⟧) (now mask) code (now channel) start (now rules) (arrays (now work) (now first) (now sums) (now values))
           × (1 < search .w) ⌝ }
     ensures { λ e. do
       ⌜ Ran (now (mask .entry)) code (verdictBy search (now (mask .entry)) code (now (channel .entry))) e (now (sums .exit))

@@ -98,15 +98,17 @@ returns-2 c =
     let t = f p .first-trial .ensures in (
       refl,
       record {
-        start-most = omega (arith, counted (f p), first-steps (mask (f p)) (s (f p) .args .code) (v (f p)));
-        first-bits = t .bits;
-        plain = t .plain;
-        goes-on = λ later.
-            run-fails (ok (f p)) 0 0 (o (f p)) later (sym (ok-is p) ∙ c .if1 .left)
-            ∙ ap (λ (steps : ℕ). run (ok (f p)) 1 steps later) (sym (counted (f p)));
+        later = record {
+          start-most = omega (arith, counted (f p), first-steps (mask (f p)) (s (f p) .args .code) (v (f p)));
+          first-bits = t .bits;
+          plain = t .plain;
+          goes-on = λ later.
+              run-fails (ok (f p)) 0 0 (o (f p)) later (sym (ok-is p) ∙ c .if1 .left)
+              ∙ ap (λ (steps : ℕ). run (ok (f p)) 1 steps later) (sym (counted (f p)));
+        };
+        leaves = t .leaves;
+        whole = arrays-again (t .whole) (same-room p);
       },
-      t .leaves,
-      arrays-again (t .whole) (same-room p),
     )
 
 pub begin-spec : {M : Type 1} → statement M

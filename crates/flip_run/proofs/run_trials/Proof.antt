@@ -34,9 +34,9 @@ returns c =
     let made = t .trials .given .0 in
     let e = subst (BeginPost _ _ _ _ _ _) (t .trials .given .1) (b .begin .ensures) in (
       subst (λ (w : Verdict). Ran (now (x .mask)) (x .code) w (Failed (made .0) (made .1 .0)) (b .begin .last .1 .1 .1 .1 .1 .1 .1 .0))
-          (sym (e .1 .goes-on _ ∙ loop-ends (loop-starts (s .pre .1) (steps-fit (on .coded .n-most) (e .1 .start-most))) (order-long on (s .pre .2)) (omega (arith, c .if1 .taken))))
+          (sym (e .1 .later .goes-on _ ∙ loop-ends (loop-starts (s .pre .1) (steps-fit (on .coded .n-most) (e .1 .later .start-most))) (order-long on (s .pre .2)) (omega (arith, c .if1 .taken))))
           (ap (λ (m : ℕ). Failed m (made .1 .0)) (e .0)),
-      e .3 .sums,
+      e .1 .whole .sums,
     )
 
 flip-trials-requires : tie.Need-flip-trials-requires
@@ -45,7 +45,7 @@ flip-trials-requires c κs =
     let b = t .before .before in
     let s = b .before .before .before .before .before .before .before .before in
     let e = subst (BeginPost _ _ _ _ _ _) (t .trials .given .1) (b .begin .ensures) in
-    (s .pre .0, s .pre .1, s .pre .2, e .1, e .2, e .3)
+    (s .pre .0, s .pre .1, s .pre .2, e .1)
 
 pub run-trials-spec : {M : Type 1} → statement M
 run-trials-spec =

@@ -11,16 +11,16 @@ extend-requires : tie.Need-extend-requires
 extend-requires c κs =
     let s = c .before .before .before .before .before .before in
     let on = s .pre .0 in (
-      walk-first on (s .pre .2),
+      walk-first on (s .pre .1 .leaves),
       set-none _ _,
-      record { low-most = omega arith; count-most = omega arith; room-most = omega (arith, limit-larger (s .args .search .w) (s .args .code) (s .pre .4), on .limit-most) },
+      record { low-most = omega arith; count-most = omega arith; room-most = omega (arith, limit-larger (s .args .search .w) (s .args .code) (s .pre .2), on .limit-most) },
     )
 
 set-trials-requires : tie.Need-set-trials-requires
 set-trials-requires c κs =
     let e = c .before .before .before .before .before .before .before in
     let p = e .before .before .before .before .before .before .before .pre in
-    (p .0, p .1, (λ _. p .2), first-pool (p .0) (p .2) (e .extend .ensures), record { work = p .3 .work; bits = p .3 .bits; sums = p .3 .sums; leaves = refl })
+    (p .0, p .1 .later, (λ _. p .1 .leaves), first-pool (p .0) (p .1 .leaves) (e .extend .ensures), record { work = p .1 .whole .work; bits = p .1 .whole .bits; sums = p .1 .whole .sums; leaves = refl })
 
 pub larger-trials-spec : {M : Type 1} → statement M
 larger-trials-spec =

@@ -25,9 +25,9 @@ returns c =
     let made = t .trials .given .0 in
     let e = subst (BeginPost _ _ _ _ _ _) (t .trials .given .1) (b .begin .ensures) in (
       subst (λ (w : Verdict). Ran (now (x .mask)) (x .code) w (Failed (made .0) (made .1 .0)) (b .begin .last .1 .1 .1 .1 .1 .1 .1 .0))
-          (sym (e .1 .goes-on _ ∙ none-allowed (x .search) (now (x .mask)) (x .code) (channelValues (now (x .channel))) (made .1 .0) (c .if1 .taken)))
+          (sym (e .1 .later .goes-on _ ∙ none-allowed (x .search) (now (x .mask)) (x .code) (channelValues (now (x .channel))) (made .1 .0) (c .if1 .taken)))
           (ap (λ (m : ℕ). Failed m (made .1 .0)) (e .0)),
-      e .3 .sums,
+      e .1 .whole .sums,
     )
 
 single-trials-requires : tie.Need-single-trials-requires
@@ -37,7 +37,7 @@ single-trials-requires c κs =
     let b = t .before .before in
     let p = b .before .before .before .before .before .before .before .before .pre in
     let e = subst (BeginPost _ _ _ _ _ _) (t .trials .given .1) (b .begin .ensures) in
-    (p .0, e .1, e .2, e .3, f .if2 .taken)
+    (p .0, e .1, f .if2 .taken)
 
 larger-trials-requires : tie.Need-larger-trials-requires
 larger-trials-requires c κs =
@@ -46,7 +46,7 @@ larger-trials-requires c κs =
     let b = t .before .before in
     let p = b .before .before .before .before .before .before .before .before .pre in
     let e = subst (BeginPost _ _ _ _ _ _) (t .trials .given .1) (b .begin .ensures) in
-    (p .0, e .1, e .2, e .3, omega (arith, f .if2 .left, p .0 .flips-least))
+    (p .0, e .1, omega (arith, f .if2 .left, p .0 .flips-least))
 
 returns-3 : tie.Need-returns-3
 returns-3 c =

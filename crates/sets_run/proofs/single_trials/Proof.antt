@@ -13,7 +13,7 @@ extend-requires c κs =
     let s = c .before .before .before .before .before .before .before in
     let x = s .args in
     let on = s .pre .0 in (
-      walk-first on (s .pre .2),
+      walk-first on (s .pre .1 .leaves),
       set-none _ _,
       record { low-most = omega arith; count-most = omega arith; room-most = omega (arith, limit-fits (x .search .w) (x .code) (omega (arith, on .frame .coded .K-most, fits (on .frame .coded .n-most))), on .limit-most) },
     )
@@ -22,7 +22,7 @@ set-trials-requires : tie.Need-set-trials-requires
 set-trials-requires c κs =
     let e = c .before .before .before .before .before .before .before in
     let p = e .before .before .before .before .before .before .before .before .pre in
-    (p .0, p .1, (λ l. absurd (omega (arith, l, p .4))), first-pool (p .0) (p .2) (e .extend .ensures), p .3)
+    (p .0, p .1 .later, (λ l. absurd (omega (arith, l, p .2))), first-pool (p .0) (p .1 .leaves) (e .extend .ensures), p .1 .whole)
 
 pub single-trials-spec : {M : Type 1} → statement M
 single-trials-spec =
