@@ -1,4 +1,5 @@
 // Resume: one decoding pass whose first bits are given.
+use arrays::BitArray;
 use arrays::SIZE;
 use code::Code;
 use code::Description;
@@ -43,30 +44,38 @@ fn first_bad(mask: &[u8], prefix: &[u8]) -> usize
     i
 }
 
-// The pass of an accepted call.
-fn resume_pass(mask: &[u8], code: Code, channel: &[u8], prefix: &[u8], output: &mut [u8]) -> Work
-    requires { ⌜ ResumePre (now mask) code (now channel) (now prefix) (now output) ⌝ }
+// The pass of an accepted call, whose bits are put in `bits` and then in the output.
+fn resume_pass(
+    mask: &[u8],
+    code: Code,
+    channel: &[u8],
+    prefix: &[u8],
+    bits: &mut BitArray,
+    output: &mut [u8],
+) -> Work
+    requires { do
+      ⌜ ResumePre (now mask) code (now channel) (now prefix) (now output)
+          × (length (now bits) ≡ (← ⟦SIZE⟧)) ⌝ }
     ensures { λ done. ⌜ (done ≡ resumePass (now (mask .entry)) code (now (channel .entry)) (now (prefix .entry)) .work)
         × (now (output .exit) ≡ resumePass (now (mask .entry)) code (now (channel .entry)) (now (prefix .entry)) .bits) ⌝ }
 {
     let mut rules = [0u8; SIZE];
     let mut work = [0i32; SIZE];
-    let mut bits = [0u8; SIZE];
     let mut sums = [0u8; SIZE];
     let mut leaves = [0i32; SIZE];
     pass::rules_from(mask, &mut rules);
-    arrays::copy(prefix, 0, &mut bits, 0, prefix.len());
+    arrays::copy(prefix, 0, bits, 0, prefix.len());
     let done = pass::pass(
         code,
         prefix.len(),
         channel,
         &rules,
         &mut work,
-        &mut bits,
+        bits,
         &mut sums,
         &mut leaves,
     );
-    arrays::copy(&bits, 0, output, 0, channel.len());
+    arrays::copy(bits, 0, output, 0, channel.len());
     done
 }
 
@@ -107,26 +116,37 @@ fn judge_resuming(
 }
 
 // Resume under a code.
-fn resume_by(mask: &[u8], code: Code, channel: &[u8], prefix: &[u8], output: &mut [u8]) -> Resumed
-    requires { ⌜ Coded (now mask) code ⌝ }
+fn resume_by(
+    mask: &[u8],
+    code: Code,
+    channel: &[u8],
+    prefix: &[u8],
+    bits: &mut BitArray,
+    output: &mut [u8],
+) -> Resumed
+    requires { do
+      ⌜ Coded (now mask) code
+          × (length (now bits) ≡ (← ⟦SIZE⟧)) ⌝ }
     ensures { λ r. ⌜ (r, now (output .exit)) ≡ resumedBy (now (mask .entry)) code (now (channel .entry)) (now (prefix .entry)) (now (output .entry)) ⌝ }
 {
     match judge_resuming(mask, code, channel, prefix, output) {
         Judgement::Fine => {
-            let done = resume_pass(mask, code, channel, prefix, output);
+            let done = resume_pass(mask, code, channel, prefix, bits, output);
             Resumed::Done { steps: done.steps }
         }
         Judgement::Refused(x) => Resumed::Refused(x),
     }
 }
 
-// All N bits of a pass whose first bits are the prefix, one a byte.
+// All N bits of a pass whose first bits are the prefix, one a byte. The array of bits is made first: DECISIONS.md, "Large frames", says why.
 pub fn resume(description: &[u8], channel: &[u8], prefix: &[u8], output: &mut [u8]) -> Resumed
     ensures { λ r. ⌜ (r, now (output .exit)) ≡ resumed (now (description .entry)) (now (channel .entry)) (now (prefix .entry)) (now (output .entry)) ⌝ }
 {
+    let mut bits = [0u8; SIZE];
     match code::read_description(description) {
         Description::Accepted(code) => {
-            resume_by(code::mask_of(description), code, channel, prefix, output)
+            let mask = code::mask_of(description);
+            resume_by(mask, code, channel, prefix, &mut bits, output)
         }
         Description::Refused(x) => Resumed::Refused(x),
     }

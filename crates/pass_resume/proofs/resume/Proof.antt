@@ -1,5 +1,5 @@
 -- `pass_resume::resume` meets its contract: the definition goes by what the description says.
-use mathlib.Core.Path.{_≡_, sym, ap, _∙_, subst}
+use mathlib.Core.Path.{_≡_, refl, sym, ap, _∙_, subst}
 use mathlib.Core.List.{List}
 use Prim.Native.Nat.{ℕ}
 use borrow.Author.Needs.{needs}
@@ -38,16 +38,16 @@ module _ (c : tie.After-known-told) where
 
 resume-by-requires : tie.Need-resume-by-requires
 resume-by-requires c κs =
-    let a = c .before .before in
-    subst (λ (mask : List ℕ). Coded mask (code a)) (sym (c .before .mask-of .ensures)) (facts a .coded)
+    let a = c .before .before .before in
+    (subst (λ (mask : List ℕ). Coded mask (code a)) (sym (c .before .before .mask-of .ensures)) (facts a .coded), refl)
 
 returns : tie.Need-returns
 unfolding resumed
 returns c =
-    let a = c .before .before .before .before .before in
+    let a = c .before .before .before .before .before .before in
     let x = s a .args in
     c .before .before .resume-by .ensures
-    ∙ ap (λ (mask : List ℕ). resumedBy mask (code a) (now (x .channel)) (now (x .prefix)) (now (x .output))) (c .before .before .before .before .mask-of .ensures)
+    ∙ ap (λ (mask : List ℕ). resumedBy mask (code a) (now (x .channel)) (now (x .prefix)) (now (x .output))) (c .before .before .before .before .before .mask-of .ensures)
     ∙ ap (by (s a)) (accepted a)
 
 returns-2 : tie.Need-returns-2

@@ -27,7 +27,7 @@ module _ (c : tie.After-enum-told) where
 returns : tie.Need-returns
 returns c =
     let k = c .before .before in
-    let e = k .before .before in
+    let e = k .before .before .before in
     let x = s e .args in
     let d = k .resume-pass .ensures in
     ap₂ (λ (w : Work) (bits : List ℕ). (Done (w .steps), bits)) (d .0) (d .1)
@@ -47,7 +47,7 @@ resume-by-spec =
     (tie.spec
     (λ c κs. search needs)
     (λ c. search needs)
-    (λ c κs. let e = c .before in record { coded = s e .pre; well-formed = well-formed e })
+    (λ c κs. let e = c .before .before in (record { coded = s e .pre .0; well-formed = well-formed e }, s e .pre .1))
     (λ c. search needs)
     (λ c. search needs)
     returns
