@@ -4,8 +4,8 @@
  * Each function takes buffers as a pointer and a length in bytes, and keeps no pointer. It only reads its inputs, which may overlap each
  * other; input and output must not overlap, and nothing else may write any of them during the call. The state of a hearing is an input
  * where it is const, and an output elsewhere. A pointer may be NULL where its length is 0. There is no global state and no allocation: all
- * functions are reentrant and may be called from several threads at once. A call takes at most 8 KiB of stack for encode, 52 KiB for
- * resume, 72 KiB for the decoders, 92 KiB for those by sets, 72 KiB for hearings, and 76 KiB for preview, whatever the code.
+ * functions are reentrant and may be called from several threads at once. A call takes at most 8 KiB of stack for encode, 48 KiB for
+ * resume, 70 KiB for the decoders, 90 KiB for those by sets, 70 KiB for hearings, and 74 KiB for preview, whatever the code.
  *
  * Each answer is one number: bits 0-7 hold the refusal, or 0 for acceptance; bits 8-31 the trial, refusal 16's number of trials, the count
  * of a hearing, or a refusal's first index; bits 32-63 the steps. What an answer lacks is 0. A refusal writes nothing. Where several

@@ -12,11 +12,11 @@ use host::testing::stack::{on_stack, stack_of, KIB};
 
 /// The most that a call takes.
 const ENCODE: usize = 8 * KIB;
-const RESUME: usize = 52 * KIB;
-const DECODERS: usize = 72 * KIB;
-const SET_DECODERS: usize = 92 * KIB;
-const HEARINGS: usize = 72 * KIB;
-const PREVIEW: usize = 76 * KIB;
+const RESUME: usize = 48 * KIB;
+const DECODERS: usize = 70 * KIB;
+const SET_DECODERS: usize = 90 * KIB;
+const HEARINGS: usize = 70 * KIB;
+const PREVIEW: usize = 74 * KIB;
 
 /// What a thread may take for its own start.
 const THREAD: usize = 16 * KIB;
