@@ -2,71 +2,50 @@
 use code::Code;
 use code::Description;
 use flip_run::Decoded;
-use flip_run::Plan;
+use flip_run::Terms;
 use flip_trial::Restart;
 use refusal::Judgement;
 use refusal::Refusal;
 ghost use mathlib.Core.Path.{_≡_};
-ghost use Prim.Native.Nat.{_+_, _≤_};
-ghost use Rattle.refusal.specs.Judge.{outside, judge};
-ghost use Rattle.arrays.specs.Sizes.{deepest};
+ghost use Prim.Native.Nat.{_≤_};
+ghost use Rattle.refusal.specs.Judge.{judge};
 ghost use Rattle.arrays.specs.Claims.{longest};
 ghost use Rattle.code.specs.Code.{informationCount};
 ghost use Rattle.code.specs.Claims.{Coded};
-ghost use Rattle.flip_decoder.specs.Decode.{runRefusals, decodingRefusals, decodedBy, decodedWith, decodedFull, decodedHalf, decodedRestarted};
+ghost use Rattle.decoder.specs.Decoder.{single, ownRefusals, decodedUnder, decodedAs, decodedFull, decodedHalf, decodedRestarted};
 
-// Whether the trial limit is outside 1..K + 1.
-fn is_bad_limit(limit: u32, code: Code) -> bool
+// Refusal 14: the trial limit is outside 1..K + 1.
+fn judge_limit(limit: u32, code: Code) -> Judgement
     requires { ⌜ informationCount code ≤ longest ⌝ }
-    ensures { λ b. ⌜ b ≡ outside limit 1 (informationCount code + 1) ⌝ }
+    ensures { λ j. ⌜ j ≡ judge (ownRefusals (single limit) code) ⌝ }
 {
-    refusal::is_outside(limit as usize, 1, code.k + code.r as usize + 1)
-}
-
-// Refusals 14 and 15.
-fn judge_run(plan: Plan, code: Code, output: &[u8]) -> Judgement
-    requires { ⌜ informationCount code ≤ longest ⌝ }
-    ensures { λ j. ⌜ j ≡ judge (runRefusals plan code (now (output .entry))) ⌝ }
-{
-    if is_bad_limit(plan.limit, code) {
+    if refusal::is_outside(limit as usize, 1, code.k + code.r as usize + 1) {
         return Judgement::Refused(Refusal::Alone(14));
-    }
-    if output.len() != bits::bytes_for(code.k) {
-        return Judgement::Refused(Refusal::Alone(15));
     }
     Judgement::Fine
 }
 
-// Refusals 12 to 15.
-fn judge_decoding(plan: Plan, code: Code, channel: &[u8], output: &[u8]) -> Judgement
-    requires { ⌜ (code .n ≤ deepest)
-        × (informationCount code ≤ longest) ⌝ }
-    ensures { λ j. ⌜ j ≡ judge (decodingRefusals plan code (now (channel .entry)) (now (output .entry))) ⌝ }
-{
-    match channel::judge_channel(code, channel) {
-        Judgement::Fine => judge_run(plan, code, output),
-        Judgement::Refused(x) => Judgement::Refused(x),
-    }
-}
-
 // Decodes a channel's values into the packed payload, by the mask and the code of a description.
-pub fn decode_by(plan: Plan, mask: &[u8], code: Code, channel: &[u8], output: &mut [u8]) -> Decoded
+pub fn decode_by(terms: Terms, mask: &[u8], code: Code, channel: &[u8], output: &mut [u8]) -> Decoded
     requires { ⌜ Coded (now mask) code ⌝ }
-    ensures { λ a. ⌜ (a, now (output .exit)) ≡ decodedBy plan (now (mask .entry)) code (now (channel .entry)) (now (output .entry)) ⌝ }
+    ensures { λ a. ⌜ (a, now (output .exit))
+        ≡ decodedUnder (single (terms .limit)) (terms .restart) (now (mask .entry)) code (now (channel .entry)) (now (output .entry)) ⌝ }
 {
-    match judge_decoding(plan, code, channel, output) {
-        Judgement::Fine => flip_run::decode_in(plan, mask, code, channel, output),
+    let own = judge_limit(terms.limit, code);
+    match decoder::judge_call(own, code, channel, output) {
+        Judgement::Fine => flip_run::decode_in(terms, mask, code, channel, output),
         Judgement::Refused(x) => Decoded::Refused(x),
     }
 }
 
 // Decodes a channel's values into the packed payload, by a description.
-fn decode(plan: Plan, description: &[u8], channel: &[u8], output: &mut [u8]) -> Decoded
-    ensures { λ a. ⌜ (a, now (output .exit)) ≡ decodedWith plan (now (description .entry)) (now (channel .entry)) (now (output .entry)) ⌝ }
+fn decode(terms: Terms, description: &[u8], channel: &[u8], output: &mut [u8]) -> Decoded
+    ensures { λ a. ⌜ (a, now (output .exit))
+        ≡ decodedAs (single (terms .limit)) (terms .restart) (now (description .entry)) (now (channel .entry)) (now (output .entry)) ⌝ }
 {
     match code::read_description(description) {
         Description::Accepted(code) => {
-            decode_by(plan, code::mask_of(description), code, channel, output)
+            decode_by(terms, code::mask_of(description), code, channel, output)
         }
         Description::Refused(x) => Decoded::Refused(x),
     }
@@ -76,7 +55,7 @@ fn decode(plan: Plan, description: &[u8], channel: &[u8], output: &mut [u8]) -> 
 pub fn decode_full(description: &[u8], channel: &[u8], limit: u32, output: &mut [u8]) -> Decoded
     ensures { λ a. ⌜ (a, now (output .exit)) ≡ decodedFull (now (description .entry)) (now (channel .entry)) limit (now (output .entry)) ⌝ }
 {
-    let full = Plan {
+    let full = Terms {
         restart: Restart::Root,
         limit,
     };
@@ -87,7 +66,7 @@ pub fn decode_full(description: &[u8], channel: &[u8], limit: u32, output: &mut 
 pub fn decode_half(description: &[u8], channel: &[u8], limit: u32, output: &mut [u8]) -> Decoded
     ensures { λ a. ⌜ (a, now (output .exit)) ≡ decodedHalf (now (description .entry)) (now (channel .entry)) limit (now (output .entry)) ⌝ }
 {
-    let half = Plan {
+    let half = Terms {
         restart: Restart::Half,
         limit,
     };
@@ -103,7 +82,7 @@ pub fn decode_restarted(
 ) -> Decoded
     ensures { λ a. ⌜ (a, now (output .exit)) ≡ decodedRestarted (now (description .entry)) (now (channel .entry)) limit (now (output .entry)) ⌝ }
 {
-    let restarted = Plan {
+    let restarted = Terms {
         restart: Restart::After,
         limit,
     };

@@ -11,7 +11,7 @@ use Rattle.code.specs.Claims.{Coded}
 use Rattle.flip_order.specs.Claims.{Sorted, ListsInformation}
 use Rattle.flip_order.proofs.Order.{ordered-information}
 use Rattle.flip_trial.specs.Trial.{firstTrial}
-use Rattle.flip_trial.specs.Claims.{Flips}
+use Rattle.flip_trial.specs.Flips.{Flips}
 use Rattle.flip_trial.proofs.Flips.{flips-one}
 use Rattle.flip_run.specs.Trials.{flipOrder}
 

@@ -3,8 +3,8 @@ use mathlib.Core.Bool.{Bool, true, false}
 use Rattle.flip_run.specs.declared.Decoded.{Decoded}
 use Rattle.flip_run.specs.declared.Decoded.the-variants.{Accepted, Failed, Refused}
 
--- whether an answer comes from a run of trials: no refusal before 16. The input of a decoder is well-formed exactly if its answer does:
--- `well-formed-exactly` of flip_decoder/proofs/WellFormed.antt and of sets/proofs/WellFormed.antt.
+-- whether an answer comes from a run of trials: no refusal before 16. A call is well-formed exactly if its answer does: `well-formed-exactly` of
+-- decoder/proofs/Decoder.antt.
 abbrev pub ofRun : Decoded → Bool
 ofRun (Accepted trial steps) = true
 ofRun (Failed made steps) = true

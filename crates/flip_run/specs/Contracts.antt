@@ -1,38 +1,48 @@
 -- What only contracts below the public operations cite. Nothing here need be believed.
 use mathlib.Core.Path.{_≡_}
-use mathlib.Core.List.{List, _∷_}
-use Prim.Native.Nat.{ℕ, _*_, _≤_}
+use mathlib.Core.List.{List, [], _∷_, map}
+use Prim.Native.Nat.{ℕ, _+_, _-_, _*_, _≤_}
 use lib.IntN.{ℤ}
 use lib.ListN.{length, take}
 use Rattle.bits.specs.Claims.{Bits}
-use Rattle.bits.specs.Packing.{packed}
+use Rattle.bits.specs.Packing.{packed, bytesFor}
 use Rattle.code.specs.declared.Code.{Code}
-use Rattle.code.specs.Code.{codeLength}
+use Rattle.code.specs.Code.{codeLength, informationCount}
 use Rattle.code.specs.Claims.{Coded}
 use Rattle.channel.specs.Channel.{channelValues, firstOutside}
 use Rattle.pass_tree.specs.Node.{Out}
 use Rattle.pass_ends.specs.Contracts.{Arrays, Whole}
 use Rattle.flip_order.specs.Contracts.{Keyed}
-use Rattle.flip_trial.specs.Trial.{firstTrial, trialPasses, messageIn}
+use Rattle.flip_trial.specs.Trial.{firstTrial, laterTrial, trialPasses, messageIn}
 use Rattle.flip_trial.specs.Contracts.{PlainRules, FirstBits, FirstLeaves}
-use Rattle.flip_run.specs.declared.Plan.{Plan}
+use Rattle.flip_run.specs.declared.Terms.{Terms}
 use Rattle.flip_run.specs.declared.Decoded.{Decoded}
 use Rattle.flip_run.specs.declared.Decoded.the-variants as Decoded
 use Rattle.flip_run.specs.declared.Ended.{Ended}
 use Rattle.flip_run.specs.declared.Ended.the-variants.{Passed, Failed}
-use Rattle.flip_run.specs.Trials.{Verdict, passed, failed, trials, run, answerOf}
-use Rattle.flip_run.specs.WellFormed.{WellFormed}
-
--- what holds past all refusals before 16
-pub record RunPre (plan : Plan) (mask : List ℕ) (c : Code) (channel output : List ℕ) : Type 0 where
-  pub coded : Coded mask c
-  pub well-formed : WellFormed c channel (plan .limit) output
+use Rattle.flip_run.specs.Trials.{flipOrder, Verdict, passed, failed, run, answerOf}
 
 -- a code, and channel values for it, each within its range
 pub record FramePre (mask : List ℕ) (c : Code) (channel : List ℕ) : Type 0 where
   pub coded : Coded mask c
   pub channel-size : length channel ≡ codeLength c
   pub in-range : firstOutside channel ≡ length channel
+
+-- a trial limit that is allowed
+pub record LimitPre (limit : ℕ) (c : Code) : Type 0 where
+  pub least : 1 ≤ limit
+  pub most : limit ≤ informationCount c + 1
+
+-- what holds past all refusals before 16
+pub record RunPre (terms : Terms) (mask : List ℕ) (c : Code) (channel output : List ℕ) : Type 0 where
+  pub frame : FramePre mask c channel
+  pub limits : LimitPre (terms .limit) c
+  pub output-size : length output ≡ bytesFor (c .k)
+
+-- the trials on these terms; each after the first flips one index
+abbrev pub trials : Terms → List ℕ → Code → List ℤ → List Out
+trials terms mask c v =
+    firstTrial mask c v ∷ map (λ i. laterTrial (terms .restart) mask c v (i ∷ [])) (take (terms .limit - 1) (flipOrder mask c v))
 
 -- once trial 1 failed, in `start` steps: its bits, the rules of a plain pass, and how a run goes on
 pub record LaterTrialsPre (room : ℕ) (mask : List ℕ) (c : Code) (channel : List ℕ) (start : ℕ) (first rules : List ℕ) : Type 0 where
@@ -63,11 +73,14 @@ Ran mask c (passed trial steps bits) e message =
     (e ≡ Passed trial steps) × (take (c .k) message ≡ take (c .k) (messageIn mask c bits)) × Bits (take (c .k) message)
 Ran mask c (failed made steps) e message = e ≡ Failed made steps
 
+-- a run ended with its verdict, and the array of its message has the size that it had
+abbrev pub RunPost : ℕ → List ℕ → Code → Verdict → Ended → List ℕ → Type 0
+RunPost room mask c v e message = Ran mask c v e message × (length message ≡ room)
+
 -- how trial 1 ended: it passed, and so a run ended, whatever later trials it has; or it failed
 abbrev pub BeginPost : ℕ → List ℕ → Code → List ℕ → List ℕ → Arrays → Ended → Type 0
 BeginPost room mask c channel rules a (Passed trial steps) =
-    ((later : List Out) → Ran mask c (run (trialPasses mask c) 0 0 (firstTrial mask c (channelValues channel) ∷ later)) (Passed trial steps) (a .sums))
-    × (length (a .sums) ≡ room)
+    (later : List Out) → RunPost room mask c (run (trialPasses mask c) 0 0 (firstTrial mask c (channelValues channel) ∷ later)) (Passed trial steps) (a .sums)
 BeginPost room mask c channel rules a (Failed made start) =
     (made ≡ 1) × FirstFailed room mask c channel start rules a
 
@@ -75,11 +88,10 @@ BeginPost room mask c channel rules a (Failed made start) =
 abbrev pub FirstKeys : List ℕ → Code → List ℕ → List ℤ → Type 0
 FirstKeys mask c channel keys = Keyed mask (codeLength c) (firstTrial mask c (channelValues channel) .leaves) keys
 
--- how the run of a plan ends
-abbrev pub verdictBy : Plan → List ℕ → Code → List ℕ → Verdict
-verdictBy plan mask c channel = run (trialPasses mask c) 0 0 (trials plan mask c (channelValues channel))
+-- how the run on these terms ends
+abbrev pub verdictBy : Terms → List ℕ → Code → List ℕ → Verdict
+verdictBy terms mask c channel = run (trialPasses mask c) 0 0 (trials terms mask c (channelValues channel))
 
 -- the answer past all refusals before 16, and the output's final bytes
-abbrev pub answerBy : Plan → List ℕ → Code → List ℕ → List ℕ → Decoded × List ℕ
-answerBy plan mask c channel output =
-    answerOf mask c output (verdictBy plan mask c channel)
+abbrev pub answerBy : Terms → List ℕ → Code → List ℕ → List ℕ → Decoded × List ℕ
+answerBy terms mask c channel output = answerOf mask c output (verdictBy terms mask c channel)

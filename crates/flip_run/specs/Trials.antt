@@ -1,8 +1,7 @@
--- Document 01, "Flip decoding, full and restarted": the trials of a run, and the first that passes. Document 000, section II-C: the
--- trial limit counts trial 1.
+-- Document 01, "Flip decoding, full and restarted": the order of flips, and the first trial that passes.
 use mathlib.Core.Bool.{Bool, cond}
-use mathlib.Core.List.{List, [], _∷_, map}
-use Prim.Native.Nat.{ℕ, _+_, _-_}
+use mathlib.Core.List.{List, [], _∷_}
+use Prim.Native.Nat.{ℕ, _+_}
 use lib.IntN.{ℤ}
 use lib.ListN.{take}
 use Rattle.bits.specs.Packing.{packed}
@@ -10,8 +9,7 @@ use Rattle.code.specs.declared.Code.{Code}
 use Rattle.code.specs.Code.{codeLength}
 use Rattle.pass_tree.specs.Node.{Out}
 use Rattle.flip_order.specs.Order.{information, ordered}
-use Rattle.flip_trial.specs.Trial.{firstTrial, laterTrial, messageIn}
-use Rattle.flip_run.specs.declared.Plan.{Plan}
+use Rattle.flip_trial.specs.Trial.{firstTrial, messageIn}
 use Rattle.flip_run.specs.declared.Decoded.{Decoded}
 use Rattle.flip_run.specs.declared.Decoded.the-variants.{Accepted, Failed}
 
@@ -19,14 +17,11 @@ use Rattle.flip_run.specs.declared.Decoded.the-variants.{Accepted, Faile
 abbrev pub flipOrder : List ℕ → Code → List ℤ → List ℕ
 flipOrder mask c v = ordered (firstTrial mask c v .leaves) (information mask (codeLength c))
 
--- the trials up to the limit; each after the first flips one index
-abbrev pub trials : Plan → List ℕ → Code → List ℤ → List Out
-trials plan mask c v =
-    firstTrial mask c v ∷ map (λ i. laterTrial (plan .restart) mask c v (i ∷ [])) (take (plan .limit - 1) (flipOrder mask c v))
-
--- what a run ends with: the first trial that passes, or all trials made, with the steps of all trials made
+-- how a run of trials ends
 pub data Verdict : Type 0 where
+  -- the first trial that passes, from 1, the steps of all trials made, and its bits
   passed : (trial steps : ℕ) (bits : List ℕ) → Verdict
+  -- no trial passes: the trials made, and their steps
   failed : (made steps : ℕ) → Verdict
 
 -- the trials in order, after `made` trials with `steps` steps have failed

@@ -7,15 +7,14 @@ use code::Code;
 use flip_trial::Restart;
 use refusal::Refusal;
 ghost use mathlib.Core.Path.{_≡_};
-ghost use Prim.Native.Nat.{_+_, _≤_};
+ghost use Prim.Native.Nat.{_≤_};
 ghost use lib.ListN.{length, take};
 ghost use Rattle.bits.specs.Packing.{bytesFor};
-ghost use Rattle.code.specs.Code.{informationCount};
 ghost use Rattle.pass_ends.specs.Contracts.{arrays, Whole};
-ghost use Rattle.flip_run.specs.Contracts.{FramePre, RunPre, FirstFailed, PassedBits, answered, BeginPost, Ran, verdictBy, answerBy};
+ghost use Rattle.flip_run.specs.Contracts.{FramePre, LimitPre, RunPre, FirstFailed, PassedBits, answered, BeginPost, RunPost, verdictBy, answerBy};
 
-// How a frame is decoded.
-pub struct Plan {
+// The terms of a run of trials: at which index later trials resume, and how long the run goes on.
+pub struct Terms {
     // Where later trials resume.
     pub restart: Restart,
     // How many trials may be made, trial 1 included.
@@ -91,7 +90,7 @@ pub fn begin(
 // The trials after the first, which took `start` steps and failed, until one passes or the limit is reached. Trial 1's leaf values become
 // the keys that order the indices. Bits and leaf values of later trials have arrays of their own: each restart begins with trial 1's bits.
 fn flip_trials(
-    plan: Plan,
+    terms: Terms,
     mask: &[u8],
     code: Code,
     channel: &[u8],
@@ -104,18 +103,17 @@ fn flip_trials(
 ) -> Ended
     requires { do
       ⌜ FramePre (now mask) code (now channel)
-          × (1 ≤ plan .limit)
-          × (plan .limit ≤ informationCount code + 1)
+          × LimitPre (terms .limit) code
           × FirstFailed (← ⟦SIZE⟧) (now mask) code (now channel) start (now rules) (arrays (now work) (now first) (now sums) (now values)) ⌝ }
     ensures { λ e. do
-      ⌜ Ran (now (mask .entry)) code (verdictBy plan (now (mask .entry)) code (now (channel .entry))) e (now (sums .exit))
-          × (length (now (sums .exit)) ≡ (← ⟦SIZE⟧ .entry)) ⌝ }
+      ⌜ RunPost (← ⟦SIZE⟧ .entry) (now (mask .entry)) code (verdictBy terms (now (mask .entry)) code (now (channel .entry))) e
+          (now (sums .exit)) ⌝ }
 {
     let mut bits = [0u8; SIZE];
     let mut leaves = [0i32; SIZE];
     flip_order::make_keys(mask, values);
-    let restart = plan.restart;
-    let limit = plan.limit;
+    let restart = terms.restart;
+    let limit = terms.limit;
     let size = channel.len();
     let mut made: u32 = 1;
     let mut steps = start;
@@ -150,15 +148,14 @@ fn flip_trials(
 }
 
 // Makes the arrays of trial 1 and runs the trials. The message of a trial that passes is left in `sums`.
-fn run_trials(plan: Plan, mask: &[u8], code: Code, channel: &[u8], sums: &mut BitArray) -> Ended
+fn run_trials(terms: Terms, mask: &[u8], code: Code, channel: &[u8], sums: &mut BitArray) -> Ended
     requires { do
       ⌜ FramePre (now mask) code (now channel)
-          × (1 ≤ plan .limit)
-          × (plan .limit ≤ informationCount code + 1)
+          × LimitPre (terms .limit) code
           × (length (now sums) ≡ (← ⟦SIZE⟧)) ⌝ }
     ensures { λ e. do
-      ⌜ Ran (now (mask .entry)) code (verdictBy plan (now (mask .entry)) code (now (channel .entry))) e (now (sums .exit))
-          × (length (now (sums .exit)) ≡ (← ⟦SIZE⟧ .entry)) ⌝ }
+      ⌜ RunPost (← ⟦SIZE⟧ .entry) (now (mask .entry)) code (verdictBy terms (now (mask .entry)) code (now (channel .entry))) e
+          (now (sums .exit)) ⌝ }
 {
     let mut first = [0u8; SIZE];
     let mut values = [0i32; SIZE];
@@ -176,11 +173,11 @@ fn run_trials(plan: Plan, mask: &[u8], code: Code, channel: &[u8], sums: &mut Bi
     ) {
         Ended::Passed { trial, steps } => Ended::Passed { trial, steps },
         Ended::Failed { trials, steps } => {
-            if plan.limit == 1 {
+            if terms.limit == 1 {
                 return Ended::Failed { trials, steps };
             }
             flip_trials(
-                plan,
+                terms,
                 mask,
                 code,
                 channel,
@@ -196,11 +193,11 @@ fn run_trials(plan: Plan, mask: &[u8], code: Code, channel: &[u8], sums: &mut Bi
 }
 
 // Runs the trials and answers.
-pub fn decode_in(plan: Plan, mask: &[u8], code: Code, channel: &[u8], output: &mut [u8]) -> Decoded
-    requires { ⌜ RunPre plan (now mask) code (now channel) (now output) ⌝ }
-    ensures { λ a. ⌜ (a, now (output .exit)) ≡ answerBy plan (now (mask .entry)) code (now (channel .entry)) (now (output .entry)) ⌝ }
+pub fn decode_in(terms: Terms, mask: &[u8], code: Code, channel: &[u8], output: &mut [u8]) -> Decoded
+    requires { ⌜ RunPre terms (now mask) code (now channel) (now output) ⌝ }
+    ensures { λ a. ⌜ (a, now (output .exit)) ≡ answerBy terms (now (mask .entry)) code (now (channel .entry)) (now (output .entry)) ⌝ }
 {
     let mut message = [0u8; SIZE];
-    let ended = run_trials(plan, mask, code, channel, &mut message);
+    let ended = run_trials(terms, mask, code, channel, &mut message);
     answer(code.k, ended, &message, output)
 }

@@ -11,7 +11,7 @@ use Rattle.bits.specs.Mask.{maskBit}
 use Rattle.values.specs.Values.{frozen, usual, opposite, maskRule}
 use Rattle.values.proofs.Rules.{rule-usual, rule-frozen}
 use Rattle.flip_trial.specs.Trial.{member, flipRule, lowest}
-use Rattle.flip_trial.specs.Claims.{Flips}
+use Rattle.flip_trial.specs.Flips.{Flips}
 
 -- what holds of each of some indices holds of a member
 pub member-each : (P : ℕ → Type 0) (is : List ℕ) → ((a : ℕ) → a < length is → P (getD is a 0)) → (j : ℕ) → member j is ≡ true → P j

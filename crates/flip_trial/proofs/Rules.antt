@@ -15,7 +15,7 @@ use Rattle.values.specs.Contracts.{ruleOf}
 use Rattle.values.proofs.Rules.{rule-usual}
 use Rattle.pass_ends.specs.Contracts.{ruleAt}
 use Rattle.flip_trial.specs.Trial.{member}
-use Rattle.flip_trial.specs.Claims.{Flips}
+use Rattle.flip_trial.specs.Flips.{Flips}
 use Rattle.flip_trial.specs.Contracts.{Below, setAll, PlainRules}
 use Rattle.flip_trial.proofs.Flips.{member-each}
 

@@ -10,13 +10,6 @@ use Rattle.bits.specs.Mask.{maskBit}
 use Rattle.pass_tree.specs.Node.{Out}
 use Rattle.flip_trial.specs.Trial.{lowest}
 
--- indices that a trial can flip: at least one, ascending, all of them information indices below `size`
-pub record Flips (mask : List ℕ) (size : ℕ) (is : List ℕ) : Type 0 where
-  pub some : 0 < length is
-  pub below : (a : ℕ) → a < length is → getD is a 0 < size
-  pub information : (a : ℕ) → a < length is → maskBit mask (getD is a 0) ≡ 1
-  pub ascending : (a b : ℕ) → a < b → b < length is → getD is a 0 < getD is b 0
-
 -- where a trial with these flips may resume: at its lowest flipped index or below, or past it while only frozen indices lie between.
 -- `restartable` of proofs/Restartable.antt says that every restart does.
 pub record Restartable (mask : List ℕ) (size : ℕ) (is : List ℕ) (q : ℕ) : Type 0 where

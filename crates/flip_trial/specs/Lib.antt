@@ -1,4 +1,5 @@
 pub mod Trial
+pub mod Flips
 pub mod FirstAfter
 pub mod Claims
 pub mod Contracts

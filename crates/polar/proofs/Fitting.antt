@@ -34,13 +34,9 @@ use Rattle.flip_trial.specs.declared.Restart.{Restart}
 use Rattle.flip_trial.specs.declared.Restart.the-variants.{After}
 use Rattle.flip_trial.specs.Trial.{trialPasses}
 use Rattle.flip_run.specs.declared.Decoded.{Decoded}
-use Rattle.flip_run.specs.Trials.{trials, Verdict, passed, failed, run, answerOf}
-use Rattle.flip_run.specs.Plan.{planOf}
-use Rattle.flip_decoder.specs.Decode.{decodingRefusals, decodedBy, decodedWith}
-use Rattle.flip_demands.proofs.StepBounds.{Bounded, decoded-bounded}
-use Rattle.sets.specs.Tried.{setTrials}
-use Rattle.sets.specs.DecodeSets.{setRefusals, searchOf, setsBy, setsWith}
-use Rattle.sets_demands.proofs.StepBounds.{sets-bounded}
+use Rattle.flip_run.specs.Trials.{Verdict, passed, failed, run, answerOf}
+use Rattle.decoder.specs.Decoder.{Decoder, single, sets, refusalsOf, trialsOf, decodedUnder, decodedAs}
+use Rattle.decoder_demands.proofs.StepBounds.{Bounded, bounded}
 use Rattle.hearing.specs.Hearing.{fresh, combined, addedTo, addRefusals, isHearing}
 use Rattle.hearing.proofs.Adding.{count-most, not-full}
 use Rattle.hearing_state.specs.declared.State.{State}
@@ -139,27 +135,20 @@ ran-fits : (mask : List ℕ) (c : Code) (output : List ℕ) (v : Verdict) → Bo
 ran-fits mask c output (passed trial steps bits) b = fitting (omega arith) (omega (arith, b .0)) (omega (arith, b .1))
 ran-fits mask c output (failed made steps) b = fitting (omega arith) (omega (arith, b .0)) (omega (arith, b .1))
 
-pub decoded-fits : (restart : Restart) (d channel : List ℕ) (limit : ℕ) (output : List ℕ) → Fits decodedParts (decodedWith (planOf restart limit) d channel output)
-unfolding decodedWith decodedBy
-decoded-fits restart d channel limit output =
-    let plan = planOf restart limit in
-    on-call BoundedFits _ (λ x f b. f) d (λ c. decodingRefusals plan c channel output)
-    (λ c e. (
-      judged-reached RefusalFits (decodingRefusals plan c channel output) (search (needs, alone, outside-fits c (described d c e .coded .n-most) channel)),
-      ran-fits (maskOf d) c output (run (trialPasses (maskOf d) c) 0 0 (trials plan (maskOf d) c (channelValues channel))),
-    ))
-    (decoded-bounded restart d channel limit output)
+-- the refusals of a decoder
+refusals-fit : (p : Decoder) (c : Code) → c .n ≤ deepest → (channel output : List ℕ) → Judged RefusalFits (judge (refusalsOf p c channel output))
+refusals-fit (single limit) c l channel output = judged-reached RefusalFits (refusalsOf (single limit) c channel output) (search (needs, alone, outside-fits c l channel))
+refusals-fit (sets w limit) c l channel output = judged-reached RefusalFits (refusalsOf (sets w limit) c channel output) (search (needs, alone, outside-fits c l channel) depth 9)
 
-pub sets-fits : (restart : Restart) (d channel : List ℕ) (w limit : ℕ) (output : List ℕ) → Fits decodedParts (setsWith (searchOf restart w limit) d channel output)
-unfolding setsWith setsBy
-sets-fits restart d channel w limit output =
-    let s = searchOf restart w limit in
-    on-call BoundedFits _ (λ x f b. f) d (λ c. setRefusals s c channel output)
+pub decoded-fits : (p : Decoder) (restart : Restart) (d channel output : List ℕ) → Fits decodedParts (decodedAs p restart d channel output)
+unfolding decodedAs decodedUnder
+decoded-fits p restart d channel output =
+    on-call BoundedFits _ (λ x f b. f) d (λ c. refusalsOf p c channel output)
     (λ c e. (
-      judged-reached RefusalFits (setRefusals s c channel output) (search (needs, alone, outside-fits c (described d c e .coded .n-most) channel) depth 9),
-      ran-fits (maskOf d) c output (run (trialPasses (maskOf d) c) 0 0 (setTrials s (maskOf d) c (channelValues channel))),
+      refusals-fit p c (described d c e .coded .n-most) channel output,
+      ran-fits (maskOf d) c output (run (trialPasses (maskOf d) c) 0 0 (trialsOf p restart (maskOf d) c (channelValues channel))),
     ))
-    (sets-bounded restart w limit d channel output)
+    (bounded p restart d channel output)
 
 -- ---- the exports on a state
 

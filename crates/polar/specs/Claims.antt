@@ -3,8 +3,7 @@ use Prim.Native.Nat.{ℕ}
 use mathlib.Core.List.{List}
 use Rattle.encoder.specs.Encode.{encoded}
 use Rattle.pass_resume.specs.Resume.{resumed}
-use Rattle.flip_decoder.specs.Decode.{decodedFull, decodedHalf, decodedRestarted}
-use Rattle.sets.specs.DecodeSets.{setsFull, setsHalf, setsRestarted}
+use Rattle.decoder.specs.Decoder.{decodedFull, decodedHalf, decodedRestarted, setsFull, setsHalf, setsRestarted}
 use Rattle.hearing_buffer.specs.Lent.{openedIn, addedIn, clearedIn, fullIn, restartedIn}
 use Rattle.hearing_preview.specs.Preview.{previewedIn}
 use Rattle.polar_number.specs.Number.{encodedParts, resumedParts, decodedParts, keptParts}

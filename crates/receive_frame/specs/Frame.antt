@@ -10,7 +10,7 @@ use Rattle.bits.specs.Packing.{bytesFor}
 use Rattle.code.specs.Description.{word, describe, onDescription}
 use Rattle.flip_run.specs.declared.Decoded.{Decoded}
 use Rattle.flip_run.specs.declared.Decoded.the-variants.{Accepted, Failed, Refused}
-use Rattle.flip_decoder.specs.Decode.{decodedRestarted}
+use Rattle.decoder.specs.Decoder.{decodedRestarted}
 use Rattle.receive_lines.specs.Line.{okLine, noLine}
 
 -- the line of a decoder's answer and the payload that it wrote: refusal 16 is `Failed`

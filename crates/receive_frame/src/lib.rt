@@ -3,7 +3,7 @@ use arrays::BYTES;
 use code::Code;
 use code::Description;
 use flip_run::Decoded;
-use flip_run::Plan;
+use flip_run::Terms;
 use flip_trial::Restart;
 use receive_lines::LINE;
 use refusal::Refusal;
@@ -12,8 +12,7 @@ ghost use lib.ListN.{length};
 ghost use Rattle.refusal.specs.Judge.{numberOf};
 ghost use Rattle.code.specs.Claims.{Coded};
 ghost use Rattle.flip_trial.specs.declared.Restart.the-variants.{After};
-ghost use Rattle.flip_run.specs.Plan.{planOf};
-ghost use Rattle.flip_decoder.specs.Decode.{decodedBy};
+ghost use Rattle.decoder.specs.Decoder.{single, decodedUnder};
 ghost use Rattle.receive_lines.specs.Line.{noLine};
 ghost use Rattle.receive_lines.specs.Contracts.{PutPost};
 ghost use Rattle.receive_frame.specs.Contracts.{lineOfAnswer};
@@ -61,14 +60,14 @@ fn put_decoded(
           × (length (now payload) ≤ (← ⟦BYTES⟧))
           × ((← ⟦LINE⟧) ≤ length (now line)) ⌝ }
     ensures { λ next. ⌜ PutPost (now (line .entry)) 0
-        (lineOfAnswer (decodedBy (planOf After limit) (now (mask .entry)) code (now (channel .entry)) (now (payload .entry))))
+        (lineOfAnswer (decodedUnder (single limit) After (now (mask .entry)) code (now (channel .entry)) (now (payload .entry))))
         (now (line .exit)) next ⌝ }
 {
-    let plan = Plan {
+    let terms = Terms {
         restart: Restart::After,
         limit,
     };
-    let answer = flip_decoder::decode_by(plan, mask, code, channel, payload);
+    let answer = flip_decoder::decode_by(terms, mask, code, channel, payload);
     put_answer(line, answer, payload)
 }
 

@@ -1,19 +1,18 @@
 // Decoding by sets of flipped indices: full, by half restart, and restarted.
 use code::Code;
 use code::Description;
+use decoder::Search;
 use flip_run::Decoded;
 use flip_trial::Restart;
 use refusal::Judgement;
 use refusal::Refusal;
-use sets::Search;
 ghost use mathlib.Core.Path.{_≡_};
 ghost use Prim.Native.Nat.{_≤_};
 ghost use Rattle.refusal.specs.Judge.{outside, judge};
-ghost use Rattle.arrays.specs.Sizes.{deepest};
 ghost use Rattle.arrays.specs.Claims.{longest};
 ghost use Rattle.code.specs.Code.{informationCount};
 ghost use Rattle.code.specs.Claims.{Coded};
-ghost use Rattle.sets.specs.DecodeSets.{mostLimit, searchRefusals, setRefusals, setsBy, setsWith, setsFull, setsHalf, setsRestarted};
+ghost use Rattle.decoder.specs.Decoder.{sets, mostLimit, ownRefusals, decodedUnder, decodedAs, setsFull, setsHalf, setsRestarted};
 
 // The largest trial limit if a set may have more than one index.
 const MOST_TRIALS: usize = 512;
@@ -45,10 +44,10 @@ fn is_bad_limit(search: Search, code: Code) -> bool
     refusal::is_outside(search.limit as usize, 1, most_limit(search.w, code))
 }
 
-// Refusals 26, 14 and 15.
-fn judge_search(search: Search, code: Code, output: &[u8]) -> Judgement
+// Refusals 26 and 14.
+fn judge_search(search: Search, code: Code) -> Judgement
     requires { ⌜ informationCount code ≤ longest ⌝ }
-    ensures { λ j. ⌜ j ≡ judge (searchRefusals search code (now (output .entry))) ⌝ }
+    ensures { λ j. ⌜ j ≡ judge (ownRefusals (sets (search .w) (search .limit)) code) ⌝ }
 {
     if is_bad_count(search.w) {
         return Judgement::Refused(Refusal::Alone(26));
@@ -56,30 +55,17 @@ fn judge_search(search: Search, code: Code, output: &[u8]) -> Judgement
     if is_bad_limit(search, code) {
         return Judgement::Refused(Refusal::Alone(14));
     }
-    if output.len() != bits::bytes_for(code.k) {
-        return Judgement::Refused(Refusal::Alone(15));
-    }
     Judgement::Fine
-}
-
-// Refusals 12, 13, 26, 14 and 15.
-fn judge_sets(search: Search, code: Code, channel: &[u8], output: &[u8]) -> Judgement
-    requires { ⌜ (code .n ≤ deepest)
-        × (informationCount code ≤ longest) ⌝ }
-    ensures { λ j. ⌜ j ≡ judge (setRefusals search code (now (channel .entry)) (now (output .entry))) ⌝ }
-{
-    match channel::judge_channel(code, channel) {
-        Judgement::Fine => judge_search(search, code, output),
-        Judgement::Refused(x) => Judgement::Refused(x),
-    }
 }
 
 // Decodes a channel's values into the packed payload, by the mask and the code of a description.
 fn decode_by(search: Search, mask: &[u8], code: Code, channel: &[u8], output: &mut [u8]) -> Decoded
     requires { ⌜ Coded (now mask) code ⌝ }
-    ensures { λ a. ⌜ (a, now (output .exit)) ≡ setsBy search (now (mask .entry)) code (now (channel .entry)) (now (output .entry)) ⌝ }
+    ensures { λ a. ⌜ (a, now (output .exit))
+        ≡ decodedUnder (sets (search .w) (search .limit)) (search .restart) (now (mask .entry)) code (now (channel .entry)) (now (output .entry)) ⌝ }
 {
-    match judge_sets(search, code, channel, output) {
+    let own = judge_search(search, code);
+    match decoder::judge_call(own, code, channel, output) {
         Judgement::Fine => sets_run::decode_in(search, mask, code, channel, output),
         Judgement::Refused(x) => Decoded::Refused(x),
     }
@@ -87,7 +73,8 @@ fn decode_by(search: Search, mask: &[u8], code: Code, channel: &[u8], output: &m
 
 // Decodes a channel's values into the packed payload, by a description.
 fn decode(search: Search, description: &[u8], channel: &[u8], output: &mut [u8]) -> Decoded
-    ensures { λ a. ⌜ (a, now (output .exit)) ≡ setsWith search (now (description .entry)) (now (channel .entry)) (now (output .entry)) ⌝ }
+    ensures { λ a. ⌜ (a, now (output .exit))
+        ≡ decodedAs (sets (search .w) (search .limit)) (search .restart) (now (description .entry)) (now (channel .entry)) (now (output .entry)) ⌝ }
 {
     match code::read_description(description) {
         Description::Accepted(code) => {

@@ -11,7 +11,7 @@ use lib.IntN.{ℤ}
 use lib.ListN.{length}
 use Rattle.arrays.specs.Claims.{longest}
 use Rattle.bits.specs.Mask.{maskBit}
-use Rattle.sets.specs.Candidate.{Candidate, pastLargest, doubtful, candidate, extensions}
+use Rattle.decoder.specs.Candidate.{Candidate, pastLargest, doubtful, candidate, extensions}
 use Rattle.sets_queue.specs.declared.Stem.{Stem}
 use Rattle.sets_queue.specs.Contracts.{base, keyOf, insertKeys, Pool, SetPre, PoolPre, stemOf, StemFits, keyWith, keysWith, Inserted}
 use Rattle.sets_queue.proofs.Inserting.{insert-none, insert-more}

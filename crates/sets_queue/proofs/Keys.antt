@@ -13,7 +13,7 @@ use Rattle.laws.specs.Insert.{insertBy, earlier}
 use Rattle.laws.proofs.Indices.{lt-cases}
 use Rattle.laws.proofs.Pairs.{take-member}
 use Rattle.laws.proofs.Insert.{insert-member}
-use Rattle.sets.specs.Candidate.{Candidate, before, insertEach}
+use Rattle.decoder.specs.Candidate.{Candidate, before, insertEach}
 use Rattle.sets_queue.specs.Contracts.{base, digits, keyOf, digitAt, indicesOf, Digits, insertKeys}
 
 -- two numbers of a high part and a low part below P

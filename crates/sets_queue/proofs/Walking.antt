@@ -9,7 +9,7 @@ use lib.Dec.{leb, eqb}
 use lib.IntN.{ℤ}
 use Rattle.bits.specs.Mask.{maskBit}
 use Rattle.flip_order.specs.Order.{magnitude}
-use Rattle.sets.specs.Candidate.{doubtful}
+use Rattle.decoder.specs.Candidate.{doubtful}
 use Rattle.sets_queue.specs.Contracts.{doubt}
 
 module _ (mask : List ℕ) (leaves : List ℤ) where

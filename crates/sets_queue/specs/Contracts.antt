@@ -12,7 +12,7 @@ use Rattle.bits.specs.Mask.{maskBit}
 use Rattle.flip_order.specs.Order.{magnitude}
 use Rattle.flip_order.specs.Claims.{Pairwise}
 use Rattle.flip_order.specs.Contracts.{mostMagnitude}
-use Rattle.sets.specs.Candidate.{Candidate, pastLargest, magnitudes}
+use Rattle.decoder.specs.Candidate.{Candidate, pastLargest, magnitudes}
 use Rattle.sets_queue.specs.declared.Stem.{Stem}
 
 -- ---- a set as one number

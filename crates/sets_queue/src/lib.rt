@@ -6,7 +6,7 @@ ghost use Prim.Native.Nat.{_*_, _^_, _≤_, _<_};
 ghost use lib.ListN.{length, take};
 ghost use Rattle.flip_order.specs.Order.{magnitude};
 ghost use Rattle.flip_order.specs.Contracts.{mostMagnitude};
-ghost use Rattle.sets.specs.Candidate.{doubtful, extensions};
+ghost use Rattle.decoder.specs.Candidate.{doubtful, extensions};
 ghost use Rattle.sets_queue.specs.Contracts.{base, keyOf, digitAt, indicesOf, Place, Shifted, PoolPre, Inserted};
 ghost use Rattle.sets_queue.specs.Contracts.{indexed, WalkPre, SetPre, stemOf, stemWith, StemFits, doubt, keyWith, keysWith};
 

@@ -19,9 +19,10 @@ use Rattle.flip_trial.specs.Contracts.{FirstLeaves}
 use Rattle.flip_run.specs.Trials.{failed}
 use Rattle.flip_run.proofs.LoopInvariant.{run-none}
 use Rattle.flip_run.proofs.LoopStep.{values-inside}
-use Rattle.sets.specs.declared.Search.{Search}
-use Rattle.sets.specs.Candidate.{Candidate, extensions, insertEach}
-use Rattle.sets.specs.Tried.{generated, tried, flipSets}
+use Rattle.decoder.specs.declared.Search.{Search}
+use Rattle.decoder.specs.Candidate.{Candidate, extensions, insertEach}
+use Rattle.decoder.specs.Tried.{tried}
+use Rattle.decoder.specs.Contracts.{generatedBy, triedBy}
 use Rattle.sets_tried.proofs.Members.{generated-flips}
 use Rattle.sets_tried.proofs.Same.{same-extensions}
 use Rattle.sets_queue.specs.Contracts.{keyOf, insertKeys, Pool, WalkPre, SetPre, Inserted}
@@ -31,11 +32,11 @@ use Rattle.sets_run.proofs.Leaves.{leaf-first, first-small}
 use Rattle.sets_run.proofs.Searching.{runOf, good-digits}
 
 -- no later trial is allowed
-pub none-allowed : (s : Search) (mask : List ℕ) (c : Code) (v : List ℤ) (start : ℕ) → s .limit ≡ 1 → runOf s mask c v 1 start (flipSets s mask c v) ≡ failed 1 start
+pub none-allowed : (s : Search) (mask : List ℕ) (c : Code) (v : List ℤ) (start : ℕ) → s .limit ≡ 1 → runOf s mask c v 1 start (triedBy s mask c v) ≡ failed 1 start
 unfolding tried
 none-allowed s mask c v start e =
     let z : s .limit - 1 ≡ 0 = omega arith in
-    ap (λ (m : ℕ). runOf s mask c v 1 start (tried (generated s mask c v) m (insertEach m (generated s mask c v []) []))) z ∙ run-none (trialPasses mask c) 1 start
+    ap (λ (m : ℕ). runOf s mask c v 1 start (tried (generatedBy s mask c v) m (insertEach m (generatedBy s mask c v []) []))) z ∙ run-none (trialPasses mask c) 1 start
 
 -- an empty set
 pub set-none : (n : ℕ) (leaves : List ℤ) → SetPre n leaves []
@@ -52,7 +53,7 @@ module _ {s : Search} {mask : List ℕ} {c : Code} {channel : List ℕ} {values 
     small = record { at = λ j l. first-small kept j (omega (arith, on .frame .coded .mask-size)) (on .frame .coded) (values-inside channel (on .frame .in-range)) };
   }
 
-  first-generated : extensions mask values [] (8 * length mask) ≡ generated s mask c v []
+  first-generated : extensions mask values [] (8 * length mask) ≡ generatedBy s mask c v []
   first-generated =
       ap (extensions mask values []) (on .frame .coded .mask-size)
       ∙ same-extensions mask (codeLength c) values (firstTrial mask c v .leaves) (λ j m e. ap natAbs (leaf-first kept j m)) [] (inl refl) (codeLength c) (omega arith)
@@ -67,7 +68,7 @@ module _ {s : Search} {mask : List ℕ} {c : Code} {channel : List ℕ} {values 
         holds =
             subst (Pool keys′ 0 count)
             (ap₂ (λ (k : ℕ) (new : List Candidate). insertKeys k (map keyOf new) []) m first-generated
-            ∙ sym (keys-insert-each (s .limit - 1) (generated s mask c v []) []
+            ∙ sym (keys-insert-each (s .limit - 1) (generatedBy s mask c v []) []
             (λ x q. good-digits (on .frame .coded) (on .flips-most) (generated-flips s mask c v [] (inl refl) q)) (λ x q. absurd (List·Memᴰ·not-nil q))))
             (p .holds [] empty);
       }

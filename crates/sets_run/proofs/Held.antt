@@ -22,14 +22,14 @@ use Rattle.pass_tree.proofs.Node.{length-leaves}
 use Rattle.pass_tree.proofs.Leaves.{within-leaves}
 use Rattle.pass_ends.specs.Contracts.{Arrays}
 use Rattle.flip_trial.specs.Trial.{firstTrial, flipRule, lowest, forcedPrefix, laterTrial}
-use Rattle.flip_trial.specs.Claims.{Flips}
+use Rattle.flip_trial.specs.Flips.{Flips}
 use Rattle.flip_trial.specs.Contracts.{FirstLeaves, TrialPost}
 use Rattle.flip_trial.proofs.Agree.{length-prefix}
 use Rattle.flip_trial.proofs.Restartable.{restartable}
 use Rattle.flip_run.proofs.LoopStep.{values-inside}
-use Rattle.sets.specs.declared.Search.{Search}
-use Rattle.sets.specs.Candidate.{Candidate}
-use Rattle.sets.specs.Tried.{leavesOf, generated}
+use Rattle.decoder.specs.declared.Search.{Search}
+use Rattle.decoder.specs.Candidate.{Candidate}
+use Rattle.decoder.specs.Contracts.{leavesOf, generatedBy}
 use Rattle.sets_tried.proofs.Same.{same-extensions, kept-leaf, length-first}
 use Rattle.sets_run.specs.Contracts.{resumedAt, leavesFrom, generatedFrom, HeldLeaves, LeavesPre, SetsPre}
 use Rattle.sets_run.proofs.Leaves.{loudest, leaf-first, first-small, leaf-before, leaf-after}
@@ -99,7 +99,7 @@ module _ {s : Search} {mask : List ℕ} {c : Code} {channel is : List ℕ} {valu
     };
   }
 
-  held-generated : generatedFrom s (codeLength c) q mask values (a .leaves) is ≡ generated s mask c (channelValues channel) is
+  held-generated : generatedFrom s (codeLength c) q mask values (a .leaves) is ≡ generatedBy s mask c (channelValues channel) is
   held-generated =
       ap (λ (xs : List Candidate). cond (ltb (length is) (s .w)) xs [])
       (same-extensions mask (codeLength c) (leavesFrom q values (a .leaves)) (leavesOf (s .restart) mask c v is)
@@ -121,7 +121,7 @@ module _ {s : Search} {mask : List ℕ} {c : Code} {channel is : List ℕ} {valu
         (subst (λ (k : ℕ). HeldLeaves (codeLength c) k values (a .leaves)) (sym q-is) (held-leaves on flips (more l) post));
   }
 
-  pub generated-is : generatedFrom s size q′ mask values (a .leaves) is ≡ generated s mask c (channelValues channel) is
+  pub generated-is : generatedFrom s size q′ mask values (a .leaves) is ≡ generatedBy s mask c (channelValues channel) is
   generated-is =
       let none : List Candidate → Bool → List Candidate = λ xs t. cond t xs [] in
       lt-cases (length is) (s .w) (λ l. ap₂ (λ (m k : ℕ). generatedFrom s m k mask values (a .leaves) is) size-is q-is ∙ held-generated on flips (more l) post)

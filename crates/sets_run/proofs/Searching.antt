@@ -18,9 +18,10 @@ use Rattle.pass_tree.specs.Node.{Out}
 use Rattle.flip_trial.specs.Trial.{laterTrial, trialPasses}
 use Rattle.flip_run.specs.Trials.{Verdict, passed, failed, run}
 use Rattle.flip_run.proofs.LoopInvariant.{run-passes, run-fails, run-none}
-use Rattle.sets.specs.declared.Search.{Search}
-use Rattle.sets.specs.Candidate.{Candidate, insertEach}
-use Rattle.sets.specs.Tried.{generated, tried, flipSets}
+use Rattle.decoder.specs.declared.Search.{Search}
+use Rattle.decoder.specs.Candidate.{Candidate, insertEach}
+use Rattle.decoder.specs.Tried.{tried}
+use Rattle.decoder.specs.Contracts.{generatedBy, triedBy}
 use Rattle.sets_tried.specs.Claims.{FlipSet}
 use Rattle.sets_tried.proofs.Members.{insert-each-keeps, generated-flips, first-flips}
 use Rattle.sets_queue.specs.Contracts.{base, keyOf, digitAt, indicesOf, Digits, Pool, PoolPre, Inserted}
@@ -48,7 +49,7 @@ module _ (s : Search) (mask : List ℕ) (c : Code) (v : List ℤ) where
 
   -- `at` sets are tried, and took so many steps with trial 1; the keys of the untried ones stand from there to `end`
   pub record Searching (start at end steps : ℕ) (keys : List ℕ) (untried : List Candidate) : Type 0 where
-    pub rest : runOf 1 start (flipSets s mask c v) ≡ runOf (at + 1) steps (tried (generated s mask c v) (s .limit - 1 - at) untried)
+    pub rest : runOf 1 start (triedBy s mask c v) ≡ runOf (at + 1) steps (tried (generatedBy s mask c v) (s .limit - 1 - at) untried)
     pub few : steps ≤ mostSteps * (at + 1)
     pub each : (x : Candidate) → List·Memᴰ x untried → Good x
     pub holds : Pool keys at end (map keyOf untried)
@@ -56,13 +57,13 @@ module _ (s : Search) (mask : List ℕ) (c : Code) (v : List ℤ) where
 
 -- no set is tried yet
 pub search-starts : {s : Search} {mask : List ℕ} {c : Code} {channel : List ℕ} {start count : ℕ} {keys : List ℕ} → start ≤ mostSteps → FirstPool s mask c channel count keys
-    → Searching s mask c (channelValues channel) start 0 count start keys (insertEach (s .limit - 1) (generated s mask c (channelValues channel) []) [])
+    → Searching s mask c (channelValues channel) start 0 count start keys (insertEach (s .limit - 1) (generatedBy s mask c (channelValues channel) []) [])
 search-starts {s} {mask} {c} {channel} {start} few p =
     let v : List ℤ = channelValues channel in
     let m : ℕ = s .limit - 1 in
     let e : m ≡ m - 0 = omega arith in
     record {
-      rest = ap (λ (k : ℕ). runOf s mask c v 1 start (tried (generated s mask c v) k (insertEach m (generated s mask c v []) []))) e;
+      rest = ap (λ (k : ℕ). runOf s mask c v 1 start (tried (generatedBy s mask c v) k (insertEach m (generatedBy s mask c v []) []))) e;
       few = omega arith;
       each = first-flips s mask c v m;
       holds = p .holds;
@@ -75,8 +76,8 @@ good-digits coded most f = record { few = omega (arith, f .most); below = λ a l
 
 module _ {s : Search} {mask : List ℕ} {c : Code} {v : List ℤ} {start at end steps : ℕ} {keys : List ℕ} where
   -- no set is left
-  pub search-ends : {untried : List Candidate} → Searching s mask c v start at end steps keys untried → end ≤ at → runOf s mask c v 1 start (flipSets s mask c v) ≡ failed (at + 1) steps
-  search-ends {untried = []} g l = g .rest ∙ ap (runOf s mask c v (at + 1) steps) (tried-none (generated s mask c v) (s .limit - 1 - at)) ∙ run-none (trialPasses mask c) (at + 1) steps
+  pub search-ends : {untried : List Candidate} → Searching s mask c v start at end steps keys untried → end ≤ at → runOf s mask c v 1 start (triedBy s mask c v) ≡ failed (at + 1) steps
+  search-ends {untried = []} g l = g .rest ∙ ap (runOf s mask c v (at + 1) steps) (tried-none (generatedBy s mask c v) (s .limit - 1 - at)) ∙ run-none (trialPasses mask c) (at + 1) steps
   search-ends {untried = x ∷ xs} g l = absurd (omega (arith, g .holds .ends))
 
   -- there is a next one
@@ -110,7 +111,7 @@ module _ {s : Search} {mask : List ℕ} {c : Code} {v : List ℤ} {channel : Lis
     later = laterTrial (s .restart) mask c v is
 
     abbrev new : List Candidate
-    new = generated s mask c v is
+    new = generatedBy s mask c v is
 
     abbrev m : ℕ
     m = s .limit - 1 - (at + 1)
@@ -118,31 +119,31 @@ module _ {s : Search} {mask : List ℕ} {c : Code} {v : List ℤ} {channel : Lis
     pub next-flips : FlipSet mask (codeLength c) (s .w) is
     next-flips = subst (FlipSet mask (codeLength c) (s .w)) (sym same) this
 
-    next-rest : runOf s mask c v 1 start (flipSets s mask c v) ≡ runOf s mask c v (at + 1) steps (is ∷ tried (generated s mask c v) m (insertEach m new xs))
+    next-rest : runOf s mask c v 1 start (triedBy s mask c v) ≡ runOf s mask c v (at + 1) steps (is ∷ tried (generatedBy s mask c v) m (insertEach m new xs))
     next-rest =
         let more : s .limit - 1 - at ≡ suc m = omega (arith, next-places) in
         g .rest
         ∙ ap (runOf s mask c v (at + 1) steps)
-        (ap (λ (k : ℕ). tried (generated s mask c v) k (x ∷ xs)) more ∙ tried-more (generated s mask c v) m x xs
-        ∙ ap (λ (js : List ℕ). js ∷ tried (generated s mask c v) m (insertEach m (generated s mask c v js) xs)) (sym same))
+        (ap (λ (k : ℕ). tried (generatedBy s mask c v) k (x ∷ xs)) more ∙ tried-more (generatedBy s mask c v) m x xs
+        ∙ ap (λ (js : List ℕ). js ∷ tried (generatedBy s mask c v) m (insertEach m (generatedBy s mask c v js) xs)) (sym same))
 
     -- its trial passes, in t steps
     module _ {t : ℕ} (took : t ≡ laterTrial (s .restart) mask c v is .work .steps) where
-      pub search-passes : trialPasses mask c (laterTrial (s .restart) mask c v is .bits) ≡ true → runOf s mask c v 1 start (flipSets s mask c v) ≡ passed (at + 1 + 1) (steps + t) (laterTrial (s .restart) mask c v is .bits)
+      pub search-passes : trialPasses mask c (laterTrial (s .restart) mask c v is .bits) ≡ true → runOf s mask c v 1 start (triedBy s mask c v) ≡ passed (at + 1 + 1) (steps + t) (laterTrial (s .restart) mask c v is .bits)
       search-passes e =
           next-rest ∙ run-passes (trialPasses mask c) (at + 1) steps later _ e
           ∙ ap (λ (k : ℕ). passed (at + 1 + 1) (steps + k) (later .bits)) (sym took)
 
       -- it fails, and what it generates is inserted
-      pub search-goes-on : trialPasses mask c (laterTrial (s .restart) mask c v is .bits) ≡ false → t ≤ mostSteps → {r : ℕ} {keys′ : List ℕ} → Inserted (at + 1) end (s .limit - 1) r (map keyOf (generated s mask c v is)) keys keys′
-          → Searching s mask c v start (at + 1) r (steps + t) keys′ (insertEach (s .limit - 1 - (at + 1)) (generated s mask c v is) xs)
+      pub search-goes-on : trialPasses mask c (laterTrial (s .restart) mask c v is .bits) ≡ false → t ≤ mostSteps → {r : ℕ} {keys′ : List ℕ} → Inserted (at + 1) end (s .limit - 1) r (map keyOf (generatedBy s mask c v is)) keys keys′
+          → Searching s mask c v start (at + 1) r (steps + t) keys′ (insertEach (s .limit - 1 - (at + 1)) (generatedBy s mask c v is) xs)
       search-goes-on e l {r} {keys′} p =
           let good : (y : Candidate) → List·Memᴰ y new → Good s mask c v y = λ y. generated-flips s mask c v is (inr next-flips) in
           let left : (y : Candidate) → List·Memᴰ y xs → Good s mask c v y = λ y q. g .each y (List·Memᴰ·tail q) in
           record {
             rest =
                 next-rest ∙ run-fails (trialPasses mask c) (at + 1) steps later _ e
-                ∙ ap (λ (k : ℕ). runOf s mask c v (at + 1 + 1) (steps + k) (tried (generated s mask c v) m (insertEach m new xs))) (sym took);
+                ∙ ap (λ (k : ℕ). runOf s mask c v (at + 1 + 1) (steps + k) (tried (generatedBy s mask c v) m (insertEach m new xs))) (sym took);
             few = omega (arith, g .few);
             each = insert-each-keeps (Good s mask c v) m new xs good left;
             holds =

@@ -1,4 +1,5 @@
 -- What only contracts below the public operations cite. Nothing here need be believed.
+use mathlib.Core.Path.{_≡_}
 use mathlib.Core.Bool.{cond}
 use mathlib.Core.List.{List, [], map}
 use Prim.Native.Nat.{ℕ, _-_, _≤_, _<_}
@@ -6,20 +7,19 @@ use lib.Dec.{ltb}
 use lib.IntN.{ℤ}
 use lib.ListN.{length, take}
 use Rattle.laws.specs.Contracts.{splice}
+use Rattle.bits.specs.Packing.{bytesFor}
 use Rattle.code.specs.declared.Code.{Code}
 use Rattle.code.specs.Code.{codeLength}
-use Rattle.code.specs.Claims.{Coded}
 use Rattle.channel.specs.Channel.{channelValues}
 use Rattle.flip_trial.specs.Trial.{lowest, restartAt, trialPasses}
 use Rattle.flip_trial.specs.Contracts.{FirstLeaves}
 use Rattle.flip_run.specs.declared.Decoded.{Decoded}
 use Rattle.flip_run.specs.Trials.{Verdict, run, answerOf}
 use Rattle.flip_run.specs.Contracts.{FramePre}
-use Rattle.sets.specs.declared.Search.{Search}
-use Rattle.sets.specs.Candidate.{Candidate, extensions, insertEach}
-use Rattle.sets.specs.Tried.{generated, setTrials}
-use Rattle.sets.specs.DecodeSets.{mostLimit}
-use Rattle.sets.specs.WellFormed.{WellFormed}
+use Rattle.decoder.specs.declared.Search.{Search}
+use Rattle.decoder.specs.Candidate.{Candidate, extensions, insertEach}
+use Rattle.decoder.specs.Decoder.{mostLimit}
+use Rattle.decoder.specs.Contracts.{generatedBy, setTrials}
 use Rattle.sets_queue.specs.Contracts.{keyOf, Small, Pool, PoolPre}
 
 -- where the trial of a set resumes
@@ -58,8 +58,8 @@ pub record SetsPre (s : Search) (mask : List ℕ) (c : Code) (channel : List ℕ
 
 -- what holds past all refusals before 16
 pub record SearchPre (s : Search) (mask : List ℕ) (c : Code) (channel output : List ℕ) : Type 0 where
-  pub coded : Coded mask c
-  pub well-formed : WellFormed c channel (s .w) (s .limit) output
+  pub sets : SetsPre s mask c channel
+  pub output-size : length output ≡ bytesFor (c .k)
 
 -- trial 1's leaf values, if sets have more than one index
 abbrev pub LeavesIfRead : ℕ → Search → List ℕ → Code → List ℕ → List ℤ → Type 0
@@ -68,7 +68,7 @@ LeavesIfRead room s mask c channel values = 1 < s .w → FirstLeaves room mask c
 -- the sets that trial 1 generated are in their places
 pub record FirstPool (s : Search) (mask : List ℕ) (c : Code) (channel : List ℕ) (count : ℕ) (keys : List ℕ) : Type 0 where
   pub places : PoolPre 0 count (s .limit - 1) keys
-  pub holds : Pool keys 0 count (map keyOf (insertEach (s .limit - 1) (generated s mask c (channelValues channel) []) []))
+  pub holds : Pool keys 0 count (map keyOf (insertEach (s .limit - 1) (generatedBy s mask c (channelValues channel) []) []))
 
 -- how the run of a search ends
 abbrev pub verdictBy : Search → List ℕ → Code → List ℕ → Verdict
@@ -76,5 +76,4 @@ verdictBy s mask c channel = run (trialPasses mask c) 0 0 (setTrials s mask c (c
 
 -- the answer past all refusals before 16, and the output's final bytes
 abbrev pub answerBy : Search → List ℕ → Code → List ℕ → List ℕ → Decoded × List ℕ
-answerBy s mask c channel output =
-    answerOf mask c output (verdictBy s mask c channel)
+answerBy s mask c channel output = answerOf mask c output (verdictBy s mask c channel)

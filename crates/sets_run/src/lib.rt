@@ -6,7 +6,7 @@ use arrays::ValueArray;
 use code::Code;
 use flip_run::Decoded;
 use flip_run::Ended;
-use sets::Search;
+use decoder::Search;
 use sets_queue::FLIPS;
 ghost use mathlib.Core.Path.{_≡_};
 ghost use mathlib.Core.List.{map};
@@ -14,8 +14,8 @@ ghost use Prim.Native.Nat.{_-_, _*_, _≤_, _<_};
 ghost use lib.ListN.{length, take};
 ghost use Rattle.laws.specs.Contracts.{splice};
 ghost use Rattle.pass_ends.specs.Contracts.{arrays, Whole};
-ghost use Rattle.flip_trial.specs.Claims.{Flips};
-ghost use Rattle.flip_run.specs.Contracts.{LaterTrialsPre, FirstFailed, Ran};
+ghost use Rattle.flip_trial.specs.Flips.{Flips};
+ghost use Rattle.flip_run.specs.Contracts.{LaterTrialsPre, FirstFailed, RunPost};
 ghost use Rattle.sets_queue.specs.Contracts.{keyOf, Small, PoolPre, Inserted};
 ghost use Rattle.sets_run.specs.Contracts.{LeavesPre, generatedFrom, SetsPre, SearchPre, LeavesIfRead, FirstPool, verdictBy, answerBy};
 
@@ -98,8 +98,8 @@ fn set_trials(
           × FirstPool search (now mask) code (now channel) (started .sets) (now keys)
           × Whole (← ⟦SIZE⟧) (arrays (now work) (now first) (now sums) (now leaves)) ⌝ }
     ensures { λ e. do
-      ⌜ Ran (now (mask .entry)) code (verdictBy search (now (mask .entry)) code (now (channel .entry))) e (now (sums .exit))
-          × (length (now (sums .exit)) ≡ (← ⟦SIZE⟧ .entry)) ⌝ }
+      ⌜ RunPost (← ⟦SIZE⟧ .entry) (now (mask .entry)) code (verdictBy search (now (mask .entry)) code (now (channel .entry))) e
+          (now (sums .exit)) ⌝ }
 {
     let restart = search.restart;
     let mut bits = [0u8; SIZE];
@@ -152,8 +152,8 @@ fn single_trials(
           × FirstFailed (← ⟦SIZE⟧) (now mask) code (now channel) start (now rules) (arrays (now work) (now first) (now sums) (now values))
           × (search .w ≡ 1) ⌝ }
     ensures { λ e. do
-      ⌜ Ran (now (mask .entry)) code (verdictBy search (now (mask .entry)) code (now (channel .entry))) e (now (sums .exit))
-          × (length (now (sums .exit)) ≡ (← ⟦SIZE⟧ .entry)) ⌝ }
+      ⌜ RunPost (← ⟦SIZE⟧ .entry) (now (mask .entry)) code (verdictBy search (now (mask .entry)) code (now (channel .entry))) e
+          (now (sums .exit)) ⌝ }
 {
     let mut keys = [0u64; SIZE];
     let none = [0usize; FLIPS];
@@ -195,8 +195,8 @@ fn larger_trials(
           × FirstFailed (← ⟦SIZE⟧) (now mask) code (now channel) start (now rules) (arrays (now work) (now first) (now sums) (now values))
           × (1 < search .w) ⌝ }
     ensures { λ e. do
-      ⌜ Ran (now (mask .entry)) code (verdictBy search (now (mask .entry)) code (now (channel .entry))) e (now (sums .exit))
-          × (length (now (sums .exit)) ≡ (← ⟦SIZE⟧ .entry)) ⌝ }
+      ⌜ RunPost (← ⟦SIZE⟧ .entry) (now (mask .entry)) code (verdictBy search (now (mask .entry)) code (now (channel .entry))) e
+          (now (sums .exit)) ⌝ }
 {
     let mut leaves = [0i32; SIZE];
     let mut keys = [0u64; KEYS];
@@ -237,8 +237,8 @@ fn run_trials(
           × (length (now rules) ≡ (← ⟦SIZE⟧))
           × Whole (← ⟦SIZE⟧) (arrays (now work) (now first) (now sums) (now values)) ⌝ }
     ensures { λ e. do
-      ⌜ Ran (now (mask .entry)) code (verdictBy search (now (mask .entry)) code (now (channel .entry))) e (now (sums .exit))
-          × (length (now (sums .exit)) ≡ (← ⟦SIZE⟧ .entry)) ⌝ }
+      ⌜ RunPost (← ⟦SIZE⟧ .entry) (now (mask .entry)) code (verdictBy search (now (mask .entry)) code (now (channel .entry))) e
+          (now (sums .exit)) ⌝ }
 {
     match flip_run::begin(mask, code, channel, first, values, rules, work, sums) {
         Ended::Passed { trial, steps } => Ended::Passed { trial, steps },

@@ -16,9 +16,9 @@ use Rattle.laws.proofs.Insert.{member-insert}
 use Rattle.bits.specs.Mask.{maskBit}
 use Rattle.code.specs.declared.Code.{Code}
 use Rattle.code.specs.Code.{codeLength}
-use Rattle.sets.specs.declared.Search.{Search}
-use Rattle.sets.specs.Candidate.{pastLargest, Candidate, candidate, extensions, before}
-use Rattle.sets.specs.Tried.{leavesOf, generated, flipSets}
+use Rattle.decoder.specs.declared.Search.{Search}
+use Rattle.decoder.specs.Candidate.{pastLargest, Candidate, candidate, extensions, before}
+use Rattle.decoder.specs.Contracts.{leavesOf, generatedBy, triedBy}
 use Rattle.sets_tried.specs.Claims.{FlipSet, insertAll, triedOfAll}
 use Rattle.sets_tried.proofs.Members.{past-last}
 use Rattle.sets_tried.proofs.Kept.{kept-loses-nothing}
@@ -76,18 +76,18 @@ member-extension mask leaves is (suc n) j l one past =
     (List·Memᴰ·head (ap (λ (k : ℕ). candidate mask leaves (is ++ (k ∷ []))) (sym e)))))
 
 module _ (s : Search) (mask : List ℕ) (c : Code) (v : List ℤ) where
-  member-generated : (is : List ℕ) (j : ℕ) → length is < s .w → j < codeLength c → maskBit mask j ≡ 1 → pastLargest is ≤ j → List·Memᴰ (candidate mask (leavesOf (s .restart) mask c v is) (is ++ (j ∷ []))) (generated s mask c v is)
+  member-generated : (is : List ℕ) (j : ℕ) → length is < s .w → j < codeLength c → maskBit mask j ≡ 1 → pastLargest is ≤ j → List·Memᴰ (candidate mask (leavesOf (s .restart) mask c v is) (is ++ (j ∷ []))) (generatedBy s mask c v is)
   member-generated is j short l one past =
       let leaves : List ℤ = leavesOf (s .restart) mask c v is in
       subst (λ (t : Bool). List·Memᴰ (candidate mask leaves (is ++ (j ∷ []))) (cond t (extensions mask leaves is (codeLength c)) [])) (sym (lt-ltb _ _ short))
       (member-extension mask leaves is (codeLength c) j l one past)
 
-  module _ (few : length (flipSets s mask c v) < s .limit - 1) (is : List ℕ) (p : FlipSet mask (codeLength c) (s .w) is) where
+  module _ (few : length (triedBy s mask c v) < s .limit - 1) (is : List ℕ) (p : FlipSet mask (codeLength c) (s .w) is) where
     abbrev first : List Candidate
-    first = insertAll (generated s mask c v []) []
+    first = insertAll (generatedBy s mask c v []) []
 
     abbrev sets : List (List ℕ)
-    sets = triedOfAll (generated s mask c v) (s .limit - 1) first
+    sets = triedOfAll (generatedBy s mask c v) (s .limit - 1) first
 
     left : length sets < s .limit - 1
     left = omega (arith, ap length (kept-loses-nothing s mask c v))
@@ -96,20 +96,20 @@ module _ (s : Search) (mask : List ℕ) (c : Code) (v : List ℤ) where
     prefix-tried : (k : ℕ) → k < length is → List·Memᴰ (take (suc k) is) sets
     prefix-tried zero l =
         Memᴰ·cast (take-suc is 0 0 l)
-        (untried-tried (generated s mask c v) (s .limit - 1) first left
-        (all-here (generated s mask c v []) [] (member-generated [] (getD is 0 0) (omega (arith, p .most)) (p .flips .below 0 l) (p .flips .information 0 l) (omega arith))))
+        (untried-tried (generatedBy s mask c v) (s .limit - 1) first left
+        (all-here (generatedBy s mask c v []) [] (member-generated [] (getD is 0 0) (omega (arith, p .most)) (p .flips .below 0 l) (p .flips .information 0 l) (omega arith))))
     prefix-tried (suc k) l =
         let js : List ℕ = take (suc k) is in
         let long : length js ≡ suc k = length-take-le (suc k) is (omega arith) in
         let past : pastLargest js ≡ suc (getD is k 0) = past-last js k (sym long) ∙ ap suc (getD-take (suc k) is k 0 (omega arith)) in
         Memᴰ·cast (take-suc is (suc k) 0 l)
-        (generated-tried (generated s mask c v) (s .limit - 1) first left js (prefix-tried k (omega arith))
+        (generated-tried (generatedBy s mask c v) (s .limit - 1) first left js (prefix-tried k (omega arith))
         (member-generated js (getD is (suc k) 0) (omega (arith, p .most)) (p .flips .below (suc k) l) (p .flips .information (suc k) l)
         (omega (arith, past, p .flips .ascending k (suc k) (omega arith) l))))
 
     -- "Where no untried set is left, that ends the trials made": if fewer sets are tried than the limit allows, every set that can be
     -- flipped has been tried
-    pub all-tried : List·Memᴰ is (flipSets s mask c v)
+    pub all-tried : List·Memᴰ is (triedBy s mask c v)
     all-tried =
         let last : ℕ = length is - 1 in
         subst (List·Memᴰ is) (sym (kept-loses-nothing s mask c v))

@@ -11,10 +11,10 @@ use Rattle.laws.specs.Insert.{insertBy}
 use Rattle.laws.proofs.Insert.{take-insert}
 use Rattle.code.specs.declared.Code.{Code}
 use Rattle.flip_trial.specs.declared.Restart.{Restart}
-use Rattle.sets.specs.declared.Search.{Search}
-use Rattle.sets.specs.Candidate.{Candidate, before, insertEach}
-use Rattle.sets.specs.Tried.{generated, tried, flipSets}
-use Rattle.sets.specs.DecodeSets.{searchOf}
+use Rattle.decoder.specs.declared.Search.{Search}
+use Rattle.decoder.specs.Candidate.{Candidate, before, insertEach}
+use Rattle.decoder.specs.Tried.{tried}
+use Rattle.decoder.specs.Contracts.{searchOf, generatedBy, triedBy}
 use Rattle.sets_tried.specs.Claims.{insertAll, triedOfAll}
 
 -- ---- keeping the first m
@@ -57,27 +57,27 @@ module _ (generate : List ℕ → List Candidate) where
 
 -- ---- the sets of a search
 
-pub kept-loses-nothing : (s : Search) (mask : List ℕ) (c : Code) (v : List ℤ) → flipSets s mask c v ≡ triedOfAll (generated s mask c v) (s .limit - 1) (insertAll (generated s mask c v []) [])
+pub kept-loses-nothing : (s : Search) (mask : List ℕ) (c : Code) (v : List ℤ) → triedBy s mask c v ≡ triedOfAll (generatedBy s mask c v) (s .limit - 1) (insertAll (generatedBy s mask c v []) [])
 kept-loses-nothing s mask c v =
     let m : ℕ = s .limit - 1 in
-    let first : List Candidate = generated s mask c v [] in
-    ap (tried (generated s mask c v) m) (ap (insertEach m first) (sym (take-nil m)) ∙ insert-each-take m first [])
-    ∙ tried-take (generated s mask c v) m (insertAll first [])
+    let first : List Candidate = generatedBy s mask c v [] in
+    ap (tried (generatedBy s mask c v) m) (ap (insertEach m first) (sym (take-nil m)) ∙ insert-each-take m first [])
+    ∙ tried-take (generatedBy s mask c v) m (insertAll first [])
 
 -- at most one set for each trial after the first
-pub length-sets : (s : Search) (mask : List ℕ) (c : Code) (v : List ℤ) → length (flipSets s mask c v) ≤ s .limit - 1
+pub length-sets : (s : Search) (mask : List ℕ) (c : Code) (v : List ℤ) → length (triedBy s mask c v) ≤ s .limit - 1
 length-sets s mask c v =
-    omega (arith, ap length (kept-loses-nothing s mask c v), length-tried (generated s mask c v) (s .limit - 1) (insertAll (generated s mask c v []) []))
+    omega (arith, ap length (kept-loses-nothing s mask c v), length-tried (generatedBy s mask c v) (s .limit - 1) (insertAll (generatedBy s mask c v []) []))
 
 module _ (restart : Restart) (w limit limit′ : ℕ) (mask : List ℕ) (c : Code) (v : List ℤ) (l : limit ≤ limit′) where
   abbrev generate : List ℕ → List Candidate
-  generate = generated (searchOf restart w limit) mask c v
+  generate = generatedBy (searchOf restart w limit) mask c v
 
   abbrev first : List Candidate
   first = insertAll (generate []) []
 
   -- a larger limit tries the same sets first
-  pub take-sets : flipSets (searchOf restart w limit) mask c v ≡ take (limit - 1) (flipSets (searchOf restart w limit′) mask c v)
+  pub take-sets : triedBy (searchOf restart w limit) mask c v ≡ take (limit - 1) (triedBy (searchOf restart w limit′) mask c v)
   take-sets =
       kept-loses-nothing (searchOf restart w limit) mask c v ∙ take-tried generate (limit - 1) (limit′ - 1) first (omega arith)
       ∙ ap (take (limit - 1)) (sym (kept-loses-nothing (searchOf restart w limit′) mask c v))

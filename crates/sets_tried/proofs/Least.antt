@@ -13,9 +13,9 @@ use Rattle.laws.proofs.Pairs.{Pairs, none, pairs-head, pairs-tail}
 use Rattle.laws.proofs.Insert.{insert-member, insert-pairs}
 use Rattle.laws.proofs.Earlier.{first-by-trans, not-first, first-by-either, earlier-trans, not-earlier, neither-earlier}
 use Rattle.code.specs.declared.Code.{Code}
-use Rattle.sets.specs.declared.Search.{Search}
-use Rattle.sets.specs.Candidate.{Candidate, before}
-use Rattle.sets.specs.Tried.{generated, flipSets}
+use Rattle.decoder.specs.declared.Search.{Search}
+use Rattle.decoder.specs.Candidate.{Candidate, before}
+use Rattle.decoder.specs.Contracts.{generatedBy, triedBy}
 use Rattle.sets_tried.specs.Claims.{insertAll, triedOfAll, untriedAfter, OwnMetric, LeastFirst}
 use Rattle.sets_tried.proofs.Members.{generated-metric}
 use Rattle.sets_tried.proofs.Kept.{insert-each-all, kept-loses-nothing}
@@ -100,9 +100,9 @@ module _ (generate : List ℕ → List Candidate) (extends : (is : List ℕ) (x 
   untried-apart (suc t) done (x ∷ untried) p = untried-apart t (x .flips ∷ done) (insertAll (generate (x .flips)) untried) (search-all p)
 
 -- "Order is metric, then the list of indices, lower first": each set that is tried comes before those that are untried then
-pub least-first : (s : Search) (mask : List ℕ) (c : Code) (v : List ℤ) (t : ℕ) → t < length (flipSets s mask c v) → LeastFirst s mask c v t
+pub least-first : (s : Search) (mask : List ℕ) (c : Code) (v : List ℤ) (t : ℕ) → t < length (triedBy s mask c v) → LeastFirst s mask c v t
 least-first s mask c v t l =
-    let generate : List ℕ → List Candidate = generated s mask c v in
+    let generate : List ℕ → List Candidate = generatedBy s mask c v in
     let first : List Candidate = insertAll (generate []) [] in
     let kept = kept-loses-nothing s mask c v in
     let order : InOrder (untriedAfter generate t first) = untried-order generate t first (insert-all-order (generate []) [] none) in

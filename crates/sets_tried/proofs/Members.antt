@@ -17,11 +17,11 @@ use Rattle.bits.specs.Mask.{maskBit}
 use Rattle.code.specs.declared.Code.{Code}
 use Rattle.code.specs.Code.{codeLength}
 use Rattle.flip_order.proofs.Pairwise.{place-of, pairwise-snoc}
-use Rattle.flip_trial.specs.Claims.{Flips}
+use Rattle.flip_trial.specs.Flips.{Flips}
 use Rattle.flip_trial.proofs.Flips.{flips-one}
-use Rattle.sets.specs.declared.Search.{Search}
-use Rattle.sets.specs.Candidate.{pastLargest, metricOf, Candidate, candidate, extensions, before, insertEach}
-use Rattle.sets.specs.Tried.{leavesOf, generated}
+use Rattle.decoder.specs.declared.Search.{Search}
+use Rattle.decoder.specs.Candidate.{pastLargest, metricOf, Candidate, candidate, extensions, before, insertEach}
+use Rattle.decoder.specs.Contracts.{leavesOf, generatedBy}
 use Rattle.sets_tried.specs.Claims.{FlipSet, Extends, OwnMetric}
 
 -- ---- untried sets
@@ -104,7 +104,7 @@ flips-more {mask} {size} is j (inr p) past l one = record {
 
 module _ (s : Search) (mask : List ℕ) (c : Code) (v : List ℤ) (is : List ℕ) where
   -- only a set of fewer than w indices is extended
-  pub generated-member : {x : Candidate} → List·Memᴰ x (generated s mask c v is) → (length is < s .w) × Extends mask (leavesOf (s .restart) mask c v is) is (codeLength c) x
+  pub generated-member : {x : Candidate} → List·Memᴰ x (generatedBy s mask c v is) → (length is < s .w) × Extends mask (leavesOf (s .restart) mask c v is) is (codeLength c) x
   generated-member {x} p = go (ltb (length is) (s .w)) refl p
     where
       leaves : List ℤ
@@ -115,7 +115,7 @@ module _ (s : Search) (mask : List ℕ) (c : Code) (v : List ℤ) (is : List ℕ
       go false e q = absurd (List·Memᴰ·not-nil q)
 
   -- what trial 1, and a trial that flips a set, generate are sets to flip
-  pub generated-flips : (is ≡ []) ⊎ FlipSet mask (codeLength c) (s .w) is → {x : Candidate} → List·Memᴰ x (generated s mask c v is) → FlipSet mask (codeLength c) (s .w) (x .flips)
+  pub generated-flips : (is ≡ []) ⊎ FlipSet mask (codeLength c) (s .w) is → {x : Candidate} → List·Memᴰ x (generatedBy s mask c v is) → FlipSet mask (codeLength c) (s .w) (x .flips)
   generated-flips of {x} p =
       let g = generated-member p in
       let j : ℕ = g .1 .0 in
@@ -125,7 +125,7 @@ module _ (s : Search) (mask : List ℕ) (c : Code) (v : List ℤ) (is : List ℕ
         most = omega (arith, length-append is (j ∷ []), g .0);
       })
 
-  pub generated-metric : {x : Candidate} → List·Memᴰ x (generated s mask c v is) → OwnMetric s mask c v x
+  pub generated-metric : {x : Candidate} → List·Memᴰ x (generatedBy s mask c v is) → OwnMetric s mask c v x
   generated-metric {x} p =
       let g = generated-member p .1 in
       record {
@@ -136,7 +136,7 @@ module _ (s : Search) (mask : List ℕ) (c : Code) (v : List ℤ) (is : List ℕ
       }
 
 -- the untried sets after trial 1
-pub first-flips : (s : Search) (mask : List ℕ) (c : Code) (v : List ℤ) (m : ℕ) (x : Candidate) → List·Memᴰ x (insertEach m (generated s mask c v []) []) → FlipSet mask (codeLength c) (s .w) (x .flips)
+pub first-flips : (s : Search) (mask : List ℕ) (c : Code) (v : List ℤ) (m : ℕ) (x : Candidate) → List·Memᴰ x (insertEach m (generatedBy s mask c v []) []) → FlipSet mask (codeLength c) (s .w) (x .flips)
 first-flips s mask c v m =
-    insert-each-keeps (λ x. FlipSet mask (codeLength c) (s .w) (x .flips)) m (generated s mask c v []) []
+    insert-each-keeps (λ x. FlipSet mask (codeLength c) (s .w) (x .flips)) m (generatedBy s mask c v []) []
     (λ x. generated-flips s mask c v [] (inl refl)) (λ x p. absurd (List·Memᴰ·not-nil p))

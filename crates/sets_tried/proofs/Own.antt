@@ -15,11 +15,11 @@ use Rattle.values.proofs.Rules.{rule-usual}
 use Rattle.pass_tree.proofs.Decisions.{bit-decided}
 use Rattle.flip_trial.specs.declared.Restart.{Restart}
 use Rattle.flip_trial.specs.Trial.{member, flipRule, laterTrial}
-use Rattle.flip_trial.specs.Claims.{Flips}
+use Rattle.flip_trial.specs.Flips.{Flips}
 use Rattle.flip_trial.proofs.Flips.{member-each}
 use Rattle.flip_trial.proofs.Restartable.{restartable}
 use Rattle.flip_trial.proofs.Agree.{same-bits}
-use Rattle.sets.specs.Tried.{leavesOf}
+use Rattle.decoder.specs.Contracts.{leavesOf}
 use Rattle.sets_tried.specs.Claims.{OwnDecisions}
 use Rattle.sets_tried.proofs.Same.{leaf-of}
 

@@ -1,5 +1,5 @@
 -- Searches of any two restarts try the same sets: their leaf values agree at information indices, and metrics read no others.
-use mathlib.Core.Path.{_≡_, refl, sym, ap, ap₂, _∙_}
+use mathlib.Core.Path.{_≡_, refl, sym, ap, ap₂, _∙_, fun-ext}
 use mathlib.Core.Bool.{_&&_, cond}
 use mathlib.Core.Logic.{_⊎_, inl, inr, ⊎-elim}
 use mathlib.Core.List.{List, [], _∷_, _++_, List·Memᴰ, List·Memᴰ·head, List·Memᴰ·tail}
@@ -19,13 +19,15 @@ use Rattle.values.specs.Values.{maskRule}
 use Rattle.pass_tree.proofs.Node.{length-leaves}
 use Rattle.flip_order.specs.Order.{magnitude}
 use Rattle.flip_trial.specs.declared.Restart.{Restart}
+use Rattle.flip_trial.specs.declared.Restart.the-variants.{Root}
 use Rattle.flip_trial.specs.Trial.{firstTrial, restartAt, trialFrom, laterTrial}
-use Rattle.flip_trial.specs.Claims.{Flips}
+use Rattle.flip_trial.specs.Flips.{Flips}
 use Rattle.flip_trial.proofs.Restartable.{restartable}
 use Rattle.flip_trial.proofs.Agree.{same-leaf}
-use Rattle.sets.specs.Candidate.{pastLargest, magnitudes, doubtful, metricOf, Candidate, candidate, extensions, insertEach}
-use Rattle.sets.specs.Tried.{leavesOf, generated, tried, flipSets}
-use Rattle.sets.specs.DecodeSets.{searchOf}
+use Rattle.decoder.specs.declared.Search.{Search}
+use Rattle.decoder.specs.Candidate.{pastLargest, magnitudes, doubtful, metricOf, Candidate, candidate, extensions, insertEach}
+use Rattle.decoder.specs.Tried.{tried, flipSets}
+use Rattle.decoder.specs.Contracts.{searchOf, leavesOf, generatedBy, triedBy}
 use Rattle.sets_tried.specs.Claims.{FlipSet}
 use Rattle.sets_tried.proofs.Members.{insert-each-keeps, tests-ind, past-most, flips-more, generated-flips, first-flips}
 
@@ -92,7 +94,7 @@ module _ (mask : List ℕ) (c : Code) (v : List ℤ) where
     same-leaves (i ∷ is) (inl z) j l e = absurd (omega (arith, ap length z))
     same-leaves (i ∷ is) (inr p) j l e = ap natAbs (leaf-of a i is p j l e ∙ sym (leaf-of b i is p j l e))
 
-    pub same-generated : (w limit : ℕ) (is : List ℕ) → (is ≡ []) ⊎ FlipSet mask (codeLength c) w is → generated (searchOf a w limit) mask c v is ≡ generated (searchOf b w limit) mask c v is
+    pub same-generated : (w limit : ℕ) (is : List ℕ) → (is ≡ []) ⊎ FlipSet mask (codeLength c) w is → generatedBy (searchOf a w limit) mask c v is ≡ generatedBy (searchOf b w limit) mask c v is
     same-generated w limit is p =
         let q : (is ≡ []) ⊎ Flips mask (codeLength c) is = ⊎-elim (λ e. inl e) (λ f. inr (f .flips)) p in
         ap (λ (xs : List Candidate). cond (ltb (length is) w) xs [])
@@ -113,10 +115,28 @@ module _ (P : List ℕ → Type 0) (f g : List ℕ → List Candidate) (same : (
       (insert-each-keeps (λ y. P (y .flips)) m (f (x .flips)) untried (more (x .flips) this) (λ y q. each y (List·Memᴰ·tail q)))
       ∙ ap (λ (ys : List Candidate). tried g m (insertEach m ys untried)) (same (x .flips) this))
 
-pub same-sets : (a b : Restart) (w limit : ℕ) (mask : List ℕ) (c : Code) (v : List ℤ) → flipSets (searchOf a w limit) mask c v ≡ flipSets (searchOf b w limit) mask c v
+pub same-sets : (a b : Restart) (w limit : ℕ) (mask : List ℕ) (c : Code) (v : List ℤ) → triedBy (searchOf a w limit) mask c v ≡ triedBy (searchOf b w limit) mask c v
 same-sets a b w limit mask c v =
     let m : ℕ = limit - 1 in
     let s = searchOf a w limit in
-    same-tried (FlipSet mask (codeLength c) w) (generated s mask c v) (generated (searchOf b w limit) mask c v) (λ is p. same-generated mask c v a b w limit is (inr p))
-    (λ is p x. generated-flips s mask c v is (inr p)) m (insertEach m (generated s mask c v []) []) (first-flips s mask c v m)
-    ∙ ap (λ (ys : List Candidate). tried (generated (searchOf b w limit) mask c v) m (insertEach m ys [])) (same-generated mask c v a b w limit [] (inl refl))
+    same-tried (FlipSet mask (codeLength c) w) (generatedBy s mask c v) (generatedBy (searchOf b w limit) mask c v) (λ is p. same-generated mask c v a b w limit is (inr p))
+    (λ is p x. generated-flips s mask c v is (inr p)) m (insertEach m (generatedBy s mask c v []) []) (first-flips s mask c v m)
+    ∙ ap (λ (ys : List Candidate). tried (generatedBy (searchOf b w limit) mask c v) m (insertEach m ys [])) (same-generated mask c v a b w limit [] (inl refl))
+
+-- ---- the sets of whole trials
+
+-- a trial from the root has leaf values of its own only
+whole-leaves : (mask : List ℕ) (c : Code) (v : List ℤ) (is : List ℕ) → leavesOf Root mask c v is ≡ laterTrial Root mask c v is .leaves
+whole-leaves mask c v [] = refl
+whole-leaves mask c v (i ∷ is) = refl
+
+-- a search of any restart tries the sets of the definition
+pub tried-by : (s : Search) (mask : List ℕ) (c : Code) (v : List ℤ) → triedBy s mask c v ≡ flipSets (s .w) (s .limit) mask c v
+tried-by s mask c v =
+    let m : ℕ = s .limit - 1 in
+    same-sets (s .restart) Root (s .w) (s .limit) mask c v
+    ∙ ap
+    (λ (leaves : List ℕ → List ℤ).
+    let generate : List ℕ → List Candidate = λ is. cond (ltb (length is) (s .w)) (extensions mask (leaves is) is (codeLength c)) [] in
+    tried generate m (insertEach m (generate []) []))
+    (fun-ext (whole-leaves mask c v))

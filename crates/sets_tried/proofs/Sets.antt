@@ -16,9 +16,10 @@ use Rattle.laws.proofs.Insert.{insert-member, insert-pairs}
 use Rattle.bits.specs.Mask.{maskBit}
 use Rattle.code.specs.declared.Code.{Code}
 use Rattle.code.specs.Code.{codeLength}
-use Rattle.sets.specs.declared.Search.{Search}
-use Rattle.sets.specs.Candidate.{pastLargest, Candidate, candidate, extensions, before, insertEach}
-use Rattle.sets.specs.Tried.{leavesOf, generated, tried, flipSets}
+use Rattle.decoder.specs.declared.Search.{Search}
+use Rattle.decoder.specs.Candidate.{pastLargest, Candidate, candidate, extensions, before, insertEach}
+use Rattle.decoder.specs.Tried.{tried}
+use Rattle.decoder.specs.Contracts.{leavesOf, generatedBy, triedBy}
 use Rattle.sets_tried.specs.Claims.{FlipSet}
 use Rattle.sets_tried.proofs.Members.{insert-each-keeps, tests-ind, extension-member, generated-member, generated-flips, first-flips}
 
@@ -44,13 +45,13 @@ module _ (P : List ℕ → Type 0) (generate : List ℕ → List Candidate) (mor
       (List·Memᴰ·cases-cons p)
 
 module _ (s : Search) (mask : List ℕ) (c : Code) (v : List ℤ) where
-  pub flip-sets : (is : List ℕ) → List·Memᴰ is (flipSets s mask c v) → FlipSet mask (codeLength c) (s .w) is
+  pub flip-sets : (is : List ℕ) → List·Memᴰ is (triedBy s mask c v) → FlipSet mask (codeLength c) (s .w) is
   flip-sets =
-      tried-each (FlipSet mask (codeLength c) (s .w)) (generated s mask c v) (λ is p x. generated-flips s mask c v is (inr p))
-      (s .limit - 1) (insertEach (s .limit - 1) (generated s mask c v []) []) (first-flips s mask c v (s .limit - 1))
+      tried-each (FlipSet mask (codeLength c) (s .w)) (generatedBy s mask c v) (λ is p x. generated-flips s mask c v is (inr p))
+      (s .limit - 1) (insertEach (s .limit - 1) (generatedBy s mask c v []) []) (first-flips s mask c v (s .limit - 1))
 
-  pub flip-set-each : (a : ℕ) → a < length (flipSets s mask c v) → FlipSet mask (codeLength c) (s .w) (getD (flipSets s mask c v) a [])
-  flip-set-each a l = flip-sets (getD (flipSets s mask c v) a []) (member-at (flipSets s mask c v) a l)
+  pub flip-set-each : (a : ℕ) → a < length (triedBy s mask c v) → FlipSet mask (codeLength c) (s .w) (getD (triedBy s mask c v) a [])
+  flip-set-each a l = flip-sets (getD (triedBy s mask c v) a []) (member-at (triedBy s mask c v) a l)
 
 -- ---- sets that all differ
 
@@ -150,15 +151,15 @@ search-none = record {
 }
 
 module _ (s : Search) (mask : List ℕ) (c : Code) (v : List ℤ) where
-  pub generated-extends : (is : List ℕ) (x : Candidate) → List·Memᴰ x (generated s mask c v is) → (j : ℕ) × (x .flips ≡ is ++ (j ∷ []))
+  pub generated-extends : (is : List ℕ) (x : Candidate) → List·Memᴰ x (generatedBy s mask c v is) → (j : ℕ) × (x .flips ≡ is ++ (j ∷ []))
   generated-extends is x q = let g = generated-member s mask c v is q .1 in (g .0, ap (λ (u : Candidate). u .flips) (g .4))
 
-  pub generated-apart : (is : List ℕ) → Apart (generated s mask c v is)
+  pub generated-apart : (is : List ℕ) → Apart (generatedBy s mask c v is)
   generated-apart is =
       cond-ind Apart (ltb (length is) (s .w)) (extensions mask (leavesOf (s .restart) mask c v is) is (codeLength c)) []
       (λ _. extensions-apart mask (leavesOf (s .restart) mask c v is) is (codeLength c)) (λ _. none)
 
-  pub sets-distinct : (a b : ℕ) → a < b → b < length (flipSets s mask c v) → getD (flipSets s mask c v) a [] ≡ getD (flipSets s mask c v) b [] → ⊥
+  pub sets-distinct : (a b : ℕ) → a < b → b < length (triedBy s mask c v) → getD (triedBy s mask c v) a [] ≡ getD (triedBy s mask c v) b [] → ⊥
   sets-distinct =
-      tried-distinct (generated s mask c v) generated-extends generated-apart (s .limit - 1) ([] ∷ []) (insertEach (s .limit - 1) (generated s mask c v []) [])
-      (search-on (generated s mask c v) generated-extends generated-apart (s .limit - 1) search-none)
+      tried-distinct (generatedBy s mask c v) generated-extends generated-apart (s .limit - 1) ([] ∷ []) (insertEach (s .limit - 1) (generatedBy s mask c v []) [])
+      (search-on (generatedBy s mask c v) generated-extends generated-apart (s .limit - 1) search-none)

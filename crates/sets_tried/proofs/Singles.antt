@@ -23,9 +23,8 @@ use Rattle.flip_order.specs.Claims.{Pairwise, Distinct}
 use Rattle.flip_order.proofs.Pairwise.{pairwise-nil, pairwise-cons, pairwise-tail, pairwise-head}
 use Rattle.flip_order.proofs.Information.{member-information, permuted-information}
 use Rattle.flip_trial.specs.Trial.{firstTrial}
-use Rattle.sets.specs.Candidate.{metricOf, Candidate, candidate, extensions, before}
-use Rattle.sets.specs.Tried.{generated}
-use Rattle.sets.specs.DecodeSets.{searchOf}
+use Rattle.decoder.specs.Candidate.{metricOf, Candidate, candidate, extensions, before}
+use Rattle.decoder.specs.Contracts.{searchOf, generatedBy}
 use Rattle.sets_tried.specs.Claims.{insertAll, triedOfAll, MetricFirst, Singles}
 use Rattle.sets_tried.proofs.Kept.{kept-loses-nothing}
 
@@ -130,8 +129,8 @@ singles mask c v =
       is = r .0;
       sets-are = λ restart limit.
           kept-loses-nothing (searchOf restart 1 limit) mask c v
-          ∙ ap (triedOfAll (generated (searchOf restart 1 limit) mask c v) (limit - 1)) (r .1)
-          ∙ tried-singles mask leaves (generated (searchOf restart 1 limit) mask c v) (λ i. refl) (limit - 1) (r .0);
+          ∙ ap (triedOfAll (generatedBy (searchOf restart 1 limit) mask c v) (limit - 1)) (r .1)
+          ∙ tried-singles mask leaves (generatedBy (searchOf restart 1 limit) mask c v) (λ i. refl) (limit - 1) (r .0);
       lists = permuted-information mask (codeLength c) (r .0) (r .2) (first-distinct mask leaves (r .0) (r .3));
       sorted = r .3;
     }

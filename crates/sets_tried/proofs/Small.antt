@@ -16,10 +16,10 @@ use Rattle.values.specs.Claims.{Within}
 use Rattle.pass_tree.proofs.Leaves.{within-leaves}
 use Rattle.flip_trial.specs.declared.Restart.{Restart}
 use Rattle.flip_trial.specs.Trial.{firstTrial, flipRule, forcedPrefix, restartAt, laterTrial}
-use Rattle.sets.specs.declared.Search.{Search}
-use Rattle.sets.specs.Candidate.{pastLargest, magnitudes, Candidate}
-use Rattle.sets.specs.Tried.{leavesOf, generated}
-use Rattle.sets.proofs.Metric.{doubtful-most}
+use Rattle.decoder.specs.declared.Search.{Search}
+use Rattle.decoder.specs.Candidate.{pastLargest, magnitudes, Candidate}
+use Rattle.decoder.specs.Contracts.{leavesOf, generatedBy}
+use Rattle.decoder.proofs.Metric.{doubtful-most}
 use Rattle.sets_tried.proofs.Members.{past-last, generated-member}
 
 -- ---- the parts of a metric
@@ -52,7 +52,7 @@ module _ (mask : List ℕ) (c : Code) (v : List ℤ) (small : Within 31 v) where
       record { at = kept-small q (firstTrial mask c v .leaves) (laterTrial restart mask c v (i ∷ is) .leaves) first-small later }
 
   -- three magnitudes of at most 31 · 2^n, and 6 for each of at most 2^n indices
-  generated-most : (s : Search) → s .w ≤ 3 → (is : List ℕ) {x : Candidate} → List·Memᴰ x (generated s mask c v is) → x .metric ≤ 99 * codeLength c
+  generated-most : (s : Search) → s .w ≤ 3 → (is : List ℕ) {x : Candidate} → List·Memᴰ x (generatedBy s mask c v is) → x .metric ≤ 99 * codeLength c
   generated-most s few is {x} p =
       let g = generated-member s mask c v is p in
       let leaves : List ℤ = leavesOf (s .restart) mask c v is in
@@ -69,5 +69,5 @@ module _ (mask : List ℕ) (c : Code) (v : List ℤ) (small : Within 31 v) where
       )
 
   -- so no metric exceeds 32 bits
-  pub generated-small : Coded mask c → (s : Search) → s .w ≤ 3 → (is : List ℕ) {x : Candidate} → List·Memᴰ x (generated s mask c v is) → x .metric < 2 ^ 32
+  pub generated-small : Coded mask c → (s : Search) → s .w ≤ 3 → (is : List ℕ) {x : Candidate} → List·Memᴰ x (generatedBy s mask c v is) → x .metric < 2 ^ 32
   generated-small coded s few is p = omega (arith, generated-most s few is p, pow-mono (coded .n-most))

@@ -14,11 +14,10 @@ use Rattle.values.specs.Values.{hard}
 use Rattle.flip_order.specs.Claims.{Pairwise, ListsInformation}
 use Rattle.flip_trial.specs.declared.Restart.{Restart}
 use Rattle.flip_trial.specs.Trial.{firstTrial, member, laterTrial}
-use Rattle.flip_trial.specs.Claims.{Flips}
-use Rattle.sets.specs.declared.Search.{Search}
-use Rattle.sets.specs.Candidate.{pastLargest, metricOf, Candidate, candidate, before}
-use Rattle.sets.specs.Tried.{leavesOf, generated, flipSets}
-use Rattle.sets.specs.DecodeSets.{searchOf}
+use Rattle.flip_trial.specs.Flips.{Flips}
+use Rattle.decoder.specs.declared.Search.{Search}
+use Rattle.decoder.specs.Candidate.{pastLargest, metricOf, Candidate, candidate, before}
+use Rattle.decoder.specs.Contracts.{searchOf, leavesOf, generatedBy, triedBy}
 
 -- a set that a trial can flip, of at most w indices: `flip-set-each` of proofs/Sets.antt proves it of each set that is tried
 pub record FlipSet (mask : List ℕ) (size w : ℕ) (is : List ℕ) : Type 0 where
@@ -72,8 +71,8 @@ pub record LeastFirst (s : Search) (mask : List ℕ) (c : Code) (v : List ℤ) (
   pub next : Candidate
   -- all others that have been generated and not tried, also those that are not kept
   pub others : List Candidate
-  pub untried-are : untriedAfter (generated s mask c v) t (insertAll (generated s mask c v []) []) ≡ next ∷ others
-  pub tries : getD (flipSets s mask c v) t [] ≡ next .flips
+  pub untried-are : untriedAfter (generatedBy s mask c v) t (insertAll (generatedBy s mask c v []) []) ≡ next ∷ others
+  pub tries : getD (triedBy s mask c v) t [] ≡ next .flips
   -- it comes before all others
   pub least : (y : Candidate) → List·Memᴰ y others → before next y ≡ true
   pub metrics : (y : Candidate) → List·Memᴰ y (next ∷ others) → OwnMetric s mask c v y
@@ -89,7 +88,7 @@ MetricFirst mask leaves i j =
 pub record Singles (mask : List ℕ) (c : Code) (v : List ℤ) : Type 0 where
   -- the information indices in that order
   pub is : List ℕ
-  pub sets-are : (restart : Restart) (limit : ℕ) → flipSets (searchOf restart 1 limit) mask c v ≡ map (λ i. i ∷ []) (take (limit - 1) is)
+  pub sets-are : (restart : Restart) (limit : ℕ) → triedBy (searchOf restart 1 limit) mask c v ≡ map (λ i. i ∷ []) (take (limit - 1) is)
   pub lists : ListsInformation mask (codeLength c) is
   -- by metric, then by index
   pub sorted : Pairwise (MetricFirst mask (firstTrial mask c v .leaves)) is

@@ -24,11 +24,8 @@ use Rattle.encoder.specs.declared.Encoded.the-variants.{Refused as NotEncoded}
 use Rattle.encoder.specs.Encode.{encodedBy, encoded}
 use Rattle.pass_resume.specs.declared.Resumed.the-variants.{Refused as NotResumed}
 use Rattle.pass_resume.specs.Resume.{resumedBy, resumed}
-use Rattle.flip_trial.specs.declared.Restart.the-variants.{Root, Half, After}
 use Rattle.flip_run.specs.declared.Decoded.the-variants.{Refused as NotDecoded}
-use Rattle.flip_run.specs.Plan.{planOf}
-use Rattle.flip_decoder.specs.Decode.{decodedBy, decodedWith}
-use Rattle.sets.specs.DecodeSets.{setsBy, setsWith, searchOf}
+use Rattle.decoder.specs.Decoder.{decodedUnder, decodedAs}
 use Rattle.theorems_largest.specs.Longer.{SameAnswers, OldAnswers}
 use Rattle.theorems_largest.specs.Claims.{NewAnswer, AnswersAs}
 
@@ -42,8 +39,7 @@ by-description small large d e = record {
   description = e;
   encoding = λ payload output. under (λ x. (NotEncoded x, output)) (λ c. encodedBy (maskOf d) c payload output) e;
   resuming = λ channel prefix output. under (λ x. (NotResumed x, output)) (λ c. resumedBy (maskOf d) c channel prefix output) e;
-  decoding = λ plan channel output. under (λ x. (NotDecoded x, output)) (λ c. decodedBy plan (maskOf d) c channel output) e;
-  decoding-sets = λ s channel output. under (λ x. (NotDecoded x, output)) (λ c. setsBy s (maskOf d) c channel output) e;
+  decoding = λ p restart channel output. under (λ x. (NotDecoded x, output)) (λ c. decodedUnder p restart (maskOf d) c channel output) e;
 }
 
 -- ---- the answer of a description, by the test of n
@@ -138,19 +134,14 @@ same-accepted small large d c more e = old-answers small large d more (λ f. let
 
 -- the operations at their own largest n
 pub as-accepted : (largest : ℕ) (d : List ℕ) (c : Code) → largest ≤ deepest → describeUpTo largest d ≡ Accepted c → AnswersAs largest d
-unfolding encoded resumed decodedWith setsWith
+unfolding encoded resumed decodedAs
 as-accepted largest d c more e =
     let same = same-accepted largest deepest d c more e in
     record {
       description = sym (same .description);
       encode = λ payload output. sym (same .encoding payload output);
       resume = λ channel prefix output. sym (same .resuming channel prefix output);
-      full = λ channel limit output. sym (same .decoding (planOf Root limit) channel output);
-      half = λ channel limit output. sym (same .decoding (planOf Half limit) channel output);
-      restarted = λ channel limit output. sym (same .decoding (planOf After limit) channel output);
-      sets-full = λ channel w limit output. sym (same .decoding-sets (searchOf Root w limit) channel output);
-      sets-half = λ channel w limit output. sym (same .decoding-sets (searchOf Half w limit) channel output);
-      sets-restarted = λ channel w limit output. sym (same .decoding-sets (searchOf After w limit) channel output);
+      decode = λ p restart channel output. sym (same .decoding p restart channel output);
     }
 
 -- document 01 has n up to 10

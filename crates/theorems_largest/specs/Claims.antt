@@ -16,10 +16,8 @@ use Rattle.encoder.specs.Encode.{encodedUpTo, encoded}
 use Rattle.pass_tree.specs.Node.{node}
 use Rattle.pass_tree.specs.Claims.{most, worked}
 use Rattle.pass_resume.specs.Resume.{resumedUpTo, resumed}
-use Rattle.flip_trial.specs.declared.Restart.the-variants.{Root, Half, After}
-use Rattle.flip_run.specs.Plan.{planOf}
-use Rattle.flip_decoder.specs.Decode.{decodedUpTo, decodedFull, decodedHalf, decodedRestarted}
-use Rattle.sets.specs.DecodeSets.{setsUpTo, searchOf, setsFull, setsHalf, setsRestarted}
+use Rattle.flip_trial.specs.declared.Restart.{Restart}
+use Rattle.decoder.specs.Decoder.{Decoder, decodedUpTo, decodedAs}
 
 -- Bytes whose answer a larger n changes: they are refused as 4 with n up to `small`, and not with n up to `large`, and their n lies between.
 -- `answers` of proofs/Longer.antt: all bytes have the same answers, or are these.
@@ -35,24 +33,8 @@ pub record AnswersAs (largest : ℕ) (d : List ℕ) : Type 0 where
   pub description : describe d ≡ describeUpTo largest d
   pub encode : (payload output : List ℕ) → encoded d payload output ≡ encodedUpTo largest d payload output
   pub resume : (channel prefix output : List ℕ) → resumed d channel prefix output ≡ resumedUpTo largest d channel prefix output
-  pub full :
-      (channel : List ℕ) (limit : ℕ) (output : List ℕ)
-      → decodedFull d channel limit output ≡ decodedUpTo largest (planOf Root limit) d channel output
-  pub half :
-      (channel : List ℕ) (limit : ℕ) (output : List ℕ)
-      → decodedHalf d channel limit output ≡ decodedUpTo largest (planOf Half limit) d channel output
-  pub restarted :
-      (channel : List ℕ) (limit : ℕ) (output : List ℕ)
-      → decodedRestarted d channel limit output ≡ decodedUpTo largest (planOf After limit) d channel output
-  pub sets-full :
-      (channel : List ℕ) (w limit : ℕ) (output : List ℕ)
-      → setsFull d channel w limit output ≡ setsUpTo largest (searchOf Root w limit) d channel output
-  pub sets-half :
-      (channel : List ℕ) (w limit : ℕ) (output : List ℕ)
-      → setsHalf d channel w limit output ≡ setsUpTo largest (searchOf Half w limit) d channel output
-  pub sets-restarted :
-      (channel : List ℕ) (w limit : ℕ) (output : List ℕ)
-      → setsRestarted d channel w limit output ≡ setsUpTo largest (searchOf After w limit) d channel output
+  pub decode :
+      (p : Decoder) (restart : Restart) (channel output : List ℕ) → decodedAs p restart d channel output ≡ decodedUpTo largest p restart d channel output
 
 -- "The inner bound is 31 · 2^n at a leaf, up to 126,976": no magnitude at a leaf exceeds that, nor one at layer s what `most` allows at the
 -- largest n. `small-values` of proofs/Small.antt: this holds in every pass under a description, resumed or not and by any rules.

@@ -8,20 +8,21 @@ use Rattle.code.specs.declared.Description.the-variants.{Refused}
 use Rattle.code.specs.Description.{describeUpTo}
 use Rattle.encoder.specs.Encode.{encodedUpTo}
 use Rattle.pass_resume.specs.Resume.{resumedUpTo}
-use Rattle.flip_run.specs.declared.Plan.{Plan}
-use Rattle.flip_decoder.specs.Decode.{decodedUpTo}
-use Rattle.sets.specs.declared.Search.{Search}
-use Rattle.sets.specs.DecodeSets.{setsUpTo}
+use Rattle.flip_trial.specs.declared.Restart.{Restart}
+use Rattle.decoder.specs.Decoder.{Decoder, decodedUpTo}
 
--- Every operation has one answer to the bytes d, output and steps included, with n up to `small` and with n up to `large`. Full, half and
--- restarted decoding are a plan each, and by sets a search each. An operation that reads the largest n by the description alone needs no field
--- here: `description` says it.
+-- Every operation has one answer to the bytes d, output and steps included, with n up to `small` and with n up to `large`. An operation that reads
+-- the largest n by the description alone needs no field here: `description` says it.
 pub record SameAnswers (small large : ℕ) (d : List ℕ) : Type 0 where
+  -- what the bytes describe
   pub description : describeUpTo small d ≡ describeUpTo large d
+  -- encode
   pub encoding : (payload output : List ℕ) → encodedUpTo small d payload output ≡ encodedUpTo large d payload output
+  -- resume
   pub resuming : (channel prefix output : List ℕ) → resumedUpTo small d channel prefix output ≡ resumedUpTo large d channel prefix output
-  pub decoding : (plan : Plan) (channel output : List ℕ) → decodedUpTo small plan d channel output ≡ decodedUpTo large plan d channel output
-  pub decoding-sets : (s : Search) (channel output : List ℕ) → setsUpTo small s d channel output ≡ setsUpTo large s d channel output
+  -- every decoder at every restart
+  pub decoding :
+      (p : Decoder) (restart : Restart) (channel output : List ℕ) → decodedUpTo small p restart d channel output ≡ decodedUpTo large p restart d channel output
 
 -- This holds of all bytes but those that are refused as 4 with n up to `small`. Document 01's largest n is 10, and the operations are those with
 -- `deepest`, 12.

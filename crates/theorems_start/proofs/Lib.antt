@@ -1,2 +1,3 @@
 pub mod Silence
 pub mod TwoKinds
+pub mod Instances

@@ -3,16 +3,21 @@
 use mathlib.Core.Path.{_≡_, refl, sym, ap, ap₂, _∙_}
 use mathlib.Core.Bool.{true, false, true≢false}
 use mathlib.Core.Logic.{⊎-elim}
-use mathlib.Core.List.{List, [], _∷_, _++_}
+use mathlib.Core.List.{List, [], _∷_, _++_, map}
 use Prim.Native.Nat.{ℕ, zero, suc, _+_, _-_, _*_, _^_, _<_, _≤_}
 use native.Mathlib.Nat.{zero-add, zero-mul}
 use native.Mathlib.Omega.{arith}
 use lib.Dec.{ltb}
 use lib.IntN.{ℤ, pos, negsuc, natAbs}
-use lib.ListN.{length, replicate, getD, take, drop, length-replicate, replicate-append-replicate, List·getD-map}
+use lib.ListN.{length, replicate, getD, take, drop, length-map, length-replicate, replicate-append-replicate, List·getD-map}
 use Rattle.laws.proofs.First.{first-is}
 use Rattle.laws.proofs.Segment.{take-replicate}
 use Rattle.laws.proofs.Table.{getD-table}
+use Rattle.refusal.specs.declared.Refusal.the-variants.{Alone}
+use Rattle.refusal.specs.declared.Judgement.the-variants.{Fine}
+use Rattle.refusal.specs.Judge.{differs, judge}
+use Rattle.refusal.proofs.Judge.{judge-none, judge-no, append-fine}
+use Rattle.refusal.proofs.Tests.{differs-no}
 use Rattle.bits.specs.Bit.{bit, bitsOf}
 use Rattle.bits.specs.Mask.{maskBit, onesBelow}
 use Rattle.bits.specs.Packing.{bytesFor, packed}
@@ -34,23 +39,22 @@ use Rattle.placing.proofs.Placing.{taken-one, taken-none, bits-taken}
 use Rattle.values.specs.Values.{Rule, decided, maskRule}
 use Rattle.values.specs.Claims.{Within}
 use Rattle.values.proofs.Rules.{rule-usual, rule-frozen}
-use Rattle.channel.specs.Channel.{channelValue, channelValues, firstOutside}
+use Rattle.channel.specs.Channel.{channelValue, channelValues, firstOutside, channelRefusals}
+use Rattle.channel.proofs.Judge.{channel-fine}
 use Rattle.pass_tree.specs.Node.{node}
 use Rattle.pass_tree.proofs.Decisions.{bit-decided}
 use Rattle.pass_tree.proofs.Leaves.{within-leaves}
 use Rattle.pass_tree.proofs.Steps.{steps-whole}
-use Rattle.flip_trial.specs.declared.Restart.{Restart}
-use Rattle.flip_trial.specs.declared.Restart.the-variants.{Root, After}
-use Rattle.flip_trial.specs.Trial.{firstTrial, messageIn, trialPasses}
+use Rattle.flip_trial.specs.Trial.{firstTrial, restartAt, messageIn, trialPasses}
 use Rattle.flip_run.specs.declared.Decoded.the-variants.{Accepted, Failed}
-use Rattle.flip_run.specs.Trials.{run, trials, answerOf}
-use Rattle.flip_run.specs.WellFormed.{WellFormed}
-use Rattle.flip_run.specs.Plan.{planOf}
-use Rattle.flip_decoder.specs.Decode.{decodedWith}
-use Rattle.flip_decoder.proofs.WellFormed.{well-formed-answer, decoded-by}
-use Rattle.flip_demands.specs.Claims.{PassedAt}
-use Rattle.flip_demands.proofs.Run.{run-first}
-use Rattle.flip_demands.proofs.Answers.{accepts-passing}
+use Rattle.flip_run.specs.Trials.{answerOf}
+use Rattle.decoder.specs.Decoder.{single, sets, ownRefusals, refusalsOf, trialsOf}
+use Rattle.decoder.proofs.Decoder.{fine-answer, under-code}
+use Rattle.decoder_demands.specs.Agreement.{skippedOver, lowestOfEach, SameRun}
+use Rattle.decoder_demands.specs.Claims.{PassedAt}
+use Rattle.decoder_demands.proofs.Run.{run-first}
+use Rattle.decoder_demands.proofs.Agreement.{run-of}
+use Rattle.decoder_demands.proofs.Checked.{passed-at}
 use Rattle.theorems_start.specs.Silence.{silence, Trial1Fails, SilenceFails, SilenceLater}
 use Rattle.theorems_start.specs.Claims.{SilenceAccepted, startingAt, TrialsAlike, OneStart}
 
@@ -194,59 +198,58 @@ trial-1-fails d c code some =
     ap (passes (divisor c) (startBits c) (c .k)) (first-message f) ∙ zeros-fail f some
 
 pub trials-alike : TrialsAlike
-trials-alike plan mask c v start = refl
+trials-alike (single limit) restart mask c v start = refl
+trials-alike (sets w limit) restart mask c v start = refl
 
 pub one-start : OneStart
 one-start d c bits s s′ code b l l′ e e′ = start-of-bits (described d c code) bits s s′ b l l′ e e′
 
--- a decoder of any restart
-module _ (restart : Restart) (d : List ℕ) (c : Code) (output : List ℕ) (code : describe d ≡ Coding c) (some : 0 < c .start) (size : length output ≡ bytesFor (c .k)) where
-  well-formed : WellFormed c (silence c) 1 output
-  well-formed = record {
-    channel-size = length-replicate {A = ℕ} (codeLength c) 0;
-    in-range = inside (codeLength c);
-    limit-least = omega arith;
-    limit-most = omega arith;
-    output-size = size;
-  }
-
-  fails : decodedWith (planOf restart 1) d (silence c) output ≡ (Failed 1 (c .n * codeLength c), output)
-  unfolding run
-  fails =
-      let mask = maskOf d in
-      let v = channelValues (silence c) in
-      let steps : 0 + firstTrial mask c v .work .steps ≡ c .n * codeLength c = zero-add _ ∙ steps-whole (c .n) (maskRule mask) v in
-      decoded-by (planOf restart 1) d (silence c) output c code
-      ∙ well-formed-answer (planOf restart 1) mask c (silence c) output well-formed
-      ∙ rw (trial-1-fails d c code some) (ap (λ (s : ℕ). (Failed 1 s, output)) steps)
-
 -- with start 0
-module _ (restart : Restart) (d : List ℕ) (c : Code) (limit : ℕ) (output : List ℕ) (code : describe d ≡ Coding c) (none : c .start ≡ 0) (w : WellFormed c (silence c) limit output) where
-  accepted : decodedWith (planOf restart limit) d (silence c) output ≡ (Accepted 1 (c .n * codeLength c), packed (replicate (c .k) 0))
-  accepted =
-      let mask = maskOf d in
-      let v = channelValues (silence c) in
-      let f : Described d c = described d c code in
-      let message = first-message f in
-      decoded-by (planOf restart limit) d (silence c) output c code
-      ∙ well-formed-answer (planOf restart limit) mask c (silence c) output w
-      ∙ ap (answerOf mask c output) (run-first (trialPasses mask c) (firstTrial mask c v) _ (ap (passes (divisor c) (startBits c) (c .k)) message ∙ zeros-pass f none))
-      ∙ ap₂ (λ (s : ℕ) (x : List ℕ). (Accepted 1 s, packed x)) (steps-whole (c .n) (maskRule mask) v)
-      (ap (take (c .k)) message ∙ take-replicate (c .k) (informationCount c) 0 (omega arith))
-
 pub silence-accepted : SilenceAccepted
-silence-accepted d c limit output code none w = (accepted Root d c limit output code none w, accepted After d c limit output code none w)
-
-pub silence-fails : SilenceFails
-silence-fails d c output code some size = (fails Root d c output code some size, fails After d c output code some size)
+silence-accepted p restart d c output none w =
+    let mask = maskOf d in
+    let v = channelValues (silence c) in
+    let f : Described d c = described d c (w .described) in
+    let message = first-message f in
+    under-code p restart d (silence c) output c (w .described)
+    ∙ fine-answer p restart mask c (silence c) output (w .fine)
+    ∙ ap (answerOf mask c output) (run-first (trialPasses mask c) (firstTrial mask c v) _ (ap (passes (divisor c) (startBits c) (c .k)) message ∙ zeros-pass f none))
+    ∙ ap₂ (λ (s : ℕ) (x : List ℕ). (Accepted 1 s, packed x)) (steps-whole (c .n) (maskRule mask) v)
+    (ap (take (c .k)) message ∙ take-replicate (c .k) (informationCount c) 0 (omega arith))
 
 pub silence-later : SilenceLater
-silence-later plan d c output trial steps payload code some e =
-    let p = accepts-passing plan d c (silence c) output code trial steps payload e in
-    later trial (p .1)
+silence-later p restart d c output trial steps payload code some e = later trial (passed-at p restart d c (silence c) output trial steps payload code e .1)
   where
-    later : (trial : ℕ) {steps : ℕ} {bits : List ℕ} → PassedAt (trialPasses (maskOf d) c) (trials plan (maskOf d) c (channelValues (silence c))) trial steps bits → 2 ≤ trial
-    later zero p = absurd (omega (arith, p .least))
-    later (suc zero) p =
-        absurd (true≢false (sym (p .passes) ∙ ap (trialPasses (maskOf d) c) (p .bits-are) ∙ trial-1-fails d c code some))
-    later (suc (suc trial)) p = omega arith
+    later : (trial : ℕ) {steps : ℕ} {bits : List ℕ} → PassedAt (trialPasses (maskOf d) c) (trialsOf p restart (maskOf d) c (channelValues (silence c))) trial steps bits → 2 ≤ trial
+    later zero x = absurd (omega (arith, x .least))
+    later (suc zero) x =
+        absurd (true≢false (sym (x .passes) ∙ ap (trialPasses (maskOf d) c) (x .bits-are) ∙ trial-1-fails d c code some))
+    later (suc (suc trial)) x = omega arith
+
+-- no q, and so nothing is skipped
+none-skipped : (n : ℕ) (qs : List ℕ) → length qs ≡ 0 → skippedOver n qs ≡ 0
+none-skipped n [] e = refl
+none-skipped n (q ∷ qs) e = absurd (omega arith)
+
+-- with T = 1 the run makes one trial
+pub silence-fails : SilenceFails
+silence-fails p restart d c output code some limit own size =
+    ⊎-elim
+    (λ a. absurd (omega (arith, x .most, limit, silence-later p restart d c output (x .made) (x .steps restart) (a .0) code some (a .1 restart output refl))))
+    (λ a.
+    let one : x .made ≡ 1 = omega (arith, x .most, limit, x .each) in
+    let is : List ℕ = lowestOfEach p d c (silence c) (x .made) in
+    let nothing = none-skipped (c .n) (map (restartAt restart (maskOf d) (codeLength c)) is) (length-map is (restartAt restart (maskOf d) (codeLength c)) ∙ omega (arith, x .each, one)) in
+    let pass : x .made * c .n * codeLength c ≡ 1 * c .n * codeLength c = ap (λ (m : ℕ). m * c .n * codeLength c) one in
+    let steps : x .steps restart ≡ c .n * codeLength c = omega (arith, nothing, x .exceeds restart, x .full-steps, pass) in
+    a .2 restart output refl ∙ ap₂ (λ (m s : ℕ). (Failed m s, output)) one steps) (x .answers)
+  where
+    fine : judge (refusalsOf p c (silence c) output) ≡ Fine
+    fine =
+        append-fine (channelRefusals c (silence c)) (ownRefusals p c ++ ((differs (length output) (bytesFor (c .k)), Alone 15) ∷ []))
+        (channel-fine c (silence c) (length-replicate {A = ℕ} (codeLength c) 0) (inside (codeLength c)))
+        ∙ append-fine (ownRefusals p c) ((differs (length output) (bytesFor (c .k)), Alone 15) ∷ []) own
+        ∙ judge-no _ _ _ (differs-no (length output) (bytesFor (c .k)) size) ∙ judge-none
+
+    x : SameRun p d c (silence c) (length output)
+    x = run-of p d c (silence c) output (record { described = code; fine = fine })

@@ -15,8 +15,8 @@ use Rattle.code.specs.Claims.{refusalsAt, codeAt, describeKind1, withStart}
 use Rattle.code.proofs.TwoKinds.{kind-1, mask-1, start-0, same-mask}
 use Rattle.encoder.specs.Encode.{codeword, encodedBy, encoded}
 use Rattle.pass_resume.specs.Resume.{resumedBy, resumed}
-use Rattle.flip_run.specs.declared.Plan.{Plan}
-use Rattle.flip_decoder.specs.Decode.{decodedBy, decodedWith}
+use Rattle.flip_trial.specs.declared.Restart.{Restart}
+use Rattle.decoder.specs.Decoder.{Decoder, decodedUnder, decodedAs}
 use Rattle.theorems_start.specs.Claims.{encodedKind1, resumedKind1, decodedKind1}
 
 -- an operation that does `go` under a mask and a code
@@ -49,9 +49,9 @@ module _ (d : List ℕ) (other : word d 2 ≡ 4 → ⊥) where
   unfolding resumed
   resume-kind-1 channel prefix output = under-kind-1 _ (λ mask c. resumedBy mask c channel prefix output) d other _ refl
 
-  pub decode-kind-1 : (plan : Plan) (channel output : List ℕ) → decodedWith plan d channel output ≡ decodedKind1 plan d channel output
-  unfolding decodedWith decodedBy
-  decode-kind-1 plan channel output = under-kind-1 _ (λ mask c. decodedBy plan mask c channel output) d other _ refl
+  pub decode-kind-1 : (p : Decoder) (restart : Restart) (channel output : List ℕ) → decodedAs p restart d channel output ≡ decodedKind1 p restart d channel output
+  unfolding decodedAs decodedUnder
+  decode-kind-1 p restart channel output = under-kind-1 _ (λ mask c. decodedUnder p restart mask c channel output) d other _ refl
 
 -- ---- kind 4 with start 0
 
@@ -64,6 +64,6 @@ module _ (d : List ℕ) (header : 8 ≤ length d) (kind : word d 2 ≡ 1) where
   unfolding resumed
   resume-start-0 channel prefix output = under-start-0 _ (λ mask c. resumedBy mask c channel prefix output) d header kind
 
-  pub decode-start-0 : (plan : Plan) (channel output : List ℕ) → decodedWith plan (withStart 0 d) channel output ≡ decodedWith plan d channel output
-  unfolding decodedWith
-  decode-start-0 plan channel output = under-start-0 _ (λ mask c. decodedBy plan mask c channel output) d header kind
+  pub decode-start-0 : (p : Decoder) (restart : Restart) (channel output : List ℕ) → decodedAs p restart (withStart 0 d) channel output ≡ decodedAs p restart d channel output
+  unfolding decodedAs
+  decode-start-0 p restart channel output = under-start-0 _ (λ mask c. decodedUnder p restart mask c channel output) d header kind

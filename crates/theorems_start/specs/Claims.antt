@@ -24,22 +24,20 @@ use Rattle.encoder.specs.Encode.{encodingRefusals}
 use Rattle.pass_resume.specs.declared.Resumed.{Resumed}
 use Rattle.pass_resume.specs.declared.Resumed.the-variants.{Refused as NotResumed}
 use Rattle.pass_resume.specs.Resume.{resumedBy}
+use Rattle.flip_trial.specs.declared.Restart.{Restart}
 use Rattle.flip_trial.specs.Trial.{messageIn, trialPasses}
-use Rattle.flip_run.specs.declared.Plan.{Plan}
 use Rattle.flip_run.specs.declared.Decoded.{Decoded}
 use Rattle.flip_run.specs.declared.Decoded.the-variants.{Accepted, Refused}
-use Rattle.flip_run.specs.Trials.{trials, run, answerOf}
-use Rattle.flip_run.specs.WellFormed.{WellFormed}
-use Rattle.flip_decoder.specs.Decode.{decodingRefusals, decodedFull, decodedRestarted}
+use Rattle.flip_run.specs.Trials.{run, answerOf}
+use Rattle.decoder.specs.Decoder.{Decoder, refusalsOf, WellFormed, trialsOf, decodedAs}
 use Rattle.theorems_start.specs.Silence.{silence}
 
--- Why a start is wanted: with start 0 silence is accepted on trial 1 as a payload of zeros, by full and restarted decoding and with any T that
--- 14 allows. `silence-accepted` of proofs/Silence.antt
+-- Why a start is wanted: with start 0 silence is accepted on trial 1 as a payload of zeros, by every decoder at every restart. `silence-accepted` of
+-- proofs/Silence.antt
 abbrev pub SilenceAccepted : Type 0
 SilenceAccepted =
-    (d : List ℕ) (c : Code) (limit : ℕ) (output : List ℕ) → describe d ≡ Coding c → c .start ≡ 0 → WellFormed c (silence c) limit output
-    → (decodedFull d (silence c) limit output ≡ (Accepted 1 (c .n * codeLength c), packed (replicate (c .k) 0)))
-    × (decodedRestarted d (silence c) limit output ≡ (Accepted 1 (c .n * codeLength c), packed (replicate (c .k) 0)))
+    (p : Decoder) (restart : Restart) (d : List ℕ) (c : Code) (output : List ℕ) → c .start ≡ 0 → WellFormed p d c (silence c) output
+    → decodedAs p restart d (silence c) output ≡ (Accepted 1 (c .n * codeLength c), packed (replicate (c .k) 0))
 
 -- a code with another start
 abbrev pub startingAt : ℕ → Code → Code
@@ -47,7 +45,9 @@ startingAt start c = record { n = c .n; r = c .r; polynomial = c .polynomial; st
 
 -- The trials of a run do not depend on the start: `trials-alike` of proofs/Silence.antt.
 abbrev pub TrialsAlike : Type 0
-TrialsAlike = (plan : Plan) (mask : List ℕ) (c : Code) (v : List ℤ) (start : ℕ) → trials plan mask (startingAt start c) v ≡ trials plan mask c v
+TrialsAlike =
+    (p : Decoder) (restart : Restart) (mask : List ℕ) (c : Code) (v : List ℤ) (start : ℕ)
+    → trialsOf p restart mask (startingAt start c) v ≡ trialsOf p restart mask c v
 
 -- Given bits pass with at most one start: `one-start` of proofs/Silence.antt. So of all starts of a code at most one for each trial accepts silence.
 abbrev pub OneStart : Type 0
@@ -73,10 +73,10 @@ abbrev pub resumedKind1 : List ℕ → List ℕ → List ℕ → List ℕ → Re
 resumedKind1 d channel prefix output =
     onDescription (describeKind1 d) (λ x. (NotResumed x, output)) (λ c. resumedBy (drop 8 d) c channel prefix output)
 
--- decode by a plan
-abbrev pub decodedKind1 : Plan → List ℕ → List ℕ → List ℕ → Decoded × List ℕ
-decodedKind1 plan d channel output =
+-- decode
+abbrev pub decodedKind1 : Decoder → Restart → List ℕ → List ℕ → List ℕ → Decoded × List ℕ
+decodedKind1 p restart d channel output =
     onDescription (describeKind1 d) (λ x. (Refused x, output))
-    (λ c. refusedOr (judge (decodingRefusals plan c channel output)) (λ x. (Refused x, output))
+    (λ c. refusedOr (judge (refusalsOf p c channel output)) (λ x. (Refused x, output))
     (answerOf (drop 8 d) c output
-    (run (λ bits. passes (divisor c) (bitsOf (c .r) 0) (c .k) (messageIn (drop 8 d) c bits)) 0 0 (trials plan (drop 8 d) c (channelValues channel)))))
+    (run (λ bits. passes (divisor c) (bitsOf (c .r) 0) (c .k) (messageIn (drop 8 d) c bits)) 0 0 (trialsOf p restart (drop 8 d) c (channelValues channel)))))

@@ -21,7 +21,7 @@ use Rattle.flip_order.specs.Order.{information}
 use Rattle.flip_run.specs.declared.Decoded.{Decoded}
 use Rattle.flip_run.specs.declared.Decoded.the-variants.{Accepted, Failed, Refused}
 use Rattle.flip_run.specs.Trials.{flipOrder, run}
-use Rattle.flip_decoder.specs.Decode.{decodedBy, decodedWith, decodedFull, decodedRestarted}
+use Rattle.decoder.specs.Decoder.{decodedUnder, decodedAs, decodedFull, decodedRestarted}
 use Rattle.vectors.proofs.Descriptions.{D, starredCode, starredV}
 
 -- 4, −4, 4, −4, −4, 4, −4, 4
@@ -53,5 +53,5 @@ StarredDecoding byte =
     (flipOrder (maskOf D) (starredCode 3) (channelValues (starredV 2)) ≡ 5 ∷ 3 ∷ 6 ∷ 7 ∷ []) × Rows (decodedFull D) 48 (byte ∷ []) × Rows (decodedRestarted D) 32 (byte ∷ [])
 
 pub starred-decoding : (byte : ℕ) → StarredDecoding byte
-unfolding judge refusedOr table number onesBelow packed describeUpTo checkOf covers parity transformed xors taken channelValue f g leftValues rightValues firstWhere node information insertBy sortBy run decodedBy decodedWith
+unfolding judge refusedOr table number onesBelow packed describeUpTo checkOf covers parity transformed xors taken channelValue f g leftValues rightValues firstWhere node information insertBy sortBy run decodedUnder decodedAs
 starred-decoding byte = (refl, (refl, refl, refl, refl, refl, refl, refl, refl, refl, refl), (refl, refl, refl, refl, refl, refl, refl, refl, refl, refl))

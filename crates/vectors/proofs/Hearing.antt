@@ -36,7 +36,7 @@ use Rattle.flip_run.specs.WellFormed.{WellFormed}
 use Rattle.flip_decoder.specs.Decode.{decodedBy, decodedWith, decodedFull, decodedRestarted}
 use Rattle.flip_demands.specs.Noiseless.{Received}
 use Rattle.flip_demands.proofs.NoiselessDecoding.{noiseless-decoding}
-use Rattle.sets.proofs.Examples.{wideD, wideCode, vector}
+use Rattle.decoder.proofs.Examples.{wideD, wideCode, vector}
 use Rattle.hearing.specs.Hearing.{hearingOf, combined}
 use Rattle.hearing.proofs.Inside.{Inside, each-zero, heard-hearing}
 use Rattle.hearing_state.specs.declared.State.{State}

@@ -1,8 +1,7 @@
--- Document 02, request 2.1, at descriptions of kind 4: refusals at their edges, silence, and demand 3.
+-- Document 02, request 2.1, at descriptions of kind 4: refusals at their edges, and `receive` on silence.
 use mathlib.Core.Path.{_≡_, refl}
 use mathlib.Core.List.{List, [], _∷_, _++_}
-use Prim.Native.Nat.{ℕ, _≤_}
-use native.Mathlib.Omega.{arith}
+use Prim.Native.Nat.{ℕ}
 use lib.ListN.{take, replicate}
 use Rattle.laws.specs.First.{firstWhere}
 use Rattle.laws.specs.Table.{table}
@@ -23,14 +22,8 @@ use Rattle.values.specs.Values.{f, g, leftValues, rightValues}
 use Rattle.channel.specs.Channel.{channelValue}
 use Rattle.pass_tree.specs.Node.{node}
 use Rattle.flip_order.specs.Order.{information}
-use Rattle.flip_run.specs.declared.Decoded.the-variants.{Accepted, Failed}
 use Rattle.flip_run.specs.Trials.{run}
-use Rattle.flip_run.specs.WellFormed.{WellFormed}
-use Rattle.flip_decoder.specs.Decode.{decodedBy, decodedWith, decodedFull, decodedRestarted}
-use Rattle.flip_demands.specs.Demand3.{BothDecode}
-use Rattle.flip_demands.proofs.Demand3.{demand-3}
-use Rattle.theorems_start.specs.Silence.{silence}
-use Rattle.theorems_start.proofs.Silence.{silence-fails}
+use Rattle.decoder.specs.Decoder.{decodedUnder, decodedAs}
 use Rattle.receive_lines.specs.Text.{text}
 use Rattle.receive_lines.specs.Line.{decimalIn}
 use Rattle.receive_frame.specs.Frame.{decodingLine, channelLine}
@@ -69,33 +62,10 @@ pub kind-4-rows :
 unfolding describeUpTo judge refusedOr onesBelow
 kind-4-rows = (refl, refl, refl, refl, refl, refl, refl, refl, refl, refl, refl, refl)
 
-describes : describe (D4 1) ≡ Coding code4
-describes = kind-4-rows .0
-
--- ---- silence under it
-
--- with T = 1 it is refused, by the theorem
-pub silent-at-1 : (byte : ℕ) → (decodedFull (D4 1) (silence code4) 1 (byte ∷ []) ≡ (Failed 1 24, byte ∷ [])) × (decodedRestarted (D4 1) (silence code4) 1 (byte ∷ []) ≡ (Failed 1 24, byte ∷ []))
-silent-at-1 byte = silence-fails (D4 1) code4 (byte ∷ []) describes (omega arith) refl
-
--- with T = 2 it is accepted on trial 2, by computation: a start does not keep later trials from accepting silence
-pub heard-at-2 : (byte : ℕ) → (decodedFull (D4 1) (silence code4) 2 (byte ∷ []) ≡ (Accepted 2 48, 0x80 ∷ [])) × (decodedRestarted (D4 1) (silence code4) 2 (byte ∷ []) ≡ (Accepted 2 35, 0x80 ∷ []))
-unfolding judge refusedOr table number onesBelow packed describeUpTo checkOf covers parity transformed xors taken channelValue f g leftValues rightValues firstWhere node information insertBy sortBy run decodedBy decodedWith
-heard-at-2 byte = (refl, refl)
-
--- demand 3 under it, for every T that 14 allows
-well-formed : (T byte : ℕ) → 1 ≤ T → T ≤ 5 → WellFormed code4 (silence code4) T (byte ∷ [])
-unfolding firstWhere channelValue
-well-formed T byte least most = record { channel-size = refl; in-range = refl; limit-least = least; limit-most = most; output-size = refl }
-
-pub both-decode-4 : (T byte byte′ : ℕ) → 1 ≤ T → T ≤ 5 → BothDecode (D4 1) code4 (silence code4) T (byte ∷ []) (byte′ ∷ [])
-both-decode-4 T byte byte′ least most =
-    demand-3 (D4 1) code4 (silence code4) T (byte ∷ []) (byte′ ∷ []) describes (well-formed T byte least most) (well-formed T byte′ least most)
-
 -- `receive` on D, silence with T = 1, D as kind 4, silence with T = 1 and with T = 2, and a refused start, which leaves the description held
 abbrev silent : ℕ → List ℕ
 silent T = 0x0E ∷ 0x00 ∷ 0x02 ∷ 0x00 ∷ T ∷ 0x00 ∷ replicate 8 0
 
 pub example-4 : printed (D ++ (silent 1 ++ (D4 1 ++ (silent 1 ++ (silent 2 ++ (D4 2 ++ silent 1)))))) ≡ text "code 8 3 1\nok 1 24 00\ncode 8 3 1\nno 16\nok 2 35 80\nno 25\nno 16\nend 7\n"
-unfolding judge refusedOr table number onesBelow packed describeUpTo checkOf covers parity transformed xors taken channelValue f g leftValues rightValues firstWhere node information insertBy sortBy run decodedBy decodedWith decimalIn descriptionResponse decodingLine channelLine responded recordsIn responses printedFrom
+unfolding judge refusedOr table number onesBelow packed describeUpTo checkOf covers parity transformed xors taken channelValue f g leftValues rightValues firstWhere node information insertBy sortBy run decodedUnder decodedAs decimalIn descriptionResponse decodingLine channelLine responded recordsIn responses printedFrom
 example-4 = refl

@@ -5,7 +5,6 @@ pub mod Receive
 pub mod Kind4
 pub mod Published
 pub mod Resume
-pub mod Instances
 pub mod Starred
 pub mod Sets
 pub mod Longer

@@ -9,7 +9,7 @@ use Rattle.refusal.specs.declared.Judgement.the-variants.{Fine}
 use Rattle.refusal.specs.Judge.{judge, refusedOr}
 use Rattle.channel.specs.Channel.{channelValue}
 use Rattle.flip_run.specs.declared.Decoded.the-variants.{Accepted, Refused}
-use Rattle.sets.proofs.Examples.{wideD, wideCode, vector}
+use Rattle.decoder.proofs.Examples.{wideD, wideCode, vector}
 use Rattle.hearing.specs.Hearing.{addRefusals}
 use Rattle.hearing_state.specs.declared.State.{State}
 use Rattle.hearing_state.specs.State.{opened, added}

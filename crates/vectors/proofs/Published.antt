@@ -27,7 +27,7 @@ use Rattle.channel.specs.Channel.{channelValue, firstOutside}
 use Rattle.encoder.specs.declared.Encoded.the-variants.{Done}
 use Rattle.encoder.specs.Encode.{messageOf, codeword, encodedBy, encoded}
 use Rattle.flip_run.specs.declared.Decoded.the-variants.{Accepted}
-use Rattle.flip_decoder.specs.Decode.{decodedFull, decodedRestarted}
+use Rattle.decoder.specs.Decoder.{decodedFull, decodedRestarted}
 use Rattle.flip_demands.specs.Noiseless.{Received}
 use Rattle.flip_demands.proofs.NoiselessDecoding.{noiseless-decoding}
 

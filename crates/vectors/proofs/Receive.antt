@@ -19,7 +19,7 @@ use Rattle.channel.specs.Channel.{channelValue}
 use Rattle.pass_tree.specs.Node.{node}
 use Rattle.flip_order.specs.Order.{information}
 use Rattle.flip_run.specs.Trials.{run}
-use Rattle.flip_decoder.specs.Decode.{decodedBy, decodedWith}
+use Rattle.decoder.specs.Decoder.{decodedUnder, decodedAs}
 use Rattle.receive_lines.specs.Text.{text}
 use Rattle.receive_lines.specs.Line.{decimalIn}
 use Rattle.receive_record.specs.Respond.{descriptionResponse, responded}
@@ -33,7 +33,7 @@ channelV T = 0x0E ∷ 0x00 ∷ 0x02 ∷ 0x00 ∷ T ∷ 0x00 ∷ starredV 2
 
 -- the whole input and all that it prints
 pub example : printed (D ++ (channelV 2 ++ channelV 1)) ≡ text "code 8 3 1\nok 2 32 00\nno 16\nend 3\n"
-unfolding judge refusedOr table number onesBelow packed describeUpTo checkOf covers parity transformed xors taken channelValue f g leftValues rightValues firstWhere node information insertBy sortBy run decodedBy decodedWith decimalIn descriptionResponse decodingLine channelLine responded recordsIn responses printedFrom
+unfolding judge refusedOr table number onesBelow packed describeUpTo checkOf covers parity transformed xors taken channelValue f g leftValues rightValues firstWhere node information insertBy sortBy run decodedUnder decodedAs decimalIn descriptionResponse decodingLine channelLine responded recordsIn responses printedFrom
 example = refl
 
 -- cut inside the second record, and by a length of 3, after which nothing is read

@@ -84,8 +84,9 @@ module _ (c : tie.After-trial-passes) where
 returns : tie.Need-returns
 returns c =
     let p = c .before in
-    let x = s (f p) .args in (
-      λ later. subst (λ (w : Verdict). Ran (mask (f p)) (x .code) w (Passed 1 (f p .first-trial .result .steps)) (p .trial-passes .last .1 .1 .1 .0))
+    let x = s (f p) .args in
+    λ later. (
+      subst (λ (w : Verdict). Ran (mask (f p)) (x .code) w (Passed 1 (f p .first-trial .result .steps)) (p .trial-passes .last .1 .1 .1 .0))
           (ap (λ (steps : ℕ). passed 1 steps (o (f p) .bits)) (counted (f p))
           ∙ sym (run-passes (ok (f p)) 0 0 (o (f p)) later (sym (ok-is p) ∙ c .if1 .taken)))
           (ran-passed (s (f p) .pre .0 .coded) _ _ (f p .first-trial .ensures .bits .bits) (p .trial-passes .ensures .1) (first-bits (mask (f p)) (x .code) (v (f p)))),

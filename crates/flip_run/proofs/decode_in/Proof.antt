@@ -16,8 +16,7 @@ use Rattle.flip_run.proofs.decode_in.Tie as tie
 run-trials-requires : tie.Need-run-trials-requires
 run-trials-requires c κs =
     let p = c .before .before .before .before .pre in
-    let w = p .well-formed in
-    (record { coded = p .coded; channel-size = w .channel-size; in-range = w .in-range }, w .limit-least, w .limit-most, refl)
+    (p .frame, p .limits, refl)
 
 -- the run
 module _ (c : tie.After-run-trials) where
@@ -30,7 +29,7 @@ module _ (c : tie.After-run-trials) where
   same-room : length message ≡ longest
   same-room = c .run-trials .ensures .1
 
-  ran : Ran (now (s .args .mask)) (s .args .code) (verdictBy (s .args .plan) (now (s .args .mask)) (s .args .code) (now (s .args .channel))) (c .run-trials .result) message
+  ran : Ran (now (s .args .mask)) (s .args .code) (verdictBy (s .args .terms) (now (s .args .mask)) (s .args .code) (now (s .args .channel))) (c .run-trials .result) message
   ran = c .run-trials .ensures .0
 
 answer-requires : tie.Need-answer-requires
@@ -38,7 +37,7 @@ answer-requires c κs =
     let r = c .before .before in
     let x = s r .args in
     let p = s r .pre in
-    (omega (arith, same-room r, p .coded .K-most, fits (p .coded .n-most)), ran-bits (now (x .mask)) (x .code) (verdictBy (x .plan) (now (x .mask)) (x .code) (now (x .channel))) (r .run-trials .result) (message r) (ran r), p .well-formed .output-size)
+    (omega (arith, same-room r, p .frame .coded .K-most, fits (p .frame .coded .n-most)), ran-bits (now (x .mask)) (x .code) (verdictBy (x .terms) (now (x .mask)) (x .code) (now (x .channel))) (r .run-trials .result) (message r) (ran r), p .output-size)
 
 returns : tie.Need-returns
 returns c =
@@ -46,7 +45,7 @@ returns c =
     let r = a .before .before .before in
     let x = s r .args in
     a .answer .ensures
-    ∙ ran-answers (now (x .mask)) (x .code) (now (x .output)) (verdictBy (x .plan) (now (x .mask)) (x .code) (now (x .channel))) (r .run-trials .result) (message r) (ran r)
+    ∙ ran-answers (now (x .mask)) (x .code) (now (x .output)) (verdictBy (x .terms) (now (x .mask)) (x .code) (now (x .channel))) (r .run-trials .result) (message r) (ran r)
 
 pub decode-in-spec : {M : Type 1} → statement M
 decode-in-spec =

@@ -21,7 +21,7 @@ use Rattle.pass_ends.specs.Contracts.{Arrays, arrays, Whole}
 use Rattle.flip_order.specs.Contracts.{leastAbove}
 use Rattle.flip_order.proofs.Keys.{keys-made, LastKey, last-none, next-place, next-positive, next-index}
 use Rattle.flip_trial.specs.Trial.{firstTrial, laterTrial, restartAt, trialPasses}
-use Rattle.flip_trial.specs.Claims.{Flips}
+use Rattle.flip_trial.specs.Flips.{Flips}
 use Rattle.flip_trial.specs.Contracts.{PlainRules, TrialPost}
 use Rattle.flip_trial.proofs.Bounds.{later-bits, later-steps}
 use Rattle.flip_trial.proofs.Passes.{later-pre, later-made, plain-after}
@@ -49,12 +49,12 @@ abbrev μ-loop : tie.MeasureT-loop
 make-keys-requires : tie.Need-make-keys-requires Inv-loop μ-loop
 make-keys-requires c κs =
     let p = c .before .before .before .pre in
-    keys-pre (p .0) (fits (p .0 .coded .n-most)) (p .3 .leaves)
+    keys-pre (p .0) (fits (p .0 .coded .n-most)) (p .2 .leaves)
 
 loop-holds : tie.Need-loop-holds Inv-loop μ-loop
 loop-holds c =
     let p = c .before .before .before .before .pre in
-    (loop-starts (p .1) (steps-fit (p .0 .coded .n-most) (p .3 .later .start-most)), last-none, p .3 .later .plain, record { work = p .3 .whole .work; bits = refl; sums = p .3 .whole .sums; leaves = refl })
+    (loop-starts (p .1 .least) (steps-fit (p .0 .coded .n-most) (p .2 .later .start-most)), last-none, p .2 .later .plain, record { work = p .2 .whole .work; bits = refl; sums = p .2 .whole .sums; leaves = refl })
 
 -- at the loop's head
 module _ (c : tie.At-loop Inv-loop μ-loop) where
@@ -71,28 +71,28 @@ module _ (c : tie.At-loop Inv-loop μ-loop) where
   order = flipOrder mask (s .args .code) v
 
   abbrev later : ℕ → Out
-  later i = laterTrial (s .args .plan .restart) mask (s .args .code) v (i ∷ [])
+  later i = laterTrial (s .args .terms .restart) mask (s .args .code) v (i ∷ [])
 
   abbrev keys : List ℤ
   keys = c .before .make-keys .last .1 .0
 
-  abbrev going : LoopInvariant (trialPasses mask (s .args .code)) later order (s .args .plan .limit) (s .args .start) (c .loop .made) (c .loop .steps)
+  abbrev going : LoopInvariant (trialPasses mask (s .args .code)) later order (s .args .terms .limit) (s .args .start) (c .loop .made) (c .loop .steps)
   going = c .loop .inv .0
 
   size-fits : codeLength (s .args .code) ≤ longest
   size-fits = fits (s .pre .0 .coded .n-most)
 
   made-most : c .loop .made ≤ mostTrials
-  made-most = omega (arith, going .most, s .pre .2, s .pre .0 .coded .K-most, size-fits)
+  made-most = omega (arith, going .most, s .pre .1 .most, s .pre .0 .coded .K-most, size-fits)
 
-  long : s .args .plan .limit - 1 ≤ length order
-  long = order-long (s .pre .0) (s .pre .2)
+  long : s .args .terms .limit - 1 ≤ length order
+  long = order-long (s .pre .0) (s .pre .1 .most)
 
   -- the keys are those of trial 1's leaf values
   keyed : FirstKeys mask (s .args .code) (now (s .args .channel)) keys
   keyed =
       let on = s .pre .0 in
-      keys-made (keys-pre on size-fits (s .pre .3 .leaves)) (on .coded .mask-size) (s .pre .3 .leaves .values) (c .before .make-keys .ensures)
+      keys-made (keys-pre on size-fits (s .pre .2 .leaves)) (on .coded .mask-size) (s .pre .2 .leaves .values) (c .before .make-keys .ensures)
 
 -- the next key
 module _ (c : tie.After-next-key Inv-loop μ-loop) where
@@ -139,7 +139,7 @@ later-trial-requires c κs =
     let l = head (k f) in
     let p = s l .pre in
     let inv = l .loop .inv in
-    (trial-on (p .0) (inv .2 .whole) (inv .3), later-pre (inv .2) (p .3 .later .first-bits) (flips f) (s l .args .plan .restart) (p .0 .coded .mask-size) (r .restart-index .ensures))
+    (trial-on (p .0) (inv .2 .whole) (inv .3), later-pre (inv .2) (p .2 .later .first-bits) (flips f) (s l .args .terms .restart) (p .0 .coded .mask-size) (r .restart-index .ensures))
 
 -- the trial
 module _ (c : tie.After-later-trial Inv-loop μ-loop) where
@@ -156,13 +156,13 @@ module _ (c : tie.After-later-trial Inv-loop μ-loop) where
   o = later at (i found)
 
   abbrev q : ℕ
-  q = restartAt (s at .args .plan .restart) (mask at) (codeLength (s at .args .code)) (i found)
+  q = restartAt (s at .args .terms .restart) (mask at) (codeLength (s at .args .code)) (i found)
 
   abbrev after : Arrays
   after = let last = c .later-trial .last .1 .1 .1 .1 .1 .1 in arrays (last .0) (last .1 .0) (last .1 .1 .0) (last .1 .1 .1 .0)
 
   made-is : TrialPost longest (s at .args .code) q o after (c .later-trial .result)
-  made-is = later-made (at .loop .inv .2) (s at .pre .3 .later .first-bits) (flips found) (s at .args .plan .restart) (s at .pre .0 .coded .mask-size) (resumed .restart-index .ensures) (c .later-trial .ensures .0)
+  made-is = later-made (at .loop .inv .2) (s at .pre .2 .later .first-bits) (flips found) (s at .args .terms .restart) (s at .pre .0 .coded .mask-size) (resumed .restart-index .ensures) (c .later-trial .ensures .0)
 
   took : c .later-trial .result .steps ≡ o .work .steps
   took = ap (λ (w : Work). w .steps) (made-is .work)
@@ -197,7 +197,7 @@ returns c =
     let l = a p in
     let f = found (trial p) in (
       subst (λ (w : Verdict). Ran (mask l) (s l .args .code) w (Passed (l .loop .made + 1) (l .loop .steps + trial p .later-trial .result .steps)) (p .trial-passes .last .1 .1 .1 .0))
-          (sym (s l .pre .3 .later .goes-on _ ∙ loop-passes (going l) (long l) (turn (k f) .loop-test .taken) (next f) (took (trial p)) (sym (ok-is p) ∙ c .if1 .taken)))
+          (sym (s l .pre .2 .later .goes-on _ ∙ loop-passes (going l) (long l) (turn (k f) .loop-test .taken) (next f) (took (trial p)) (sym (ok-is p) ∙ c .if1 .taken)))
           (ran-passed (s l .pre .0 .coded) _ _ (made-is (trial p) .bits) (p .trial-passes .ensures .1) (later-bits (mask l) (s l .args .code) (v l) (i f ∷ []) (q (trial p)))),
       same-room p,
     )
@@ -211,7 +211,7 @@ loop-again c =
     let m : l .loop .made + 1 - 1 ≡ l .loop .made - 1 + 1 = omega (arith, going l .least) in (
       loop-goes-on (going l) (long l) (turn (k f) .loop-test .taken) (next f) (took t) (sym (ok-is p) ∙ c .if1 .left) (few t),
       next-place (keyed l) (l .loop .inv .1) (here (k f)) (least (k f)) m,
-      plain-after (l .loop .inv .2) (s l .pre .3 .later .first-bits) (flips f) (s l .args .plan .restart) (s l .pre .0 .coded .mask-size) (resumed t .restart-index .ensures) (t .later-trial .ensures .1) (size-fits l),
+      plain-after (l .loop .inv .2) (s l .pre .2 .later .first-bits) (flips f) (s l .args .terms .restart) (s l .pre .0 .coded .mask-size) (resumed t .restart-index .ensures) (t .later-trial .ensures .1) (size-fits l),
       arrays-again (made-is t .whole) (same-room p),
     )
 
@@ -219,7 +219,7 @@ returns-2 : tie.Need-returns-2 Inv-loop μ-loop
 returns-2 c =
     let l = c .before in (
       subst (λ (w : Verdict). Ran (mask l) (s l .args .code) w (Failed (l .loop .made) (l .loop .steps)) (l .loop .sums))
-          (sym (s l .pre .3 .later .goes-on _ ∙ loop-ends (going l) (long l) (c .loop-test .left))) refl,
+          (sym (s l .pre .2 .later .goes-on _ ∙ loop-ends (going l) (long l) (c .loop-test .left))) refl,
       l .loop .inv .3 .sums,
     )
 
@@ -233,7 +233,7 @@ flip-trials-spec =
     loop-holds
     (λ c κs.
     let l = c .before .before .before in
-    omega (arith, s l .pre .0 .channel-size, size-fits l, l .before .make-keys .kept .1 .0, s l .pre .3 .leaves .whole))
+    omega (arith, s l .pre .0 .channel-size, size-fits l, l .before .make-keys .kept .1 .0, s l .pre .2 .leaves .whole))
     (λ c κs. next-positive (keyed (head c)) (head c .loop .inv .1) (here c) (least c))
     restart-index-requires
     (λ c. search needs)

@@ -16,13 +16,13 @@ use Rattle.flip_run.proofs.run_trials.Tie as tie
 begin-requires : tie.Need-begin-requires
 begin-requires c κs =
     let p = c .before .before .before .before .before .before .before .pre in
-    (p .0, refl, record { work = refl; bits = refl; sums = p .3; leaves = refl })
+    (p .0, refl, record { work = refl; bits = refl; sums = p .2; leaves = refl })
 
 returns-2 : tie.Need-returns-2
 returns-2 c =
     let t = c .before in
     let e = subst (BeginPost _ _ _ _ _ _) (t .trial .given .1) (t .before .before .begin .ensures) in
-    (e .0 _, e .1)
+    e _
 
 returns : tie.Need-returns
 returns c =
@@ -34,7 +34,7 @@ returns c =
     let made = t .trials .given .0 in
     let e = subst (BeginPost _ _ _ _ _ _) (t .trials .given .1) (b .begin .ensures) in (
       subst (λ (w : Verdict). Ran (now (x .mask)) (x .code) w (Failed (made .0) (made .1 .0)) (b .begin .last .1 .1 .1 .1 .1 .1 .1 .0))
-          (sym (e .1 .later .goes-on _ ∙ loop-ends (loop-starts (s .pre .1) (steps-fit (on .coded .n-most) (e .1 .later .start-most))) (order-long on (s .pre .2)) (omega (arith, c .if1 .taken))))
+          (sym (e .1 .later .goes-on _ ∙ loop-ends (loop-starts (s .pre .1 .least) (steps-fit (on .coded .n-most) (e .1 .later .start-most))) (order-long on (s .pre .1 .most)) (omega (arith, c .if1 .taken))))
           (ap (λ (m : ℕ). Failed m (made .1 .0)) (e .0)),
       e .1 .whole .sums,
     )
@@ -45,7 +45,7 @@ flip-trials-requires c κs =
     let b = t .before .before in
     let s = b .before .before .before .before .before .before .before .before in
     let e = subst (BeginPost _ _ _ _ _ _) (t .trials .given .1) (b .begin .ensures) in
-    (s .pre .0, s .pre .1, s .pre .2, e .1)
+    (s .pre .0, s .pre .1, e .1)
 
 pub run-trials-spec : {M : Type 1} → statement M
 run-trials-spec =

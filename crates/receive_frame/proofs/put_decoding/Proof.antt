@@ -18,9 +18,8 @@ use Rattle.code.specs.Description.{describe, onDescription}
 use Rattle.code.specs.Claims.{Coded, Described}
 use Rattle.code.proofs.Facts.{described}
 use Rattle.flip_trial.specs.declared.Restart.the-variants.{After}
-use Rattle.flip_run.specs.Plan.{planOf}
-use Rattle.flip_decoder.specs.Decode.{decodedBy, decodedRestarted}
-use Rattle.flip_decoder.proofs.WellFormed.{decoded-by}
+use Rattle.decoder.specs.Decoder.{single, decodedUnder, decodedRestarted}
+use Rattle.decoder.proofs.Decoder.{under-code}
 use Rattle.receive_lines.specs.Line.{noLine}
 use Rattle.receive_lines.proofs.Putting.{put-as}
 use Rattle.receive_frame.specs.Frame.{decodingLine}
@@ -31,7 +30,7 @@ use Rattle.receive_frame.proofs.put_decoding.Tie as tie
 
 -- the line under a code, and the definition by an answer of `describe`
 abbrev under : List ℕ → Code → List ℕ → ℕ → List ℕ → List ℕ
-under mask c channel limit output = lineOfAnswer (decodedBy (planOf After limit) mask c channel output)
+under mask c channel limit output = lineOfAnswer (decodedUnder (single limit) After mask c channel output)
 
 abbrev by : List ℕ → List ℕ → ℕ → Description → List ℕ
 by held channel limit a =
@@ -83,7 +82,7 @@ returns c =
     let channel = now (s .args .channel) in
     put-as (c .before .before .before .put-decoded .ensures) _
     (ap₂ (λ (mask output : List ℕ). under mask (code a) channel (s .args .limit) output) (m .mask-of .ensures) (part-is (m .before))
-    ∙ ap lineOfAnswer (sym (decoded-by (planOf After (s .args .limit)) (held a) channel (replicate (bytesFor (code a .k)) 0) (code a) (sym (accepted a))))
+    ∙ ap lineOfAnswer (sym (under-code (single (s .args .limit)) After (held a) channel (replicate (bytesFor (code a .k)) 0) (code a) (sym (accepted a))))
     ∙ ap (by (held a) channel (s .args .limit)) (accepted a))
 
 returns-2 : tie.Need-returns-2

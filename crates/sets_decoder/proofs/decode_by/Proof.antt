@@ -1,44 +1,78 @@
--- `sets_decoder::decode_by` meets its contract: a refusal, or the trials of well-formed input.
-use mathlib.Core.Path.{sym, _∙_}
+-- `sets_decoder::decode_by` meets its contract: a refusal, or the trials of a well-formed call.
+use mathlib.Core.Path.{_≡_, sym, ap, _∙_}
+use mathlib.Core.List.{List, _∷_, map}
+use Prim.Native.Nat.{ℕ}
 use native.Mathlib.Omega.{arith}
 use borrow.Author.Needs.{needs}
 use denote.Ref.{now}
+use lib.IntN.{ℤ}
+use Rattle.refusal.specs.declared.Judgement.the-variants.{Fine}
+use Rattle.refusal.specs.Judge.{judge}
 use Rattle.arrays.proofs.Sizes.{fits}
-use Rattle.sets.specs.WellFormed.{WellFormed}
-use Rattle.sets.proofs.WellFormed.{fine-well-formed, well-formed-answer, refused-answer}
+use Rattle.channel.specs.Channel.{channelValues}
+use Rattle.flip_trial.specs.Trial.{firstTrial, laterTrial, trialPasses}
+use Rattle.flip_run.specs.Trials.{run, answerOf}
+use Rattle.decoder.specs.Decoder.{Decoder, sets, refusalsOf}
+use Rattle.decoder.proofs.Decoder.{fine-answer, refused-answer, spelt-out}
+use Rattle.sets_tried.proofs.Same.{tried-by}
 use Rattle.sets_decoder.proofs.decode_by.Statement.{statement}
 use Rattle.sets_decoder.proofs.decode_by.Tie as tie
 
--- nothing before 16 applies
+-- no refusal before 16 applies
 module _ (c : tie.After-enum-told) where
   abbrev s : tie.Start
-  s = c .before .before .before .before .before .before .before
+  s = c .before .before .before .before .before .before .before .before
 
-  well : WellFormed (s .args .code) (now (s .args .channel)) (s .args .search .w) (s .args .search .limit) (now (s .args .output))
-  well =
-      fine-well-formed (s .args .search) (s .args .code) (now (s .args .channel)) (now (s .args .output))
-      (sym (c .before .before .judge-sets .ensures) ∙ c .enum-told .given .1)
+  abbrev p : Decoder
+  p = sets (s .args .search .w) (s .args .search .limit)
+
+  fine : judge (refusalsOf p (s .args .code) (now (s .args .channel)) (now (s .args .output))) ≡ Fine
+  fine = let j = c .before .before in sym (j .judge-call .ensures p (j .before .before .judge-search .ensures)) ∙ c .enum-told .given .1
 
 returns : tie.Need-returns
 returns c =
     let d = c .before .before in
     let t = d .before .before in
     let x = s t .args in
-    d .decode-in .ensures ∙ sym (well-formed-answer (x .search) (now (x .mask)) (x .code) (now (x .channel)) (now (x .output)) (well t))
+    let v : List ℤ = channelValues (now (x .channel)) in
+    d .decode-in .ensures
+    ∙ ap (λ (flips : List (List ℕ)). answerOf (now (x .mask)) (x .code) (now (x .output)) (run (trialPasses (now (x .mask)) (x .code)) 0 0 (firstTrial (now (x .mask)) (x .code) v ∷ map (laterTrial (x .search .restart) (now (x .mask)) (x .code) v) flips)))
+    (tried-by (x .search) (now (x .mask)) (x .code) v)
+    ∙ sym (fine-answer (p t) (x .search .restart) (now (x .mask)) (x .code) (now (x .channel)) (now (x .output)) (fine t))
 
 returns-2 : tie.Need-returns-2
 returns-2 c =
     let j = c .before .before .before in
-    let x = j .before .before .before .before .before .args in
-    sym (refused-answer (x .search) (now (x .mask)) (x .code) (now (x .channel)) (now (x .output)) _ (sym (j .judge-sets .ensures) ∙ c .before .x .given .1))
+    let x = j .before .before .before .before .before .before .args in
+    let p : Decoder = sets (x .search .w) (x .search .limit) in
+    sym (refused-answer p (x .search .restart) (now (x .mask)) (x .code) (now (x .channel)) (now (x .output)) _
+    (sym (j .judge-call .ensures p (j .before .before .judge-search .ensures)) ∙ c .before .x .given .1))
+
+-- what the run asks
+decode-in-requires : tie.Need-decode-in-requires
+decode-in-requires c κs =
+    let t = c .before in
+    let x = s t .args in
+    let w = spelt-out (p t) (x .code) (now (x .channel)) (now (x .output)) .1 (fine t) in
+    record {
+      sets = record {
+        frame = record { coded = s t .pre; channel-size = w .channel-size; in-range = w .in-range };
+        flips-least = w .allowed .0;
+        flips-most = w .allowed .1;
+        limit-least = w .allowed .2;
+        limit-most = w .allowed .3;
+      };
+      output-size = w .output-size;
+    }
 
 pub decode-by-spec : {M : Type 1} → statement M
 decode-by-spec =
     tie.close
     (tie.spec
-    (λ c κs. let p = c .before .before .before .before .pre in (p .n-most, omega (arith, p .K-most, fits (p .n-most))))
+    (λ c κs. let p = c .before .before .before .pre in omega (arith, p .K-most, fits (p .n-most)))
+    (λ c κs. c .before .before .before .before .before .pre .n-most)
     (λ c. search needs)
-    (λ c κs. record { coded = s (c .before) .pre; well-formed = well (c .before) })
+    decode-in-requires
     (λ c. search needs)
     (λ c. search needs)
     returns

@@ -4,8 +4,8 @@ use Prim.Native.Nat.{_+_, _-_, _≤_}
 use native.Mathlib.Omega.{arith}
 use borrow.Author.Needs.{needs}
 use denote.Ref.{now}
-use Rattle.sets.specs.Candidate.{doubtful}
-use Rattle.sets.proofs.Metric.{doubtful-most}
+use Rattle.decoder.specs.Candidate.{doubtful}
+use Rattle.decoder.proofs.Metric.{doubtful-most}
 use Rattle.sets_queue.proofs.Walking.{doubtful-none, doubtful-more}
 use Rattle.sets_queue.proofs.doubtful.Statement.{statement}
 use Rattle.sets_queue.proofs.doubtful.Tie as tie

@@ -8,8 +8,8 @@ use denote.Ref.{now}
 use lib.IntN.{ℤ}
 use lib.ListN.{length}
 use Rattle.arrays.specs.Claims.{longest}
-use Rattle.sets.specs.Candidate.{pastLargest, doubtful, extensions}
-use Rattle.sets.proofs.Metric.{doubtful-most}
+use Rattle.decoder.specs.Candidate.{pastLargest, doubtful, extensions}
+use Rattle.decoder.proofs.Metric.{doubtful-most}
 use Rattle.sets_queue.specs.declared.Stem.{Stem}
 use Rattle.sets_queue.specs.Contracts.{keyOf, StemFits, keysWith, Inserted}
 use Rattle.sets_queue.proofs.Walking.{doubtful-more}

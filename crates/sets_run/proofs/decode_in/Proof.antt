@@ -17,18 +17,7 @@ use Rattle.sets_run.proofs.decode_in.Tie as tie
 
 run-trials-requires : tie.Need-run-trials-requires
 run-trials-requires c κs =
-    let p = c .before .before .before .before .before .before .before .before .pre in
-    let w = p .well-formed in (
-      record {
-        frame = record { coded = p .coded; channel-size = w .channel-size; in-range = w .in-range };
-        flips-least = w .flips-least;
-        flips-most = w .flips-most;
-        limit-least = w .limit-least;
-        limit-most = w .limit-most;
-      },
-      refl,
-      record { work = refl; bits = refl; sums = refl; leaves = refl },
-    )
+    (c .before .before .before .before .before .before .before .before .pre .sets, refl, record { work = refl; bits = refl; sums = refl; leaves = refl })
 
 -- the run
 module _ (c : tie.After-run-trials) where
@@ -52,7 +41,7 @@ answer-requires c κs =
     let r = c .before .before in
     let x = s r .args in
     let p = s r .pre in
-    (omega (arith, same-room r, p .coded .K-most, fits (p .coded .n-most)), ran-bits (now (x .mask)) (x .code) (verdict r) (r .run-trials .result) (message r) (ran r), p .well-formed .output-size)
+    (omega (arith, same-room r, p .sets .frame .coded .K-most, fits (p .sets .frame .coded .n-most)), ran-bits (now (x .mask)) (x .code) (verdict r) (r .run-trials .result) (message r) (ran r), p .output-size)
 
 returns : tie.Need-returns
 returns c =

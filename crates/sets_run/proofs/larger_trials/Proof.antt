@@ -2,7 +2,7 @@
 use mathlib.Core.Path.{refl}
 use native.Mathlib.Omega.{arith}
 use borrow.Author.Needs.{needs}
-use Rattle.sets.proofs.Limit.{limit-larger}
+use Rattle.decoder.proofs.Limit.{limit-larger}
 use Rattle.sets_run.proofs.First.{set-none, walk-first, first-pool}
 use Rattle.sets_run.proofs.larger_trials.Statement.{statement}
 use Rattle.sets_run.proofs.larger_trials.Tie as tie

@@ -52,7 +52,7 @@ returns-3 : tie.Need-returns-3
 returns-3 c =
     let t = c .before in
     let e = subst (BeginPost _ _ _ _ _ _) (t .trial .given .1) (t .before .before .begin .ensures) in
-    (e .0 _, e .1)
+    e _
 
 pub run-trials-spec : {M : Type 1} → statement M
 run-trials-spec =

@@ -17,7 +17,7 @@ use Rattle.pass_tree.specs.declared.Work.{Work}
 use Rattle.pass_tree.specs.Node.{Out}
 use Rattle.pass_ends.specs.Contracts.{Arrays, arrays, Whole}
 use Rattle.flip_trial.specs.Trial.{restartAt, laterTrial, trialPasses}
-use Rattle.flip_trial.specs.Claims.{Flips}
+use Rattle.flip_trial.specs.Flips.{Flips}
 use Rattle.flip_trial.specs.Contracts.{PlainRules, TrialPost}
 use Rattle.flip_trial.proofs.Bounds.{later-bits, later-steps}
 use Rattle.flip_trial.proofs.Passes.{q-is, later-pre, later-made, plain-after}
@@ -25,8 +25,8 @@ use Rattle.flip_run.specs.declared.Ended.the-variants.{Passed, Failed}
 use Rattle.flip_run.specs.Trials.{Verdict}
 use Rattle.flip_run.specs.Contracts.{Ran}
 use Rattle.flip_run.proofs.LoopStep.{trial-on, ran-passed}
-use Rattle.sets.specs.Candidate.{Candidate}
-use Rattle.sets.proofs.Limit.{limit-fits}
+use Rattle.decoder.specs.Candidate.{Candidate}
+use Rattle.decoder.proofs.Limit.{limit-fits}
 use Rattle.sets_queue.specs.Contracts.{keyOf, Inserted}
 use Rattle.sets_run.specs.Contracts.{resumedAt}
 use Rattle.sets_run.proofs.Searching.{Searching, search-starts, search-ends, search-next, next-some, next-indices, next-places, next-flips, search-passes, search-goes-on}

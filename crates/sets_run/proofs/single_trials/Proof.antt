@@ -3,7 +3,7 @@ use mathlib.Core.Path.{refl}
 use native.Mathlib.Omega.{arith}
 use borrow.Author.Needs.{needs}
 use Rattle.arrays.proofs.Sizes.{fits}
-use Rattle.sets.proofs.Limit.{limit-fits}
+use Rattle.decoder.proofs.Limit.{limit-fits}
 use Rattle.sets_run.proofs.First.{set-none, walk-first, first-pool}
 use Rattle.sets_run.proofs.single_trials.Statement.{statement}
 use Rattle.sets_run.proofs.single_trials.Tie as tie

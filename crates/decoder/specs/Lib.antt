@@ -1,0 +1,5 @@
+pub mod Candidate
+pub mod Tried
+pub mod Decoder
+pub mod Claims
+pub mod Contracts

@@ -1,0 +1,15 @@
+pub mod Run
+pub mod Trials
+pub mod Flips
+pub mod Compare
+pub mod Answers
+pub mod HalfSteps
+pub mod Agreement
+pub mod Demand3
+pub mod Noiseless
+pub mod Larger
+pub mod StepBounds
+pub mod Metrics
+pub mod Codeword
+pub mod Checked
+pub mod Instances

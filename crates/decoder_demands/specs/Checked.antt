@@ -1,0 +1,46 @@
+-- The demands, "Why": a decoder "may refuse only malformed input, or a frame that still fails its check after every permitted trial", and what it accepts
+-- passed its check. `only-checked` and `after-all` of proofs/Checked.antt prove it of every decoder at every restart.
+use mathlib.Core.Path.{_≡_}
+use mathlib.Core.Bool.{true, false}
+use mathlib.Core.List.{List, [], map}
+use Prim.Native.Nat.{ℕ, _-_, _/_, _<_, _≤_}
+use lib.IntN.{ℤ}
+use lib.ListN.{length, getD}
+use Rattle.bits.specs.Packing.{packed}
+use Rattle.code.specs.declared.Code.{Code}
+use Rattle.code.specs.declared.Description.the-variants.{Accepted as Coding}
+use Rattle.code.specs.Code.{codeLength}
+use Rattle.code.specs.Description.{maskOf, describe}
+use Rattle.transform.specs.Transform.{transformed}
+use Rattle.channel.specs.Channel.{channelValues}
+use Rattle.encoder.specs.declared.Encoded.the-variants.{Done}
+use Rattle.encoder.specs.Encode.{encoded}
+use Rattle.flip_trial.specs.declared.Restart.{Restart}
+use Rattle.flip_trial.specs.Trial.{trialPasses}
+use Rattle.flip_run.specs.declared.Decoded.the-variants.{Accepted, Failed}
+use Rattle.decoder.specs.Decoder.{Decoder, trialsOf, decodedAs}
+
+-- the bits of trial t, from 1
+abbrev pub bitsOf : Decoder → Restart → List ℕ → Code → List ℤ → ℕ → List ℕ
+bitsOf p restart mask c v t = getD (map (λ o. o .bits) (trialsOf p restart mask c v)) (t - 1) []
+
+-- the payload that a trial with these bits is accepted with
+pub record Checked (d : List ℕ) (c : Code) (bits payload : List ℕ) : Type 0 where
+  -- the trial's check passes
+  pub passes : trialPasses (maskOf d) c bits ≡ true
+  -- what is accepted is the codeword of what is written: encode gives the transform of the trial's bits
+  pub encodes : (output : List ℕ) → length output ≡ codeLength c / 8 → encoded d payload output ≡ (Done, packed (transformed (c .n) bits))
+
+abbrev pub OnlyChecked : Type 0
+OnlyChecked =
+    (p : Decoder) (restart : Restart) (d : List ℕ) (c : Code) (channel output : List ℕ) (trial steps : ℕ) (payload : List ℕ)
+    → describe d ≡ Coding c → decodedAs p restart d channel output ≡ (Accepted trial steps, payload)
+    → Checked d c (bitsOf p restart (maskOf d) c (channelValues channel) trial) payload
+
+-- refusal 16 is answered only if every permitted trial was made and failed
+abbrev pub AfterAll : Type 0
+AfterAll =
+    (p : Decoder) (restart : Restart) (d : List ℕ) (c : Code) (channel output : List ℕ) (made steps : ℕ) (bytes : List ℕ)
+    → describe d ≡ Coding c → decodedAs p restart d channel output ≡ (Failed made steps, bytes)
+    → (made ≡ length (trialsOf p restart (maskOf d) c (channelValues channel)))
+    × ((t : ℕ) → 1 ≤ t → t ≤ made → trialPasses (maskOf d) c (bitsOf p restart (maskOf d) c (channelValues channel) t) ≡ false)

@@ -1,3 +1,0 @@
-pub mod Demand3
-pub mod Claims
-pub mod Noiseless

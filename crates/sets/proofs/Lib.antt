@@ -1,4 +1,0 @@
-pub mod WellFormed
-pub mod Limit
-pub mod Metric
-pub mod Examples

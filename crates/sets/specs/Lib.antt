@@ -1,4 +1,0 @@
-pub mod Candidate
-pub mod Tried
-pub mod DecodeSets
-pub mod WellFormed

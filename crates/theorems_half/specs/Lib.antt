@@ -1,3 +1,0 @@
-pub mod Half
-pub mod Larger
-pub mod Claims
