@@ -56,7 +56,7 @@ mod tests {
         let mask: Vec<bool> = (0..8).map(|i| [3, 5, 6, 7].contains(&i)).collect();
         assert_eq!(record(3, 1, 1, &mask), D);
         assert_eq!(record_with_start(3, 1, 1, 1, &mask), D_WITH_START);
-        let last = [[false; 512], [true; 512]].concat();
+        let last: Vec<bool> = (0..1 << 10).map(|index| index >= 8 * 64).collect();
         let long = record(10, 11, 0x0621, &last);
         assert_eq!(long[..8], parse("88 00 01 00 0A 0B 21 06"));
         assert_eq!(long[8..], [[0x00; 64], [0xFF; 64]].concat());
