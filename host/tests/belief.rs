@@ -1,15 +1,11 @@
 //! What must be believed stands apart: no public promise and no main theorem cites a definition of
-//! a `Claims.antt` or a `Contracts.antt`, and README.md gives the number of lines.
-
-use std::fs;
+//! a `Claims.antt` or a `Contracts.antt`. Each request has few lines of it, and README.md gives their
+//! numbers.
 
 use host::promises::{cited, Roots};
 use host::testing::belief::source::here;
 use host::testing::belief::{Cited, Crates};
-use host::testing::files::repository;
-
-/// One sitting.
-const MOST_LINES: usize = 860;
+use host::testing::files::text;
 
 fn crates() -> Crates {
     Crates::read(&here())
@@ -38,18 +34,25 @@ fn definitions_that_no_promise_needs() {
     }
 }
 
+/// Each file names its request, and no request has more lines than it may.
 #[test]
-fn one_sitting_is_enough() {
-    let lines = crates().lines();
-    println!("{lines} lines of definitions");
-    assert!(lines <= MOST_LINES, "{lines} lines of definitions");
+fn each_request_has_few_lines() {
+    let requests = crates().requests();
+    println!("{requests}");
+    let faults = requests.faults();
+    assert!(faults.is_empty(), "\n{}\n", faults.join("\n"));
 }
 
 #[test]
 fn the_readme_gives_the_number_of_lines() {
-    let text = fs::read_to_string(repository().join("README.md")).expect("README.md");
-    let words: Vec<&str> = text.split_whitespace().collect();
-    let lines = crates().lines();
-    let sentence = format!("What must be believed is {lines} lines of definitions");
+    let readme = text("README.md");
+    let words: Vec<&str> = readme.split_whitespace().collect();
+    let crates = crates();
+    let sentence = format!(
+        "What must be believed is {} lines of definitions",
+        crates.lines()
+    );
     assert!(words.join(" ").contains(&sentence), "no `{sentence}`");
+    let table = crates.requests().to_string();
+    assert!(readme.contains(&table), "no table\n{table}");
 }

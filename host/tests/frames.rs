@@ -13,9 +13,14 @@ const TOUCHING: &str = "mov %rsp,%r11";
 fn functions(listing: &str) -> Vec<(String, Vec<String>)> {
     let mut functions = Vec::new();
     for line in listing.lines() {
-        if let Some((_, name)) = line.strip_suffix(">:").and_then(|line| line.split_once(" <")) {
+        if let Some((_, name)) = line
+            .strip_suffix(">:")
+            .and_then(|line| line.split_once(" <"))
+        {
             functions.push((name.to_string(), Vec::new()));
-        } else if let (Some((_, code)), Some((_, all))) = (line.split_once(":\t"), functions.last_mut()) {
+        } else if let (Some((_, code)), Some((_, all))) =
+            (line.split_once(":\t"), functions.last_mut())
+        {
             all.push(code.split_whitespace().collect::<Vec<_>>().join(" "));
         }
     }

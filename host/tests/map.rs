@@ -12,13 +12,18 @@ struct Family {
 
 /// Puts a crate under the last heading.
 fn put(families: &mut [Family], name: &str) {
-    let last = families.last_mut().expect("a heading before the first crate");
+    let last = families
+        .last_mut()
+        .expect("a heading before the first crate");
     last.crates.push(name.to_string());
 }
 
 /// Begins a family.
 fn begin(families: &mut Vec<Family>, heading: &str) {
-    families.push(Family { heading: heading.to_string(), crates: Vec::new() });
+    families.push(Family {
+        heading: heading.to_string(),
+        crates: Vec::new(),
+    });
 }
 
 /// The families of crates.txt: a comment after an empty line is a heading.
@@ -40,11 +45,17 @@ fn of_list(list: &str) -> Vec<Family> {
 
 /// The families of the map: a row whose first cell is bold is a heading.
 fn of_map(readme: &str) -> Vec<Family> {
-    let table = readme.split("| crate | what it holds |").nth(1).expect("the map");
+    let table = readme
+        .split("| crate | what it holds |")
+        .nth(1)
+        .expect("the map");
     let mut families = Vec::new();
     for row in table.lines().skip(2).take_while(|row| row.starts_with('|')) {
         let cell = row.split('|').nth(1).expect("a cell").trim();
-        match cell.strip_prefix("**").and_then(|cell| cell.strip_suffix("**")) {
+        match cell
+            .strip_prefix("**")
+            .and_then(|cell| cell.strip_suffix("**"))
+        {
             Some(heading) => begin(&mut families, heading),
             None => put(&mut families, cell.trim_matches('`')),
         }
@@ -67,7 +78,10 @@ fn a_prefix_is_of_one_family() {
     for (at, family) in families.iter().enumerate() {
         for other in &families[at + 1..] {
             for name in &family.crates {
-                let shared = other.crates.iter().find(|name_| prefix(name_) == prefix(name));
+                let shared = other
+                    .crates
+                    .iter()
+                    .find(|name_| prefix(name_) == prefix(name));
                 assert_eq!(shared, None, "{name} of {:?}", family.heading);
             }
         }

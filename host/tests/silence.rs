@@ -1,21 +1,22 @@
-//! Silence, N zero values. Under a start other than 0 it fails trial 1; when a later trial accepts it
-//! is what the command `silence` prints.
+//! Silence, N zero values. Under a start other than 0 it fails trial 1 of all six decoders; when a later
+//! trial of single flips accepts it is what the command `silence` prints.
 
 use std::iter::successors;
 use std::process::{Command, Output};
 
 use host::reference::description::{describe, with_start, Code};
-use host::reference::flip::Accepted;
 use host::reference::packing::packed_length;
-use host::reference::refusal::Refusal;
+use host::reference::sets::{limits, MOST_FLIPS};
 use host::reference::sizes::LAYERS;
 use host::silence::{first_accepted, run};
 use host::testing::decoders::{check, ALL, REFERENCE};
 use host::testing::files::repository;
 use host::testing::lent;
 use host::testing::library::{self, Decoder};
+use host::testing::outcomes::Outcomes;
 use host::testing::random::Random;
 use host::testing::samples;
+use host::testing::sets::{self, Lent};
 
 /// The library's decoders on buffers between guard bytes.
 const LENT_FULL: Decoder =
@@ -46,35 +47,68 @@ fn for_starts(seed: u64, count: usize, mut test: impl FnMut(&mut Random, &[u8], 
     }
 }
 
-/// Refusal 16 with T = 1 and n × N steps by all decoders, the output as it was.
+/// Refusal 16 with T = 1 and n × N steps by all six decoders, the output as it was.
 #[test]
 fn silence_fails_trial_1_under_a_start() {
     for_starts(1, 100_000, |random, d, code| {
         let zeros = vec![0; code.size()];
         let before = random.bytes(packed_length(code.k));
         let steps = ((code.n << code.n) as u64) << 32;
+        let failed = (steps | 1 << 8 | 16, before.clone());
         for decoder in ALL {
-            let answer = decoder.run(d, &zeros, 1, &before);
-            assert_eq!(answer, (steps | 1 << 8 | 16, before.clone()), "{d:02x?}");
+            assert_eq!(decoder.run(d, &zeros, 1, &before), failed, "{d:02x?}");
+        }
+        for most_flips in MOST_FLIPS {
+            let of = by_sets(d, &zeros, most_flips, 1);
+            for decoder in sets::ALL {
+                assert_eq!(decoder.run(of, &before), failed, "{of:02x?}");
+            }
         }
     });
+}
+
+/// What the decoders by sets are lent.
+fn by_sets<'a>(d: &'a [u8], channel: &'a [u8], most_flips: u32, limit: u32) -> Lent<'a> {
+    Lent {
+        description: d,
+        channel,
+        most_flips,
+        limit,
+    }
 }
 
 /// The library answers as the reference does, and never with trial 1.
 #[test]
 fn silence_under_a_start_and_larger_limits() {
+    let mut outcomes = Outcomes::default();
     for_starts(2, 16_000, |random, d, code| {
         let zeros = vec![0; code.size()];
         let before = random.bytes(packed_length(code.k));
         let most = code.information() + 1;
         for limit in [1, 2, 3, random.between(1, most.min(40)), most.min(60)] {
-            let first = matches!(
-                check(d, &zeros, limit as u32, &before),
-                Ok(Accepted { trial: 1, .. }) | Err(Refusal::Number(_) | Refusal::At(..))
-            );
-            assert!(!first, "{d:02x?}, T = {limit}");
+            outcomes.count(check(d, &zeros, limit as u32, &before));
         }
     });
+    outcomes.never_on_trial_1(1_000);
+}
+
+/// With each number of flips, and fewer trials of long codes.
+#[test]
+fn silence_under_a_start_by_sets() {
+    let mut outcomes = Outcomes::default();
+    for_starts(5, 16_000, |random, d, code| {
+        let zeros = vec![0; code.size()];
+        let before = random.bytes(packed_length(code.k));
+        let some = if code.n > 8 { 6 } else { 40 };
+        for most_flips in MOST_FLIPS {
+            let most = *limits(code, most_flips).end();
+            for limit in [1, 2, 3, most.min(random.between(4, some) as u32)] {
+                let of = by_sets(d, &zeros, most_flips, limit);
+                outcomes.count(sets::check(of, &before).0);
+            }
+        }
+    });
+    outcomes.never_on_trial_1(1_000);
 }
 
 /// The starts with which silence passes trials 2, 3 and so on. Zeros stay zeros in a pass, so the

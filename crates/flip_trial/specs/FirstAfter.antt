@@ -1,5 +1,5 @@
--- Demand 3: "q is the first information index after that trial's flipped one, or N if none". `resume-at` of proofs/Restartable.antt proves
--- it of `resumeAt`.
+-- Document 01, "Flip decoding, full and restarted": demand 3's "q is the first information index after that trial's flipped one, or N if
+-- none". `resume-at` of proofs/Restartable.antt proves it of `resumeAt`.
 use mathlib.Core.Path.{_≡_}
 use mathlib.Core.Logic.{_⊎_}
 use mathlib.Core.List.{List}

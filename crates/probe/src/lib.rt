@@ -8,7 +8,8 @@ ghost use mathlib.Core.Path.{_≡_};
 ghost use Rattle.refusal.specs.Judge.{numberOf};
 ghost use Rattle.code.specs.Description.{describe};
 ghost use Rattle.quantiser.specs.Quantise.{quantised};
-ghost use Rattle.probe.specs.Contracts.{indexOf, descriptionNumbers, allBits, packing, unpacking, bitAt, onesAnswer, placingAnswer, takingAnswer, probeAnswerBy};
+ghost use Rattle.probe.specs.Contracts.{indexOf, descriptionNumbers, allBits, packing, unpacking, bitAt};
+ghost use Rattle.probe.specs.Contracts.{onesAnswer, placingAnswer, takingAnswer, probeAnswerBy};
 
 // A refusal's number.
 fn refusal_number(x: Refusal) -> u64

@@ -7,7 +7,8 @@ ghost use mathlib.Core.List.{_++_};
 ghost use Prim.Native.Nat.{_+_, _≤_, _<_};
 ghost use lib.ListN.{length};
 ghost use Rattle.receive_lines.specs.Line.{cutLine, endLine};
-ghost use Rattle.receive_stream.specs.Contracts.{room, mostTurns, starting, aheadOf, Fits, ReadyPost, RespondToPre, RespondToPost, EndPost, AdvancePre, AdvancePost};
+ghost use Rattle.receive_stream.specs.Contracts.{room, mostTurns, starting, aheadOf, Fits};
+ghost use Rattle.receive_stream.specs.Contracts.{ReadyPost, RespondToPre, RespondToPost, EndPost, AdvancePre, AdvancePost};
 
 // A record begins with its length and its kind.
 const HEADER: usize = 4;

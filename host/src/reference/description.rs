@@ -1,29 +1,14 @@
 //! Code descriptions: document 01, "Code description", and document 02, request 2.1.
 
+mod code;
+mod mask;
+mod record;
+
+pub use code::Code;
+pub use mask::{count_information, information_indices, is_information};
+pub use record::{record, record_with_start, with_start};
+
 use crate::reference::sizes::{LAYERS, LONGEST_BYTES};
-
-/// What an accepted description says: n, the check width r, the check polynomial, the start of the
-/// check, and the payload size k in bits.
-#[derive(Clone, Copy, Debug, PartialEq, Eq)]
-pub struct Code {
-    pub n: usize,
-    pub r: usize,
-    pub polynomial: u16,
-    pub start: u16,
-    pub k: usize,
-}
-
-impl Code {
-    /// N, the number of indices.
-    pub fn size(&self) -> usize {
-        1 << self.n
-    }
-
-    /// K, the number of information indices.
-    pub fn information(&self) -> usize {
-        self.k + self.r
-    }
-}
 
 /// A code, or the number of the refusal.
 pub type Description = Result<Code, u8>;
@@ -132,67 +117,6 @@ pub fn mask_of(description: &[u8]) -> &[u8] {
     &description[header.expect("a description's kind")..]
 }
 
-/// Bit b of byte m, b = 0 being the least bit, stands for index 8m + b; one marks an information
-/// index.
-pub fn is_information(mask: &[u8], index: usize) -> bool {
-    mask[index / 8] >> (index % 8) & 1 == 1
-}
-
-/// The information indices, ascending.
-pub fn information_indices(mask: &[u8]) -> Vec<usize> {
-    (0..8 * mask.len())
-        .filter(|&index| is_information(mask, index))
-        .collect()
-}
-
-/// K, the information indices counted one by one.
-pub fn count_information(mask: &[u8]) -> usize {
-    (0..8 * mask.len())
-        .filter(|&index| is_information(mask, index))
-        .count()
-}
-
-/// The record of a code, of kind 1; `mask` says of each of the N indices whether it is an
-/// information index.
-pub fn record(n: usize, r: usize, polynomial: u16, mask: &[bool]) -> Vec<u8> {
-    assert_eq!(mask.len(), 1 << n, "one mask bit for each index");
-    let mask: Vec<u8> = mask.chunks(8).map(mask_byte).collect();
-    laid_out(WITHOUT_START, [n as u8, r as u8], &[polynomial], &mask)
-}
-
-/// The same of kind 4.
-pub fn record_with_start(
-    n: usize,
-    r: usize,
-    polynomial: u16,
-    start: u16,
-    mask: &[bool],
-) -> Vec<u8> {
-    with_start(&record(n, r, polynomial, mask), start)
-}
-
-/// The record of kind 4 that has this start, and all else from a description of either kind.
-pub fn with_start(description: &[u8], start: u16) -> Vec<u8> {
-    let sizes = [description[4], description[5]];
-    let words = [word(description, 6), start];
-    laid_out(WITH_START, sizes, &words, mask_of(description))
-}
-
-/// A record of a kind: its length, the kind, n and r, the words that follow them, the mask.
-fn laid_out(kind: u16, sizes: [u8; 2], words: &[u16], mask: &[u8]) -> Vec<u8> {
-    let words: Vec<u8> = words.iter().flat_map(|word| word.to_le_bytes()).collect();
-    let body = [&kind.to_le_bytes()[..], &sizes, &words, mask].concat();
-    let length = 2 + body.len() as u16;
-    [&length.to_le_bytes()[..], &body].concat()
-}
-
-fn mask_byte(ones: &[bool]) -> u8 {
-    ones.iter()
-        .enumerate()
-        .map(|(b, &one)| u8::from(one) << b)
-        .sum()
-}
-
 /// Two bytes from `place` on, little-endian.
 pub fn word(bytes: &[u8], place: usize) -> u16 {
     u16::from(bytes[place]) + 256 * u16::from(bytes[place + 1])
@@ -273,15 +197,6 @@ mod tests {
     }
 
     #[test]
-    fn mask_bits_are_least_first() {
-        let ones: Vec<usize> = (0..16)
-            .filter(|&i| is_information(&[0xE8, 0x01], i))
-            .collect();
-        assert_eq!(ones, [3, 5, 6, 7, 8]);
-        assert_eq!(information_indices(&[0xE8, 0x01]), ones);
-    }
-
-    #[test]
     fn sizes_of_a_code() {
         for d in [&D[..], &D_WITH_START] {
             let code = describe(d).expect("a code");
@@ -290,32 +205,14 @@ mod tests {
         }
     }
 
+    /// Also with a length field whose second byte is another, and those of a larger n.
     #[test]
-    fn a_record_is_laid_out_as_in_the_paper() {
-        let mask: Vec<bool> = (0..8).map(|i| [3, 5, 6, 7].contains(&i)).collect();
-        assert_eq!(record(3, 1, 1, &mask), D);
-        assert_eq!(record_with_start(3, 1, 1, 1, &mask), D_WITH_START);
-        let long = record(10, 11, 0x0621, &last(10, 8 * 64));
-        assert_eq!(long[..8], parse("88 00 01 00 0A 0B 21 06"));
-        assert_eq!(long[8..], [[0x00; 64], [0xFF; 64]].concat());
-        let long = with_start(&long, 0x0456);
-        assert_eq!(long[..10], parse("8A 00 04 00 0A 0B 21 06 56 04"));
-        assert_eq!(long[10..], [[0x00; 64], [0xFF; 64]].concat());
-        assert_eq!(with_start(&long, 0x0456), long);
-    }
-
-    /// Their length has a second byte that is not zero.
-    #[test]
-    fn the_longest_records() {
+    fn the_longest_descriptions() {
         let longest = record(DEEPEST, 16, 0x8005, &[true; LONGEST]);
-        assert_eq!(longest[..8], parse("08 02 01 00 0C 10 05 80"));
-        assert_eq!(longest[8..], [0xFF; LONGEST_BYTES]);
-        accepted(&longest, code(DEEPEST, 16, 0x8005, LONGEST - 16));
-        let longest = with_start(&longest, 0);
-        assert_eq!(longest[..10], parse("0A 02 04 00 0C 10 05 80 00 00"));
-        assert_eq!(longest.len(), LONGEST_DESCRIPTION);
-        accepted(&longest, code(DEEPEST, 16, 0x8005, LONGEST - 16));
-        refused(&with(&longest, 1, &[0]), 2);
+        for d in [longest.clone(), with_start(&longest, 0)] {
+            accepted(&d, code(DEEPEST, 16, 0x8005, LONGEST - 16));
+            refused(&with(&d, 1, &[0]), 2);
+        }
         let beyond = record(DEEPEST + 1, 16, 0x8005, &[true; 2 * LONGEST]);
         refused(&beyond, 4);
         refused(&with_start(&beyond, 0), 4);

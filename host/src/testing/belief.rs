@@ -8,6 +8,7 @@
 mod code;
 mod name;
 mod proof;
+mod request;
 pub mod source;
 mod spec;
 mod texts;
@@ -15,6 +16,7 @@ mod texts;
 pub use code::Code;
 pub use name::{Import, Kind, Name, Place};
 pub use proof::Proof;
+pub use request::{Request, Requests};
 pub use spec::{Definition, Spec};
 pub use texts::Text;
 
@@ -100,6 +102,11 @@ impl Crates {
     /// How many lines of definitions are to be believed.
     pub fn lines(&self) -> usize {
         self.believed().map(|(_, spec)| spec.lines).sum()
+    }
+
+    /// How many of these lines belong to each request.
+    pub fn requests(&self) -> Requests {
+        Requests::sum(self.believed())
     }
 
     /// The definitions that are to be believed and not among these.

@@ -36,4 +36,9 @@ impl Outcomes {
         let each = [self.first, self.later, self.none];
         assert!(each.iter().all(|&count| count >= least), "{self:?}");
     }
+    /// That none was accepted on trial 1, and each of the others came about at least so often.
+    pub fn never_on_trial_1(&self, least: usize) {
+        let others = self.later >= least && self.none >= least;
+        assert!(self.first == 0 && others, "{self:?}");
+    }
 }

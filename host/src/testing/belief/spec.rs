@@ -1,10 +1,13 @@
 //! One file of definitions.
 
 use crate::testing::belief::name::{Import, Place};
+use crate::testing::belief::request::Request;
 
-/// A file's imports and definitions, and how many lines the definitions have.
+/// A file's imports and definitions, what asks for these, and how many lines they have: all but empty
+/// ones, comments and `use` lines.
 #[derive(Debug)]
 pub struct Spec {
+    pub request: Option<Request>,
     pub imports: Vec<Import>,
     pub definitions: Vec<Definition>,
     pub lines: usize,
@@ -21,6 +24,7 @@ impl Spec {
     /// Reads a file; panics where a block of lines defines nothing.
     pub fn read(place: &Place, text: &str) -> Spec {
         let mut spec = Spec {
+            request: Request::of(text),
             imports: Vec::new(),
             definitions: Vec::new(),
             lines: 0,
