@@ -13,9 +13,7 @@ use Rattle.code.specs.Code.{longestDescription}
 use Rattle.code.proofs.Facts.{described}
 use Rattle.flip_decoder.specs.Decode.{decodedWith}
 use Rattle.hearing.specs.Hearing.{combined}
-use Rattle.hearing_state.specs.declared.State.{State}
-use Rattle.hearing_state.specs.State.{descriptionOf, codeOfState}
-use Rattle.hearing_state.specs.Contracts.{stateBy}
+use Rattle.hearing_state.specs.State.{State, stateBy, descriptionOf, codeOfState}
 use Rattle.hearing_state.proofs.States.{state-is}
 use Rattle.hearing_buffer.specs.Lent.{hearingSize}
 use Rattle.hearing_buffer.proofs.InPlace.{code-size, part, parts, state-parts}

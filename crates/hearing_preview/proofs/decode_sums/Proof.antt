@@ -18,8 +18,7 @@ use Rattle.flip_run.specs.Plan.{planOf}
 use Rattle.flip_decoder.specs.Decode.{decodedWith}
 use Rattle.hearing.specs.Hearing.{clippedSums, addedTo}
 use Rattle.hearing.specs.Contracts.{AddPre}
-use Rattle.hearing_state.specs.declared.State.{State}
-use Rattle.hearing_state.specs.State.{descriptionOf}
+use Rattle.hearing_state.specs.State.{State, descriptionOf}
 use Rattle.hearing_buffer.specs.Lent.{hearingSize, stateIn}
 use Rattle.hearing_buffer.proofs.Bytes.{state-at}
 use Rattle.hearing_preview.proofs.Sums as sums
