@@ -44,7 +44,7 @@ use Rattle.decoder.specs.Decoder.{Decoder, single, sets, mostLimit, WellFormed,
 use Rattle.decoder.specs.Claims.{Allowed}
 use Rattle.decoder.proofs.Decoder.{spelt-out}
 use Rattle.decoder.proofs.Examples.{wideD, wideCode, vector, pairV, usedUpV, bitsOn, ten, set-examples}
-use Rattle.decoder_demands.specs.Agreement.{skippedOver, lowestOfEach, SameRun}
+use Rattle.decoder_demands.specs.Agreement.{skippedOver, lowestOfEach, SameRun, Agree}
 use Rattle.decoder_demands.specs.Demand3.{BothDecode}
 use Rattle.decoder_demands.specs.Noiseless.{Received}
 use Rattle.decoder_demands.specs.Larger.{single-more, sets-more}
@@ -54,7 +54,7 @@ use Rattle.decoder_demands.proofs.Noiseless.{noiseless, noiseless-decod
 use Rattle.decoder_demands.proofs.Checked.{only-checked, after-all}
 use Rattle.decoder_demands.proofs.Larger.{stays-accepted}
 
-describes : describe wideD ≡ Coding wideCode
+pub describes : describe wideD ≡ Coding wideCode
 describes = set-examples 0 .described
 
 same-code : {c : Code} → describe wideD ≡ Coding c → c ≡ wideCode
@@ -73,13 +73,16 @@ one-kind e e′ = sym (ap kindOf e) ∙ ap kindOf e′
 -- ---- agreement: from what full decoding answers, which is computed, follows what half restart and restarted decoding do
 
 -- a run, if full decoding refuses nothing before 16
-pub run-on : (p : Decoder) (channel : List ℕ) {z : Decoded × List ℕ} → decodedAs p Root wideD channel (0 ∷ []) ≡ z → kindOf z < 2 → SameRun p wideD wideCode channel 1
-run-on p channel e few =
+pub run-in : {p : Decoder} {channel : List ℕ} → Agree p wideD channel 1 → {z : Decoded × List ℕ} → decodedAs p Root wideD channel (0 ∷ []) ≡ z → kindOf z < 2 → SameRun p wideD wideCode channel 1
+run-in {p} {channel} agree e few =
     ⊎-elim (λ r. absurd (omega (arith, one-kind e (r .1 Root (0 ∷ []) refl), few)))
-    (λ u. subst (λ (c : Code). SameRun p wideD c channel 1) (same-code (u .1)) (u .2)) (agreement p wideD channel 1)
+    (λ u. subst (λ (c : Code). SameRun p wideD c channel 1) (same-code (u .1)) (u .2)) agree
+
+pub run-on : (p : Decoder) (channel : List ℕ) {z : Decoded × List ℕ} → decodedAs p Root wideD channel (0 ∷ []) ≡ z → kindOf z < 2 → SameRun p wideD wideCode channel 1
+run-on p channel e few = run-in (agreement p wideD channel 1) e few
 
 -- if full decoding accepts, every restart does, on that trial and with that payload
-accepted-run : {p : Decoder} {channel : List ℕ} {t s : ℕ} {payload : List ℕ} (x : SameRun p wideD wideCode channel 1) → decodedAs p Root wideD channel (0 ∷ []) ≡ (Accepted t s, payload)
+pub accepted-run : {p : Decoder} {channel : List ℕ} {t s : ℕ} {payload : List ℕ} (x : SameRun p wideD wideCode channel 1) → decodedAs p Root wideD channel (0 ∷ []) ≡ (Accepted t s, payload)
     → (x .made ≡ t) × ((r : Restart) (byte : ℕ) → decodedAs p r wideD channel (byte ∷ []) ≡ (Accepted t (x .steps r), payload))
 accepted-run {t = t} {s = s} x e =
     ⊎-elim
@@ -249,11 +252,11 @@ no-q byte = let both = both-decode 1 byte byte (omega arith) (omega arith) in om
 abbrev noiseless80 : List ℕ
 noiseless80 = 0xFF ∷ 0x01 ∷ 0xFF ∷ 0x01 ∷ 0x01 ∷ 0xFF ∷ 0x01 ∷ 0xFF ∷ []
 
-encodes-80 : encoded wideD (0x80 ∷ []) (0 ∷ []) ≡ (Done, 0xA5 ∷ [])
+pub encodes-80 : encoded wideD (0x80 ∷ []) (0 ∷ []) ≡ (Done, 0xA5 ∷ [])
 unfolding judge refusedOr table number onesBelow packed unpacked describeUpTo checkOf covers parity transformed placed codeword encodedBy encoded
 encodes-80 = refl
 
-small : (m : ℕ) → getD (0x80 ∷ []) m 0 < 256
+pub small : (m : ℕ) → getD (0x80 ∷ []) m 0 < 256
 small zero = omega arith
 small (suc m) = omega arith
 

@@ -24,8 +24,7 @@ use Rattle.code.specs.Code.{codeLength}
 use Rattle.channel.specs.Channel.{channelValue, firstOutside, channelRefusals}
 use Rattle.channel.proofs.Judge.{fine-channel}
 use Rattle.channel.proofs.Outside.{each-inside}
-use Rattle.hearing.specs.declared.Hearing.{Hearing}
-use Rattle.hearing.specs.Hearing.{combined, clippedSums, addedTo, addRefusals, zeroFrom, isHearing}
+use Rattle.hearing.specs.Hearing.{Hearing, combined, clippedSums, addedTo, addRefusals, zeroFrom, isHearing}
 use Rattle.hearing.specs.Contracts.{AddPre}
 
 pub from-most : (c : Code) (count : ℕ) → zeroFrom c count ≤ codeLength c

@@ -4,7 +4,7 @@ use lib.IntN.{natAbs}
 use lib.ListN.{length, getD}
 use mathlib.Core.List.{List}
 use Rattle.channel.specs.Channel.{channelValue}
-use Rattle.hearing.specs.declared.Hearing.{Hearing}
+use Rattle.hearing.specs.Hearing.{Hearing}
 
 -- values to which a vector may be added: at least as many as it has, and all lie in −31..31
 pub record AddPre (values channel : List ℕ) : Type 0 where

@@ -14,7 +14,13 @@ use Rattle.arrays.specs.Padded.{padded, allZero}
 use Rattle.code.specs.declared.Code.{Code}
 use Rattle.code.specs.Code.{codeLength}
 use Rattle.channel.specs.Channel.{channelValue, byteOf, clip, firstOutside, channelRefusals}
-use Rattle.hearing.specs.declared.Hearing.{Hearing}
+
+-- the vectors of a frame, added up
+pub record Hearing : Type 0 where
+  -- the combined values: as many as the longest code has, and zeros after those of the code
+  pub values : List ℕ
+  -- how many vectors they are of
+  pub count : ℕ
 
 -- a hearing by its values and its count
 abbrev pub hearingOf : List ℕ → ℕ → Hearing

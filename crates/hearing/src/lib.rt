@@ -1,40 +1,18 @@
-// The combined values of a frame that is heard more than once, and the count of its hearings.
-use arrays::ByteArray;
-use arrays::SIZE;
+// The combined values of a frame that is heard more than once: sums, the refusals of an add, and the test of values and count.
 use code::Code;
 use refusal::Judgement;
 use refusal::Refusal;
 ghost use mathlib.Core.Path.{_≡_};
-ghost use mathlib.Core.Bool.{true};
 ghost use Prim.Native.Nat.{_^_, _≤_};
 ghost use lib.Dec.{eqb};
 ghost use lib.IntN.{natAbs};
 ghost use lib.ListN.{length, take};
 ghost use Rattle.laws.specs.Contracts.{splice};
-ghost use Rattle.refusal.specs.declared.Judgement.the-variants.{Fine};
 ghost use Rattle.refusal.specs.Judge.{judge};
 ghost use Rattle.arrays.specs.Sizes.{deepest};
 ghost use Rattle.channel.specs.Channel.{channelValue, firstOutside};
-ghost use Rattle.hearing.specs.Hearing.{fresh, clippedSum, clippedSums, addedTo, addRefusals, zeroFrom, isHearing};
+ghost use Rattle.hearing.specs.Hearing.{clippedSum, clippedSums, addRefusals, zeroFrom, isHearing};
 ghost use Rattle.hearing.specs.Contracts.{AddPre, hearingBy};
-
-// The vectors of a frame, added up.
-pub struct Hearing {
-    // The combined values: as many as the longest code has, and zeros after those of the code.
-    pub values: ByteArray,
-    // How many vectors they are of.
-    pub count: u8,
-}
-
-// A hearing before its first add.
-pub fn fresh() -> Hearing
-    ensures { λ h. ⌜ h ≡ fresh ⌝ }
-{
-    Hearing {
-        values: [0; SIZE],
-        count: 0,
-    }
-}
 
 // The sum of two values, clamped to −31..31. The sum has 62 added while it is clamped, so that it is not negative.
 fn clipped_sum(a: u8, b: u8) -> u8
@@ -56,21 +34,6 @@ pub fn add_values(values: &mut [u8], channel: &[u8])
     while i < channel.len() {
         values[i] = clipped_sum(values[i], channel[i]);
         i += 1;
-    }
-}
-
-// Adds a vector that no refusal applies to.
-pub fn add(code: Code, hearing: Hearing, channel: &[u8]) -> Hearing
-    requires { ⌜ (code .n ≤ deepest)
-        × (isHearing code hearing ≡ true)
-        × (judge (addRefusals code (hearing .count) (now channel)) ≡ Fine) ⌝ }
-    ensures { λ h. ⌜ h ≡ addedTo code hearing (now (channel .entry)) ⌝ }
-{
-    let mut values = hearing.values;
-    add_values(&mut values, channel);
-    Hearing {
-        values,
-        count: hearing.count + 1,
     }
 }
 

@@ -1,33 +1,20 @@
--- The bytes of a state: what was written is read back.
-use mathlib.Core.Path.{_≡_, refl, sym, ap, _∙_}
+-- The bytes of a state: what was written is read back, and what open and clear write.
+use mathlib.Core.Path.{_≡_, refl, sym, ap, ap₂, _∙_}
 use mathlib.Core.Bool.{Bool, cond}
 use mathlib.Core.List.{List, [], _∷_, _++_, append-assoc}
-use Prim.Native.Nat.{ℕ, _+_, _^_}
+use Prim.Native.Nat.{ℕ, suc, _+_, _-_, _^_, _≤_}
 use native.Mathlib.Omega.{arith}
 use borrow.Author.Tests.{eq-eqb}
-use lib.ListN.{length, take, drop, set, length-append, take-append-drop}
+use lib.ListN.{length, take, drop, replicate, length-append, take-append-drop, replicate-append-replicate}
 use lib.Seq.{take-at, drop-at, getD-at, drop-cons, append-snoc}
 use Rattle.laws.specs.Contracts.{splice}
-use Rattle.laws.proofs.Segment.{set-splice, splice-next, splice-whole, length-splice}
+use Rattle.laws.proofs.Segment.{segment-splice, length-splice}
 use Rattle.arrays.specs.Sizes.{deepest}
 use Rattle.code.specs.Code.{longestDescription}
-use Rattle.hearing_state.specs.declared.State.{State}
-use Rattle.hearing_state.specs.State.{noState}
+use Rattle.hearing.specs.Hearing.{fresh}
+use Rattle.hearing_state.specs.State.{State, stateOf, noState, withHearing}
 use Rattle.hearing_buffer.specs.Lent.{hearingSize, bytesOf, stateAt, stateIn}
 use Rattle.hearing_buffer.specs.Claims.{ReadWritten, WrittenRead}
-
--- description, count and values written one after the other
-pub written : (b d v : List ℕ) (x : ℕ) → length d ≡ longestDescription → length v ≡ 2 ^ deepest → length b ≡ hearingSize
-    → splice (set (splice b 0 d) longestDescription x) (1 + longestDescription) v ≡ d ++ (x ∷ v)
-written b d v x nd nv nb =
-    let one : List ℕ = x ∷ [] in
-    let whole : length ((d ++ one) ++ v) ≡ length b = omega (arith, length-append (d ++ one) v, length-append d one) in
-    ap (λ (w : List ℕ). splice w (1 + longestDescription) v)
-    (set-splice (splice b 0 d) longestDescription x (omega (arith, length-splice b 0 d longestDescription nd (omega arith)))
-    ∙ splice-next b 0 d one longestDescription 1 nd refl (omega arith))
-    ∙ splice-next b 0 (d ++ one) v (1 + longestDescription) (2 ^ deepest) (omega (arith, length-append d one)) nv (omega arith)
-    ∙ splice-whole b ((d ++ one) ++ v) whole
-    ∙ append-assoc d one v
 
 pub size-of : (s : State) → length (s .description) ≡ longestDescription → length (s .hearing .values) ≡ 2 ^ deepest → length (bytesOf s) ≡ hearingSize
 size-of s nd nv = omega (arith, length-append (s .description) (s .hearing .count ∷ s .hearing .values))
@@ -53,3 +40,23 @@ pub written-read : WrittenRead
 written-read b nb =
     ap bytesOf (state-at b nb) ∙ ap (λ (l : List ℕ). take longestDescription b ++ l) (sym (drop-cons b longestDescription 0 (omega arith)))
     ∙ take-append-drop longestDescription b
+
+-- ---- what open and clear write
+
+-- a description at the beginning of a buffer, and zeros after it, are the bytes of its fresh hearing
+pub fresh-bytes : (b d : List ℕ) → length b ≡ hearingSize → length d ≤ longestDescription
+    → take (length d) (splice b 0 d) ++ replicate (length (splice b 0 d) - length d) 0 ≡ bytesOf (stateOf d fresh)
+fresh-bytes b d nb room =
+    let fits : 0 + length d ≤ length b = omega arith in
+    let rest : ℕ = longestDescription - length d in
+    let many : length (splice b 0 d) - length d ≡ rest + suc (2 ^ deepest - 0) = omega (arith, length-splice b 0 d (length d) refl fits) in
+    ap₂ (λ (l : List ℕ) (k : ℕ). l ++ replicate k 0) (segment-splice b 0 d (length d) refl fits) many
+    ∙ ap (λ (l : List ℕ). d ++ l) (sym (replicate-append-replicate rest (suc (2 ^ deepest - 0)) 0))
+    ∙ sym (append-assoc d (replicate rest 0) (replicate (suc (2 ^ deepest - 0)) 0))
+
+-- zeros after the description are the bytes of a state that is cleared
+pub clear-bytes : (b : List ℕ) → length b ≡ hearingSize
+    → take longestDescription b ++ replicate (length b - longestDescription) 0 ≡ bytesOf (withHearing (stateIn b) fresh)
+clear-bytes b nb =
+    let many : length b - longestDescription ≡ suc (2 ^ deepest - 0) = omega arith in
+    ap (λ (k : ℕ). take longestDescription b ++ replicate k 0) many ∙ ap (λ (s : State). bytesOf (withHearing s fresh)) (sym (state-at b nb))

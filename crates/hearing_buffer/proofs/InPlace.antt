@@ -9,15 +9,11 @@ use borrow.Rule.Slice.PartMut.{putMid}
 use lib.Dec.{eqb}
 use lib.ListN.{length, getD, take, drop, set, length-drop, drop-of-length-le}
 use lib.Seq.{take-all, take-suc, append-snoc, set-at, length-take-le}
-use Rattle.refusal.specs.declared.Judgement.the-variants.{Fine}
 use Rattle.code.specs.declared.Code.{Code}
-use Rattle.code.specs.declared.Description.{Description}
-use Rattle.code.specs.declared.Description.the-variants.{Accepted, Refused}
-use Rattle.code.specs.Description.{onDescription}
+use Rattle.code.specs.declared.Description.the-variants.{Accepted}
 use Rattle.code.specs.Code.{longestDescription}
-use Rattle.hearing_state.specs.declared.Heard.{Heard}
-use Rattle.hearing_state.specs.State.{noState, codeOfState, refusedIn}
-use Rattle.hearing_state.specs.Contracts.{stateBy, StatePre}
+use Rattle.hearing_state.specs.State.{stateBy, noState, codeOfState}
+use Rattle.hearing_state.specs.Contracts.{StatePre}
 use Rattle.hearing_state.proofs.States.{no-code}
 use Rattle.hearing_buffer.specs.Lent.{hearingSize, stateAt, stateIn}
 use Rattle.hearing_buffer.proofs.Bytes.{state-at}
@@ -32,14 +28,6 @@ code-size b c = at (eqb (length b) hearingSize) refl
         let refused = sym no-code ∙ f in
         let z : _≡_ {A = ℕ} 0 1 = cc in
         absurd (omega arith)
-
--- a buffer on whose state an operation is not refused has the right size
-pub fine-size : (b : List ℕ) (go : Code → Heard) → onDescription (codeOfState (stateIn b)) (refusedIn (stateIn b)) go .judgement ≡ Fine → length b ≡ hearingSize
-fine-size b go = by (codeOfState (stateIn b)) refl
-  where
-    by : (a : Description) → codeOfState (stateIn b) ≡ a → onDescription a (refusedIn (stateIn b)) go .judgement ≡ Fine → length b ≡ hearingSize
-    by (Accepted c) e f = code-size b c e
-    by (Refused x) e f = let z : _≡_ {A = ℕ} 0 1 = cc in absurd (omega arith)
 
 module _ (b : List ℕ) (size : length b ≡ hearingSize) where
   abbrev pub valuesAt : ℕ

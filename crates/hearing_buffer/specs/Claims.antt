@@ -5,10 +5,10 @@ use Prim.Native.Nat.{ℕ, _^_}
 use lib.ListN.{length}
 use Rattle.arrays.specs.Sizes.{deepest}
 use Rattle.code.specs.Code.{longestDescription}
-use Rattle.hearing_state.specs.declared.State.{State}
+use Rattle.hearing_state.specs.State.{State}
 use Rattle.hearing_buffer.specs.Lent.{hearingSize, bytesOf, stateIn}
 
--- a state that was written is read back, if its arrays have the sizes of their types: `read-written`
+-- a state that was written is read back, if its lists have the sizes of a buffer's parts: `read-written`
 abbrev pub ReadWritten : Type 0
 ReadWritten = (s : State) → length (s .description) ≡ longestDescription → length (s .hearing .values) ≡ 2 ^ deepest → stateIn (bytesOf s) ≡ s
 

@@ -6,13 +6,13 @@ use Prim.Native.Nat.{ℕ, _+_, _^_}
 use lib.Dec.{eqb}
 use lib.ListN.{length, getD, take, drop}
 use Rattle.refusal.specs.declared.Refusal.the-variants.{Alone}
+use Rattle.refusal.specs.declared.Judgement.{Judgement}
 use Rattle.refusal.specs.Judge.{refusedOr}
 use Rattle.arrays.specs.Sizes.{deepest}
 use Rattle.code.specs.Code.{longestDescription}
+use Rattle.flip_trial.specs.declared.Restart.the-variants.{Root, After}
 use Rattle.flip_run.specs.declared.Decoded.{Decoded}
-use Rattle.hearing_state.specs.declared.State.{State}
-use Rattle.hearing_state.specs.declared.Heard.{Heard}
-use Rattle.hearing_state.specs.State.{noState, opened, added, cleared, hearingFull, hearingRestarted}
+use Rattle.hearing_state.specs.State.{State, stateBy, noState, opened, added, cleared, decodedHeldWith}
 use Rattle.hearing_buffer.specs.declared.Kept.{Kept}
 use Rattle.hearing_buffer.specs.declared.Kept.the-variants.{Done, Refused}
 
@@ -26,35 +26,32 @@ bytesOf s = s .description ++ (s .hearing .count ∷ s .hearing .values)
 
 -- the state that has these bytes, as many as the size of a buffer
 abbrev pub stateAt : List ℕ → State
-stateAt b = record {
-  description = take longestDescription b;
-  hearing = record { values = drop (1 + longestDescription) b; count = getD b longestDescription 0 };
-}
+stateAt b = stateBy (take longestDescription b) (getD b longestDescription 0) (drop (1 + longestDescription) b)
 
 -- the state in a buffer; no state if the buffer has another size
 abbrev pub stateIn : List ℕ → State
 stateIn b = cond (eqb (length b) hearingSize) (stateAt b) noState
 
 -- what a call answers, with the count of hearings, and what the buffer holds afterwards: a refused call changes nothing
-abbrev pub kept : Heard → List ℕ → Kept × List ℕ
-kept a b = refusedOr (a .judgement) (λ x. (Refused x, b)) (Done (a .state .hearing .count), bytesOf (a .state))
+abbrev pub answerIn : Judgement × State → List ℕ → Kept × List ℕ
+answerIn a b = refusedOr (a .0) (λ x. (Refused x, b)) (Done (a .1 .hearing .count), bytesOf (a .1))
 
 -- open: what a buffer of the right size held before does not matter
 abbrev pub openedIn : List ℕ → List ℕ → Kept × List ℕ
-openedIn d b = cond (eqb (length b) hearingSize) (kept (opened d) b) (Refused (Alone 40), b)
+openedIn d b = cond (eqb (length b) hearingSize) (answerIn (opened d) b) (Refused (Alone 40), b)
 
 -- add
 abbrev pub addedIn : List ℕ → List ℕ → Kept × List ℕ
-addedIn b channel = kept (added (stateIn b) channel) b
+addedIn b channel = answerIn (added (stateIn b) channel) b
 
 -- clear
 abbrev pub clearedIn : List ℕ → Kept × List ℕ
-clearedIn b = kept (cleared (stateIn b)) b
+clearedIn b = answerIn (cleared (stateIn b)) b
 
 -- decode with each later trial repeated from the root: the state is only read
 abbrev pub fullIn : List ℕ → ℕ → List ℕ → Decoded × List ℕ
-fullIn b limit output = hearingFull (stateIn b) limit output
+fullIn b limit output = decodedHeldWith Root (stateIn b) limit output
 
 -- decode with each later trial resumed after its flipped index
 abbrev pub restartedIn : List ℕ → ℕ → List ℕ → Decoded × List ℕ
-restartedIn b limit output = hearingRestarted (stateIn b) limit output
+restartedIn b limit output = decodedHeldWith After (stateIn b) limit output

@@ -4,19 +4,19 @@ use code::Code;
 use code::Description;
 use code::LONGEST;
 use flip_run::Decoded;
-use flip_run::Plan;
+use flip_run::Terms;
 use flip_trial::Restart;
-use hearing::Hearing;
-use hearing_state::Heard;
-use hearing_state::State;
 use refusal::Judgement;
 use refusal::Refusal;
 ghost use mathlib.Core.Path.{_≡_};
-ghost use lib.ListN.{length};
-ghost use Rattle.flip_decoder.specs.Decode.{decodedWith};
-ghost use Rattle.hearing.specs.Hearing.{combined};
-ghost use Rattle.hearing_state.specs.State.{descriptionOf, codeOfState, addedUnder, hearingWith};
-ghost use Rattle.hearing_buffer.specs.Lent.{hearingSize, bytesOf, stateAt, stateIn, kept, openedIn, addedIn, clearedIn, fullIn, restartedIn};
+ghost use mathlib.Core.List.{_++_};
+ghost use Prim.Native.Nat.{_-_, _≤_};
+ghost use lib.ListN.{length, take, replicate};
+ghost use Rattle.code.specs.Code.{longestDescription};
+ghost use Rattle.decoder.specs.Decoder.{single, decodedAs};
+ghost use Rattle.hearing.specs.Hearing.{fresh, combined};
+ghost use Rattle.hearing_state.specs.State.{stateOf, descriptionOf, codeOfState, addedUnder, decodedHeldWith};
+ghost use Rattle.hearing_buffer.specs.Lent.{hearingSize, bytesOf, stateIn, answerIn, openedIn, addedIn, clearedIn, fullIn, restartedIn};
 
 // What a call on a state in a buffer answers.
 pub enum Kept {
@@ -32,73 +32,44 @@ pub const VALUES_AT: usize = LONGEST + 1;
 // The size of a buffer.
 const HEARING_SIZE: usize = VALUES_AT + SIZE;
 
-// The state in a buffer of the right size.
-fn read_at(buffer: &[u8]) -> State
-    requires { ⌜ length (now buffer) ≡ hearingSize ⌝ }
-    ensures { λ s. ⌜ s ≡ stateAt (now (buffer .entry)) ⌝ }
+// Puts zeros from an index on.
+fn clear_from(buffer: &mut [u8], start: usize)
+    requires { ⌜ start ≤ length (now buffer) ⌝ }
+    ensures { λ _. ⌜ now (buffer .exit)
+        ≡ take start (now (buffer .entry)) ++ replicate (length (now (buffer .entry)) - start) 0 ⌝ }
 {
-    let mut description = [0u8; LONGEST];
-    arrays::copy(buffer, 0, &mut description, 0, LONGEST);
-    let mut values = [0u8; SIZE];
-    arrays::copy(buffer, VALUES_AT, &mut values, 0, SIZE);
-    let hearing = Hearing {
-        values,
-        count: buffer[LONGEST],
-    };
-    State {
-        description,
-        hearing,
+    let count = buffer.len() - start;
+    let mut j = 0;
+    while j < count {
+        buffer[start + j] = 0;
+        j += 1;
     }
 }
 
-// The state in a buffer; no state if its size is another.
-fn read(buffer: &[u8]) -> State
-    ensures { λ s. ⌜ s ≡ stateIn (now (buffer .entry)) ⌝ }
+// Writes the description of a fresh hearing, and zeros after it.
+fn write_fresh(description: &[u8], buffer: &mut [u8])
+    requires { ⌜ (length (now description) ≤ longestDescription)
+        × (length (now buffer) ≡ hearingSize) ⌝ }
+    ensures { λ _. ⌜ now (buffer .exit) ≡ bytesOf (stateOf (now (description .entry)) fresh) ⌝ }
 {
-    if buffer.len() == HEARING_SIZE {
-        return read_at(buffer);
-    }
-    hearing_state::no_state()
-}
-
-// Writes the bytes of a state.
-fn write(state: State, buffer: &mut [u8])
-    requires { ⌜ length (now buffer) ≡ hearingSize ⌝ }
-    ensures { λ _. ⌜ now (buffer .exit) ≡ bytesOf state ⌝ }
-{
-    let hearing = state.hearing;
-    arrays::copy(&state.description, 0, buffer, 0, LONGEST);
-    buffer[LONGEST] = hearing.count;
-    arrays::copy(&hearing.values, 0, buffer, VALUES_AT, SIZE);
-}
-
-// Writes the state that a call leaves, if the call is not refused.
-fn keep(heard: Heard, buffer: &mut [u8]) -> Kept
-    requires { ⌜ (heard .judgement ≡ Judgement.Fine → length (now buffer) ≡ hearingSize) ⌝ }
-    ensures { λ a. ⌜ (a, now (buffer .exit)) ≡ kept heard (now (buffer .entry)) ⌝ }
-{
-    let judgement = heard.judgement;
-    match judgement {
-        Judgement::Fine => {
-            let state = heard.state;
-            let hearing = state.hearing;
-            write(state, buffer);
-            Kept::Done {
-                count: hearing.count,
-            }
-        }
-        Judgement::Refused(x) => Kept::Refused(x),
-    }
+    arrays::copy(description, 0, buffer, 0, description.len());
+    clear_from(buffer, description.len());
 }
 
 // Opens a hearing in a buffer.
 pub fn open(description: &[u8], buffer: &mut [u8]) -> Kept
     ensures { λ a. ⌜ (a, now (buffer .exit)) ≡ openedIn (now (description .entry)) (now (buffer .entry)) ⌝ }
 {
-    if buffer.len() == HEARING_SIZE {
-        return keep(hearing_state::open(description), buffer);
+    if buffer.len() != HEARING_SIZE {
+        return Kept::Refused(Refusal::Alone(40));
     }
-    Kept::Refused(Refusal::Alone(40))
+    match code::read_description(description) {
+        Description::Accepted(_) => {
+            write_fresh(description, buffer);
+            Kept::Done { count: 0 }
+        }
+        Description::Refused(x) => Kept::Refused(x),
+    }
 }
 
 // The code of the state in a buffer, or refusal 40.
@@ -115,7 +86,7 @@ pub fn code_in(buffer: &[u8]) -> Description
 fn add_under(code: Code, buffer: &mut [u8], channel: &[u8]) -> Kept
     requires { ⌜ codeOfState (stateIn (now buffer)) ≡ Description.Accepted code ⌝ }
     ensures { λ a. ⌜ (a, now (buffer .exit))
-        ≡ kept (addedUnder code (stateIn (now (buffer .entry))) (now (channel .entry))) (now (buffer .entry)) ⌝ }
+        ≡ answerIn (addedUnder code (stateIn (now (buffer .entry))) (now (channel .entry))) (now (buffer .entry)) ⌝ }
 {
     let count = buffer[LONGEST];
     match hearing::judge_add(code, count, channel) {
@@ -138,30 +109,35 @@ pub fn add(buffer: &mut [u8], channel: &[u8]) -> Kept
     }
 }
 
-// Clears the hearing in a buffer.
+// Clears the hearing in a buffer: its count, and its values, which follow the count.
 pub fn clear(buffer: &mut [u8]) -> Kept
     ensures { λ a. ⌜ (a, now (buffer .exit)) ≡ clearedIn (now (buffer .entry)) ⌝ }
 {
-    let heard = hearing_state::clear(read(buffer));
-    keep(heard, buffer)
+    match code_in(buffer) {
+        Description::Accepted(_) => {
+            clear_from(buffer, LONGEST);
+            Kept::Done { count: 0 }
+        }
+        Description::Refused(x) => Kept::Refused(x),
+    }
 }
 
 // Decodes the values in a buffer under the code of its state.
-fn decode_under(plan: Plan, code: Code, buffer: &[u8], output: &mut [u8]) -> Decoded
+fn decode_under(terms: Terms, code: Code, buffer: &[u8], output: &mut [u8]) -> Decoded
     requires { ⌜ codeOfState (stateIn (now buffer)) ≡ Description.Accepted code ⌝ }
     ensures { λ a. ⌜ (a, now (output .exit))
-        ≡ decodedWith plan (descriptionOf (stateIn (now (buffer .entry))))
+        ≡ decodedAs (single (terms .limit)) (terms .restart) (descriptionOf (stateIn (now (buffer .entry))))
         (combined code (stateIn (now (buffer .entry)) .hearing)) (now (output .entry)) ⌝ }
 {
-    hearing_state::decode_values(plan, code, &buffer[..LONGEST], &buffer[VALUES_AT..], output)
+    hearing_state::decode_values(terms, code, &buffer[..LONGEST], &buffer[VALUES_AT..], output)
 }
 
 // Decodes the hearing in a buffer. Its values are not copied.
-fn decode(plan: Plan, buffer: &[u8], output: &mut [u8]) -> Decoded
-    ensures { λ a. ⌜ (a, now (output .exit)) ≡ hearingWith plan (stateIn (now (buffer .entry))) (now (output .entry)) ⌝ }
+fn decode(terms: Terms, buffer: &[u8], output: &mut [u8]) -> Decoded
+    ensures { λ a. ⌜ (a, now (output .exit)) ≡ decodedHeldWith (terms .restart) (stateIn (now (buffer .entry))) (terms .limit) (now (output .entry)) ⌝ }
 {
     match code_in(buffer) {
-        Description::Accepted(code) => decode_under(plan, code, buffer, output),
+        Description::Accepted(code) => decode_under(terms, code, buffer, output),
         Description::Refused(x) => Decoded::Refused(x),
     }
 }
@@ -170,7 +146,7 @@ fn decode(plan: Plan, buffer: &[u8], output: &mut [u8]) -> Decoded
 pub fn decode_full(buffer: &[u8], limit: u32, output: &mut [u8]) -> Decoded
     ensures { λ a. ⌜ (a, now (output .exit)) ≡ fullIn (now (buffer .entry)) limit (now (output .entry)) ⌝ }
 {
-    let full = Plan {
+    let full = Terms {
         restart: Restart::Root,
         limit,
     };
@@ -181,7 +157,7 @@ pub fn decode_full(buffer: &[u8], limit: u32, output: &mut [u8]) -> Decoded
 pub fn decode_restarted(buffer: &[u8], limit: u32, output: &mut [u8]) -> Decoded
     ensures { λ a. ⌜ (a, now (output .exit)) ≡ restartedIn (now (buffer .entry)) limit (now (output .entry)) ⌝ }
 {
-    let restarted = Plan {
+    let restarted = Terms {
         restart: Restart::After,
         limit,
     };

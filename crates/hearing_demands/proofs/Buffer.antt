@@ -18,12 +18,10 @@ use Rattle.code.specs.declared.Description.the-variants.{Accepted as Coding}
 use Rattle.code.specs.Description.{describe}
 use Rattle.code.specs.Code.{longestDescription}
 use Rattle.hearing.specs.Hearing.{fresh, addRefusals}
-use Rattle.hearing_state.specs.declared.State.{State}
-use Rattle.hearing_state.specs.declared.Heard.{Heard}
-use Rattle.hearing_state.specs.State.{stateOf, opened, added, cleared}
+use Rattle.hearing_state.specs.State.{State, stateOf, opened, added, cleared}
 use Rattle.hearing_buffer.specs.declared.Kept.{Kept as Answer}
 use Rattle.hearing_buffer.specs.declared.Kept.the-variants as keep
-use Rattle.hearing_buffer.specs.Lent.{hearingSize, bytesOf, stateIn, kept, openedIn}
+use Rattle.hearing_buffer.specs.Lent.{hearingSize, bytesOf, stateIn, answerIn, openedIn}
 use Rattle.hearing_buffer.proofs.Bytes.{size-of, read-written}
 use Rattle.hearing_demands.specs.Repeats.{Call, add, clear, after, bufferAfter, BufferAfter}
 use Rattle.hearing_demands.proofs.Descriptions.{description-room, opened-is}
@@ -47,15 +45,15 @@ module _ (d : List ℕ) (c : Code) (code : describe d ≡ Coding c) where
       record { size = size-of s (sizes .0) (sizes .1); reads = read-written s (sizes .0) (sizes .1) }
 
   -- a call leaves its state in the buffer, or the buffer as it was
-  left-in : (b : List ℕ) (a : Heard) {vectors : List (List ℕ)} → length b ≡ hearingSize → ((x : Refusal) → a .judgement ≡ Refused x → a .state ≡ stateIn b)
-      → Invariant d c code (a .state) vectors → InBuffer (kept a b .1) (a .state)
+  left-in : (b : List ℕ) (a : Judgement × State) {vectors : List (List ℕ)} → length b ≡ hearingSize → ((x : Refusal) → a .0 ≡ Refused x → a .1 ≡ stateIn b)
+      → Invariant d c code (a .1) vectors → InBuffer (answerIn a b .1) (a .1)
   unfolding refusedOr
-  left-in b a nb same k = go (a .judgement) refl
+  left-in b a nb same k = go (a .0) refl
     where
       by : Judgement → Answer × List ℕ
-      by j = refusedOr j (λ x. (keep.Refused x, b)) (keep.Done (a .state .hearing .count), bytesOf (a .state))
+      by j = refusedOr j (λ x. (keep.Refused x, b)) (keep.Done (a .1 .hearing .count), bytesOf (a .1))
 
-      go : (j : Judgement) → a .judgement ≡ j → InBuffer (by j .1) (a .state)
+      go : (j : Judgement) → a .0 ≡ j → InBuffer (by j .1) (a .1)
       go Fine e = written k
       go (Refused x) e = record { size = nb; reads = sym (same x e) }
 
@@ -81,12 +79,12 @@ module _ (d : List ℕ) (c : Code) (code : describe d ≡ Coding c) where
   opened-in : (b : List ℕ) → length b ≡ hearingSize → openedIn d b .1 ≡ bytesOf (stateOf d fresh)
   unfolding refusedOr
   opened-in b nb =
-      ap (λ (t : Bool). cond t (kept (opened d) b) (keep.Refused (Alone 40), b) .1) (eq-eqb (length b) hearingSize nb)
-      ∙ ap (λ (a : Heard). kept a b .1) (opened-is d c code)
+      ap (λ (t : Bool). cond t (answerIn (opened d) b) (keep.Refused (Alone 40), b) .1) (eq-eqb (length b) hearingSize nb)
+      ∙ ap (λ (a : Judgement × State). answerIn a b .1) (opened-is d c code)
 
 pub buffer-after : BufferAfter
 buffer-after d b c calls code nb =
     let k = kept-fresh d c code {s = stateOf d fresh} refl in
     ap (λ (x : List ℕ). stateIn (bufferAfter x calls)) (opened-in d c code b nb)
     ∙ step d c code calls (in-after d c code calls) (written d c code k) k
-    ∙ ap (λ (a : Heard). after (a .state) calls) (sym (opened-is d c code))
+    ∙ ap (λ (a : Judgement × State). after (a .1) calls) (sym (opened-is d c code))

@@ -19,21 +19,19 @@ use Rattle.code.proofs.WellFormed.{well-formed-exactly}
 use Rattle.code.proofs.Facts.{described}
 use Rattle.code.proofs.TwoKinds.{fields-there}
 use Rattle.code.proofs.Room.{description-most}
-use Rattle.flip_run.specs.declared.Plan.{Plan}
+use Rattle.flip_trial.specs.declared.Restart.{Restart}
 use Rattle.flip_run.specs.declared.Decoded.the-variants.{Refused}
-use Rattle.flip_decoder.specs.Decode.{decodedWith}
-use Rattle.hearing.specs.declared.Hearing.{Hearing}
-use Rattle.hearing.specs.Hearing.{combined, fresh, isHearing}
-use Rattle.hearing_state.specs.declared.State.{State}
-use Rattle.hearing_state.specs.State.{stateOf, noState, descriptionOf, codeOfState, heard, refusedIn, opened, hearingWith}
+use Rattle.decoder.specs.Decoder.{single, decodedAs}
+use Rattle.hearing.specs.Hearing.{Hearing, combined, fresh, isHearing}
+use Rattle.hearing_state.specs.State.{State, stateOf, noState, descriptionOf, codeOfState, refusedIn, opened, decodedHeldWith}
 use Rattle.hearing_state.proofs.States.{code-by}
 
 module _ (d : List ℕ) (c : Code) (code : describe d ≡ Coding c) where
   pub description-room : length d ≤ longestDescription
   description-room = description-most (described d c code)
 
-  pub opened-is : opened d ≡ heard Fine (stateOf d fresh)
-  opened-is = ap (λ (a : Description). onDescription a (refusedIn noState) (λ _. heard Fine (stateOf d fresh))) code
+  pub opened-is : opened d ≡ (Fine, stateOf d fresh)
+  opened-is = ap (λ (a : Description). onDescription a (refusedIn noState) (λ _. (Fine, stateOf d fresh))) code
 
   module _ (h : Hearing) where
     -- its length field is its length
@@ -61,8 +59,8 @@ module _ (d : List ℕ) (c : Code) (code : describe d ≡ Coding c) where
     on-state is refuse go = ap (λ (a : Description). onDescription a refuse go) (code-of is)
 
     -- as decoding does
-    pub heard-is : isHearing c h ≡ true → (plan : Plan) (output : List ℕ)
-        → hearingWith plan (stateOf d h) output ≡ decodedWith plan d (combined c h) output
-    heard-is is plan output =
-        on-state is (λ x. (Refused x, output)) (λ c. decodedWith plan (descriptionOf (stateOf d h)) (combined c h) output)
-        ∙ ap (λ (x : List ℕ). decodedWith plan x (combined c h) output) description-of
+    pub decoded-is : isHearing c h ≡ true → (restart : Restart) (limit : ℕ) (output : List ℕ)
+        → decodedHeldWith restart (stateOf d h) limit output ≡ decodedAs (single limit) restart d (combined c h) output
+    decoded-is is restart limit output =
+        on-state is (λ x. (Refused x, output)) (λ c. decodedAs (single limit) restart (descriptionOf (stateOf d h)) (combined c h) output)
+        ∙ ap (λ (x : List ℕ). decodedAs (single limit) restart x (combined c h) output) description-of

@@ -14,26 +14,20 @@ use Rattle.refusal.specs.Judge.{judge, refusedOr}
 use Rattle.refusal.proofs.Judge.{refused-fine, refused-by}
 use Rattle.arrays.specs.Sizes.{deepest}
 use Rattle.arrays.proofs.Sizes.{fits}
-use Rattle.bits.specs.Packing.{bytesFor}
 use Rattle.code.specs.declared.Code.{Code}
 use Rattle.code.specs.declared.Description.the-variants.{Accepted as Coding}
-use Rattle.code.specs.Code.{codeLength, informationCount}
+use Rattle.code.specs.Code.{codeLength}
 use Rattle.code.specs.Description.{describe}
 use Rattle.code.proofs.Facts.{described}
 use Rattle.channel.specs.Channel.{clip, channelValues, firstOutside}
-use Rattle.flip_trial.specs.declared.Restart.the-variants.{Root, After}
-use Rattle.flip_run.specs.WellFormed.{WellFormed}
-use Rattle.flip_run.specs.Plan.{planOf}
-use Rattle.flip_demands.proofs.Demand3.{demand-3}
-use Rattle.hearing.specs.declared.Hearing.{Hearing}
-use Rattle.hearing.specs.Hearing.{hearingOf, combined, fresh, clippedSums, addRefusals, isHearing}
+use Rattle.decoder.specs.Decoder.{single}
+use Rattle.decoder_demands.proofs.Agreement.{agreement}
+use Rattle.hearing.specs.Hearing.{Hearing, hearingOf, combined, fresh, clippedSums, addRefusals, isHearing}
 use Rattle.hearing.proofs.Adding.{not-full}
 use Rattle.hearing.proofs.Inside.{Inside, none-outside, zeros-inside, sums-inside, zeros-values, sums-values, fresh-is, combined-is, added-to, zeros-hearing, heard-hearing}
-use Rattle.hearing_state.specs.declared.State.{State}
-use Rattle.hearing_state.specs.declared.Heard.{Heard}
-use Rattle.hearing_state.specs.State.{stateOf, heard, refusedIn, addedUnder, added, cleared}
+use Rattle.hearing_state.specs.State.{State, stateOf, refusedIn, addedUnder, added, cleared}
 use Rattle.hearing_demands.specs.Repeats.{Call, add, clear, after, acceptedIn, foldOfSums, Holds, HeldAfter}
-use Rattle.hearing_demands.proofs.Descriptions.{opened-is, description-of, code-of, on-state, heard-is}
+use Rattle.hearing_demands.proofs.Descriptions.{opened-is, description-of, code-of, on-state, decoded-is}
 
 -- the last vector apart
 fold-snoc : (size : ℕ) (sums : List ℤ) (vectors : List (List ℕ)) (channel : List ℕ)
@@ -55,14 +49,14 @@ module _ (d : List ℕ) (c : Code) (code : describe d ≡ Coding c) where
     abbrev s : State
     s = stateOf d (hearingOf v count)
 
-    under : added s channel .state ≡ addedUnder c s channel .state
-    under = ap (λ (a : Heard). a .state) (on-state d c code (hearingOf v count) is (refusedIn s) (λ c. addedUnder c s channel))
+    under : added s channel .1 ≡ addedUnder c s channel .1
+    under = ap (λ (a : Judgement × State). a .1) (on-state d c code (hearingOf v count) is (refusedIn s) (λ c. addedUnder c s channel))
 
-    pub added-fine : judge (addRefusals c count channel) ≡ Fine → added s channel .state ≡ stateOf d (hearingOf (clippedSums N v channel) (count + 1))
-    added-fine e = under ∙ ap (λ (a : Heard). a .state) (refused-fine (refusedIn s) _ _ e) ∙ ap (stateOf d) (added-to c v w count channel)
+    pub added-fine : judge (addRefusals c count channel) ≡ Fine → added s channel .1 ≡ stateOf d (hearingOf (clippedSums N v channel) (count + 1))
+    added-fine e = under ∙ ap (λ (a : Judgement × State). a .1) (refused-fine (refusedIn s) _ _ e) ∙ ap (stateOf d) (added-to c v w count channel)
 
-    added-refused : (x : Refusal) → judge (addRefusals c count channel) ≡ Refused x → added s channel .state ≡ s
-    added-refused x e = under ∙ ap (λ (a : Heard). a .state) (refused-by (refusedIn s) _ _ x e)
+    added-refused : (x : Refusal) → judge (addRefusals c count channel) ≡ Refused x → added s channel .1 ≡ s
+    added-refused x e = under ∙ ap (λ (a : Judgement × State). a .1) (refused-by (refusedIn s) _ _ x e)
 
   -- ---- the invariant of a list of calls
 
@@ -88,13 +82,13 @@ module _ (d : List ℕ) (c : Code) (code : describe d ≡ Coding c) where
     abbrev h : Hearing
     h = hearingOf (k .values) (length vectors)
 
-    pub kept-clear : Invariant (cleared s .state) []
+    pub kept-clear : Invariant (cleared s .1) []
     kept-clear =
-        kept-fresh (ap (λ (t : State). cleared t .state) (k .state-is)
-        ∙ ap (λ (a : Heard). a .state) (on-state d c code h (k .hearing) (refusedIn (stateOf d h)) (λ _. heard Fine (stateOf d fresh))))
+        kept-fresh (ap (λ (t : State). cleared t .1) (k .state-is)
+        ∙ ap (λ (a : Judgement × State). a .1) (on-state d c code h (k .hearing) (refusedIn (stateOf d h)) (λ _. (Fine, stateOf d fresh))))
 
     pub kept-add : (channel : List ℕ) (j : Judgement) → judge (addRefusals c (length vectors) channel) ≡ j
-        → Invariant (added s channel .state) (refusedOr j (λ _. vectors) (vectors ++ (channel ∷ [])))
+        → Invariant (added s channel .1) (refusedOr j (λ _. vectors) (vectors ++ (channel ∷ [])))
     unfolding refusedOr
     kept-add channel Fine e =
         let sums : List ℕ = clippedSums N (k .values) channel in
@@ -103,7 +97,7 @@ module _ (d : List ℕ) (c : Code) (code : describe d ≡ Coding c) where
         let more : length vectors + 1 ≡ length (vectors ++ (channel ∷ [])) = sym (length-append vectors (channel ∷ [])) in
         record {
           values = sums;
-          state-is = ap (λ (t : State). added t channel .state) (k .state-is)
+          state-is = ap (λ (t : State). added t channel .1) (k .state-is)
               ∙ added-fine (k .values) (k .inside) (length vectors) (k .hearing) channel e ∙ ap (λ (n : ℕ). stateOf d (hearingOf sums n)) more;
           inside = w;
           hearing = subst (λ (n : ℕ). isHearing c (hearingOf sums n) ≡ true) more (heard-hearing c sums w (length vectors) full);
@@ -113,7 +107,7 @@ module _ (d : List ℕ) (c : Code) (code : describe d ≡ Coding c) where
               ∙ sym (fold-snoc N (replicate N (pos 0)) vectors channel);
         }
     kept-add channel (Refused x) e =
-        let same : added s channel .state ≡ s = ap (λ (t : State). added t channel .state) (k .state-is)
+        let same : added s channel .1 ≡ s = ap (λ (t : State). added t channel .1) (k .state-is)
         ∙ added-refused (k .values) (k .inside) (length vectors) (k .hearing) channel x e ∙ sym (k .state-is) in
         subst (λ (t : State). Invariant t vectors) (sym same) k
 
@@ -122,9 +116,6 @@ module _ (d : List ℕ) (c : Code) (code : describe d ≡ Coding c) where
         let same : combined c h ≡ k .values = combined-is c (k .values) (k .inside) (length vectors) in
         let long : length (combined c h) ≡ N = ap length same ∙ k .inside .size-is in
         let range : firstOutside (combined c h) ≡ N = ap firstOutside same ∙ none-outside (k .inside) in
-        let K : ℕ = informationCount c in
-        let well : (limit : ℕ) (o : List ℕ) → 1 ≤ limit → limit ≤ K + 1 → length o ≡ bytesFor (c .k) → WellFormed c (combined c h) limit o =
-        λ limit o l m e. record { channel-size = long; in-range = range ∙ sym long; limit-least = l; limit-most = m; output-size = e } in
         subst (λ (t : State). Holds d c t vectors) (sym (k .state-is)) (record {
           description-is = description-of d c code h;
           code-is = code-of d c code h (k .hearing);
@@ -133,9 +124,8 @@ module _ (d : List ℕ) (c : Code) (code : describe d ≡ Coding c) where
           values-are = ap channelValues same ∙ k .values-are;
           size-is = long;
           in-range = range;
-          full-is = λ limit. heard-is d c code h (k .hearing) (planOf Root limit);
-          restarted-is = λ limit. heard-is d c code h (k .hearing) (planOf After limit);
-          agree = λ limit o o′ l m e e′. demand-3 d c (combined c h) limit o o′ code (well limit o l m e) (well limit o′ l m e′);
+          decoded-is = decoded-is d c code h (k .hearing);
+          agree = λ limit size. agreement (single limit) d (combined c h) size;
         })
 
   held : (s : State) (vectors : List (List ℕ)) (calls : List Call) → Invariant s vectors → Holds d c (after s calls) (acceptedIn c vectors calls)
@@ -144,4 +134,4 @@ module _ (d : List ℕ) (c : Code) (code : describe d ≡ Coding c) where
   held s vectors (clear ∷ calls) k = held _ _ calls (kept-clear s vectors k)
 
 pub held-after : HeldAfter
-held-after d c calls code = held d c code _ [] calls (kept-fresh d c code (ap (λ (a : Heard). a .state) (opened-is d c code)))
+held-after d c calls code = held d c code _ [] calls (kept-fresh d c code (ap (λ (a : Judgement × State). a .1) (opened-is d c code)))

@@ -13,6 +13,7 @@ use lib.Seq.{length-take-le}
 use Rattle.laws.specs.Table.{table}
 use Rattle.laws.proofs.Each.{Each, each-take, each-drop}
 use Rattle.laws.proofs.Table.{table-ext, table-getD}
+use Rattle.refusal.specs.declared.Judgement.{Judgement}
 use Rattle.refusal.specs.declared.Judgement.the-variants.{Fine}
 use Rattle.refusal.specs.Judge.{judge}
 use Rattle.refusal.proofs.Judge.{judge-none, judge-no, append-fine}
@@ -28,18 +29,15 @@ use Rattle.channel.specs.Channel.{channelValue, byteOf, clip, channelRefusals}
 use Rattle.channel.proofs.Bytes.{byte-channel}
 use Rattle.channel.proofs.Judge.{channel-fine}
 use Rattle.channel.proofs.Outside.{each-inside}
-use Rattle.hearing.specs.declared.Hearing.{Hearing}
-use Rattle.hearing.specs.Hearing.{hearingOf, combined, fresh, clippedSum, clippedSums, addRefusals, zeroFrom, isHearing}
+use Rattle.hearing.specs.Hearing.{Hearing, hearingOf, combined, fresh, clippedSum, clippedSums, addRefusals, zeroFrom, isHearing}
 use Rattle.hearing.proofs.Adding.{from-most, count-most, zero-from, held-size, held-inside}
 use Rattle.hearing.proofs.Inside.{Inside, none-outside, each-zero, zeros-inside, fresh-is, zeros-hearing}
-use Rattle.hearing_state.specs.declared.State.{State}
-use Rattle.hearing_state.specs.declared.Heard.{Heard}
-use Rattle.hearing_state.specs.State.{stateOf, descriptionOf, codeOfState, added, opened}
+use Rattle.hearing_state.specs.State.{State, stateOf, descriptionOf, codeOfState, added, opened}
 use Rattle.hearing_state.proofs.States.{state-is}
 use Rattle.hearing_demands.specs.Repeats.{Call, add, after}
 use Rattle.hearing_buffer.specs.Lent.{bytesOf, stateIn}
 use Rattle.hearing_buffer.proofs.Bytes.{state-at, written-read}
-use Rattle.hearing_demands.specs.Claims.{Sized, LeftBySome, BytesLeft}
+use Rattle.hearing_demands.specs.Claims.{FitsBuffer, LeftBySome, BytesLeft}
 use Rattle.hearing_demands.proofs.Descriptions.{opened-is}
 use Rattle.hearing_demands.proofs.HeldAfter.{room, added-fine}
 
@@ -68,7 +66,7 @@ module _ (d : List ℕ) (c : Code) (code : describe d ≡ Coding c) where
   holding v count = stateOf d (hearingOf v count)
 
   -- one add
-  add-leaves : {v : List ℕ} → Inside N v → Each Byte 0 v → {count : ℕ} → count < 255 → added (holding zeros count) v .state ≡ holding v (count + 1)
+  add-leaves : {v : List ℕ} → Inside N v → Each Byte 0 v → {count : ℕ} → count < 255 → added (holding zeros count) v .1 ≡ holding v (count + 1)
   add-leaves {v} w bytes {count} l =
       let fine : judge (addRefusals c count v) ≡ Fine =
       append-fine (channelRefusals c v) _ (channel-fine c v (w .size-is) (none-outside w ∙ sym (w .size-is)))
@@ -107,7 +105,7 @@ padded-is size k w long {from} l e =
 
 -- ---- the state
 
-module _ (s : State) (c : Code) (z : Sized s) (e : codeOfState s ≡ Coding c) where
+module _ (s : State) (c : Code) (z : FitsBuffer s) (e : codeOfState s ≡ Coding c) where
   abbrev d : List ℕ
   d = descriptionOf s
 
@@ -136,10 +134,10 @@ module _ (s : State) (c : Code) (z : Sized s) (e : codeOfState s ≡ Coding c) w
       let size = held-size c h n-most (z .values-size) in
       record { size-is = size; at = each-inside v (omega (arith, size, held-inside c h (parts .1))) }
 
-  opened-state : opened d .state ≡ stateOf d fresh
-  opened-state = ap (λ (a : Heard). a .state) (opened-is d c code)
+  opened-state : opened d .1 ≡ stateOf d fresh
+  opened-state = ap (λ (a : Judgement × State). a .1) (opened-is d c code)
 
-  left : (count : ℕ) → h .count ≡ count → (calls : List Call) × (after (opened d .state) calls ≡ s)
+  left : (count : ℕ) → h .count ≡ count → (calls : List Call) × (after (opened d .1) calls ≡ s)
   left zero none =
       let zeros = subst (λ (n : ℕ). allZero (drop (cond (eqb n 0) 0 (codeLength c)) (h .values)) ≡ true) none (zero-from c h (parts .1)) in (
         [],
@@ -166,9 +164,9 @@ bytes-left b c size bytes e =
     let x = left-by-some (stateIn b) c sized e in
     (x .0, ap bytesOf (x .1) ∙ written-read b size)
   where
-    sized : Sized (stateIn b)
+    sized : FitsBuffer (stateIn b)
     sized =
-        subst Sized (sym (state-at b size)) (record {
+        subst FitsBuffer (sym (state-at b size)) (record {
           description-size = length-take-le longestDescription b (omega (arith, size));
           values-size = omega (arith, length-drop (1 + longestDescription) b, size);
           bytes = each-drop Byte 0 (1 + longestDescription) b bytes;

@@ -3,3 +3,4 @@ pub mod HeldAfter
 pub mod Refused
 pub mod Buffer
 pub mod Left
+pub mod Instances

@@ -11,26 +11,24 @@ use Rattle.code.specs.declared.Description.{Description}
 use Rattle.code.specs.declared.Description.the-variants.{Accepted as Coding, Refused as NoCode}
 use Rattle.code.specs.Description.{onDescription}
 use Rattle.hearing.specs.Hearing.{addRefusals}
-use Rattle.hearing_state.specs.declared.State.{State}
-use Rattle.hearing_state.specs.declared.Heard.{Heard}
-use Rattle.hearing_state.specs.State.{codeOfState, refusedIn, heard, addedUnder}
+use Rattle.hearing_state.specs.State.{State, codeOfState, refusedIn, addedUnder}
 use Rattle.hearing_demands.specs.Repeats.{add, clear}
 use Rattle.hearing_demands.specs.Claims.{RefusedKeeps}
 
 module _ (s : State) (x : Refusal) where
-  abbrev Keeps : Heard → Type 0
-  Keeps a = a .judgement ≡ Refused x → a .state ≡ s
+  abbrev Keeps : Judgement × State → Type 0
+  Keeps a = a .0 ≡ Refused x → a .1 ≡ s
 
   -- a call that is not refused does not answer with a refusal
-  fine-keeps : (after : State) → Keeps (heard Fine after)
+  fine-keeps : (after : State) → Keeps (Fine, after)
   fine-keeps after e = let z : _≡_ {A = ℕ} 0 1 = cc in absurd (omega arith)
 
-  judged-keeps : (j : Judgement) (after : State) → Keeps (refusedOr j (refusedIn s) (heard Fine after))
+  judged-keeps : (j : Judgement) (after : State) → Keeps (refusedOr j (refusedIn s) (Fine, after))
   unfolding refusedOr
   judged-keeps Fine after e = fine-keeps after e
   judged-keeps (Refused y) after e = refl
 
-  coded-keeps : (a : Description) (go : Code → Heard) → ((c : Code) → Keeps (go c)) → Keeps (onDescription a (refusedIn s) go)
+  coded-keeps : (a : Description) (go : Code → Judgement × State) → ((c : Code) → Keeps (go c)) → Keeps (onDescription a (refusedIn s) go)
   coded-keeps (Coding c) go keeps e = keeps c e
   coded-keeps (NoCode y) go keeps e = refl
 

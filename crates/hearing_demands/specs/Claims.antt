@@ -9,17 +9,16 @@ use Rattle.arrays.specs.Sizes.{deepest}
 use Rattle.code.specs.declared.Code.{Code}
 use Rattle.code.specs.declared.Description.the-variants.{Accepted as Coding}
 use Rattle.code.specs.Code.{longestDescription}
-use Rattle.hearing_state.specs.declared.State.{State}
-use Rattle.hearing_state.specs.State.{descriptionOf, codeOfState, opened}
+use Rattle.hearing_state.specs.State.{State, descriptionOf, codeOfState, opened}
 use Rattle.hearing_buffer.specs.Lent.{hearingSize, bytesOf, stateIn}
 use Rattle.hearing_demands.specs.Repeats.{Call, called, after}
 
 -- a refused call changes nothing: `refused-keeps`
 abbrev pub RefusedKeeps : Type 0
-RefusedKeeps = (s : State) (call : Call) (x : Refusal) → called s call .judgement ≡ Refused x → called s call .state ≡ s
+RefusedKeeps = (s : State) (call : Call) (x : Refusal) → called s call .0 ≡ Refused x → called s call .1 ≡ s
 
--- a state as its types have it: the sizes of its arrays, and values that are bytes
-pub record Sized (s : State) : Type 0 where
+-- a state that a buffer can hold: the sizes of its lists, and values that are bytes
+pub record FitsBuffer (s : State) : Type 0 where
   pub description-size : length (s .description) ≡ longestDescription
   pub values-size : length (s .hearing .values) ≡ 2 ^ deepest
   pub bytes : (i : ℕ) → getD (s .hearing .values) i 0 < 256
@@ -27,10 +26,10 @@ pub record Sized (s : State) : Type 0 where
 -- Refusal 40 is for what no list of calls leaves: a state that is not refused is left by some adds, from a fresh hearing of its description.
 -- `left-by-some` of proofs/Left.antt. That what calls leave is not refused is `Holds .code-is`.
 abbrev pub LeftBySome : Type 0
-LeftBySome = (s : State) (c : Code) → Sized s → codeOfState s ≡ Coding c → (calls : List Call) × (after (opened (descriptionOf s) .state) calls ≡ s)
+LeftBySome = (s : State) (c : Code) → FitsBuffer s → codeOfState s ≡ Coding c → (calls : List Call) × (after (opened (descriptionOf s) .1) calls ≡ s)
 
 -- So are the bytes of a buffer whose state is not refused: `bytes-left` of proofs/Left.antt.
 abbrev pub BytesLeft : Type 0
 BytesLeft =
     (b : List ℕ) (c : Code) → length b ≡ hearingSize → ((i : ℕ) → getD b i 0 < 256) → codeOfState (stateIn b) ≡ Coding c
-    → (calls : List Call) × (bytesOf (after (opened (descriptionOf (stateIn b)) .state) calls) ≡ b)
+    → (calls : List Call) × (bytesOf (after (opened (descriptionOf (stateIn b)) .1) calls) ≡ b)

@@ -6,19 +6,18 @@ use Prim.Native.Nat.{ℕ, _+_, _≤_}
 use lib.IntN.{ℤ, pos, _+ℤ_}
 use lib.ListN.{length, getD, replicate}
 use Rattle.laws.specs.Table.{table}
+use Rattle.refusal.specs.declared.Judgement.{Judgement}
 use Rattle.refusal.specs.Judge.{judge, refusedOr}
-use Rattle.bits.specs.Packing.{bytesFor}
 use Rattle.code.specs.declared.Code.{Code}
 use Rattle.code.specs.declared.Description.the-variants.{Accepted as Coding}
-use Rattle.code.specs.Code.{codeLength, informationCount}
+use Rattle.code.specs.Code.{codeLength}
 use Rattle.code.specs.Description.{describe}
 use Rattle.channel.specs.Channel.{clip, channelValues, firstOutside}
-use Rattle.flip_decoder.specs.Decode.{decodedFull, decodedRestarted}
-use Rattle.flip_demands.specs.Demand3.{BothDecode}
+use Rattle.flip_trial.specs.declared.Restart.{Restart}
+use Rattle.decoder.specs.Decoder.{single, decodedAs}
+use Rattle.decoder_demands.specs.Agreement.{Agree}
 use Rattle.hearing.specs.Hearing.{combined, addRefusals}
-use Rattle.hearing_state.specs.declared.State.{State}
-use Rattle.hearing_state.specs.declared.Heard.{Heard}
-use Rattle.hearing_state.specs.State.{descriptionOf, codeOfState, opened, added, cleared, hearingFull, hearingRestarted}
+use Rattle.hearing_state.specs.State.{State, descriptionOf, codeOfState, opened, added, cleared, decodedHeldWith}
 use Rattle.hearing_buffer.specs.Lent.{hearingSize, stateIn, openedIn, addedIn, clearedIn}
 
 -- a call that may change a state
@@ -29,14 +28,14 @@ pub data Call : Type 0 where
   clear : Call
 
 -- what a call answers, and the state afterwards
-abbrev pub called : State → Call → Heard
+abbrev pub called : State → Call → Judgement × State
 called s (add channel) = added s channel
 called s clear = cleared s
 
 -- the state that a list of calls leaves
 abbrev pub after : State → List Call → State
 after s [] = s
-after s (call ∷ calls) = after (called s call .state) calls
+after s (call ∷ calls) = after (called s call .1) calls
 
 -- the vectors accepted since the last clear, `vectors` being those before the calls: 12, 13 and 27 do not apply to them
 abbrev pub acceptedIn : Code → List (List ℕ) → List Call → List (List ℕ)
@@ -66,19 +65,16 @@ pub record Holds (d : List ℕ) (c : Code) (s : State) (vectors : List (List ℕ
   pub size-is : length (combined c (s .hearing)) ≡ codeLength c
   -- they lie in −31..31
   pub in-range : firstOutside (combined c (s .hearing)) ≡ codeLength c
-  -- full decoding is that of the held values
-  pub full-is : (limit : ℕ) (output : List ℕ) → hearingFull s limit output ≡ decodedFull d (combined c (s .hearing)) limit output
-  -- restarted decoding is that of the held values
-  pub restarted-is : (limit : ℕ) (output : List ℕ) → hearingRestarted s limit output ≡ decodedRestarted d (combined c (s .hearing)) limit output
-  -- "Restart and full decoding must agree on the combined vector": demand 3, with every T and every output buffer that the code allows
-  pub agree :
-      (limit : ℕ) (output output′ : List ℕ)
-      → 1 ≤ limit → limit ≤ informationCount c + 1 → length output ≡ bytesFor (c .k) → length output′ ≡ bytesFor (c .k)
-      → BothDecode d c (combined c (s .hearing)) limit output output′
+  -- decoding is that of the held values, at every restart
+  pub decoded-is :
+      (restart : Restart) (limit : ℕ) (output : List ℕ)
+      → decodedHeldWith restart s limit output ≡ decodedAs (single limit) restart d (combined c (s .hearing)) output
+  -- "Restart and full decoding must agree on the combined vector", with every T and outputs of any size
+  pub agree : (limit size : ℕ) → Agree (single limit) d (combined c (s .hearing)) size
 
 -- any code, and any list of adds and clears from a fresh hearing
 abbrev pub HeldAfter : Type 0
-HeldAfter = (d : List ℕ) (c : Code) (calls : List Call) → describe d ≡ Coding c → Holds d c (after (opened d .state) calls) (acceptedIn c [] calls)
+HeldAfter = (d : List ℕ) (c : Code) (calls : List Call) → describe d ≡ Coding c → Holds d c (after (opened d .1) calls) (acceptedIn c [] calls)
 
 -- for C: what a call leaves in a buffer
 abbrev pub calledIn : List ℕ → Call → List ℕ
@@ -90,9 +86,9 @@ abbrev pub bufferAfter : List ℕ → List Call → List ℕ
 bufferAfter b [] = b
 bufferAfter b (call ∷ calls) = bufferAfter (calledIn b call) calls
 
--- In any buffer of the right size in which a hearing is opened, any list of adds and clears leaves the state that it leaves in Rattle, so
--- `HeldAfter` says what it holds: `buffer-after` of proofs/Buffer.antt.
+-- In any buffer of the right size in which a hearing is opened, any list of adds and clears leaves the state of `after`, so `HeldAfter` says
+-- what it holds: `buffer-after` of proofs/Buffer.antt.
 abbrev pub BufferAfter : Type 0
 BufferAfter =
     (d b : List ℕ) (c : Code) (calls : List Call)
-    → describe d ≡ Coding c → length b ≡ hearingSize → stateIn (bufferAfter (openedIn d b .1) calls) ≡ after (opened d .state) calls
+    → describe d ≡ Coding c → length b ≡ hearingSize → stateIn (bufferAfter (openedIn d b .1) calls) ≡ after (opened d .1) calls

@@ -11,17 +11,15 @@ use Rattle.code.specs.declared.Code.{Code}
 use Rattle.code.specs.declared.Description.{Description}
 use Rattle.code.specs.declared.Description.the-variants.{Accepted as Coding}
 use Rattle.code.specs.Description.{describe, onDescription}
+use Rattle.flip_trial.specs.declared.Restart.the-variants.{After}
 use Rattle.flip_run.specs.declared.Decoded.the-variants.{Refused}
 use Rattle.hearing.specs.Hearing.{addedTo, addRefusals}
-use Rattle.hearing_state.specs.declared.State.{State}
-use Rattle.hearing_state.specs.declared.Heard.{Heard}
-use Rattle.hearing_state.specs.State.{heard, refusedIn, withHearing, opened, addedUnder, added, hearingRestarted}
+use Rattle.hearing_state.specs.State.{State, refusedIn, withHearing, opened, addedUnder, added, decodedHeldWith}
 use Rattle.hearing_buffer.specs.Lent.{openedIn}
 use Rattle.hearing_demands.specs.Repeats.{Call, add, clear, called, after, acceptedIn, Holds, bufferAfter}
 use Rattle.hearing_demands.proofs.HeldAfter.{held-after}
 use Rattle.hearing_demands.proofs.Buffer.{buffer-after}
-use Rattle.hearing_preview.specs.Preview.{previewed}
-use Rattle.hearing_preview.specs.Claims.{Previews, PreviewAfter, PreviewInAfter}
+use Rattle.hearing_preview.specs.Claims.{previewed, Previews, PreviewAfter, PreviewInAfter}
 use Rattle.hearing_preview.proofs.Copy.{on-a-copy}
 
 -- one more add, of the state and of what is accepted
@@ -29,9 +27,9 @@ module _ (channel : List ℕ) where
   abbrev more : List Call → List Call
   more calls = calls ++ (add channel ∷ [])
 
-  after-more : (s : State) (calls : List Call) → after s (more calls) ≡ added (after s calls) channel .state
+  after-more : (s : State) (calls : List Call) → after s (more calls) ≡ added (after s calls) channel .1
   after-more s [] = refl
-  after-more s (call ∷ calls) = after-more (called s call .state) calls
+  after-more s (call ∷ calls) = after-more (called s call .1) calls
 
   accepted-more : (c : Code) (vectors : List (List ℕ)) (calls : List Call)
       → judge (addRefusals c (length (acceptedIn c vectors calls)) channel) ≡ judgement.Fine
@@ -42,7 +40,7 @@ module _ (channel : List ℕ) where
 
 module _ (d : List ℕ) (c : Code) (calls : List Call) (channel : List ℕ) (code : describe d ≡ Coding c) where
   abbrev s : State
-  s = after (opened d .state) calls
+  s = after (opened d .1) calls
 
   abbrev vectors : List (List ℕ)
   vectors = acceptedIn c [] calls
@@ -51,8 +49,8 @@ module _ (d : List ℕ) (c : Code) (calls : List Call) (channel : List ℕ) (cod
   holds = held-after d c calls code
 
   -- the add, by its refusals
-  abbrev by : Judgement → Heard
-  by j = refusedOr j (refusedIn s) (heard judgement.Fine (withHearing s (addedTo c (s .hearing) channel)))
+  abbrev by : Judgement → Judgement × State
+  by j = refusedOr j (refusedIn s) (judgement.Fine, withHearing s (addedTo c (s .hearing) channel))
 
   added-is : (j : Judgement) → judge (addRefusals c (length vectors) channel) ≡ j → added s channel ≡ by j
   added-is j e =
@@ -62,20 +60,20 @@ module _ (d : List ℕ) (c : Code) (calls : List Call) (channel : List ℕ) (cod
 
   -- the preview, by the judgement of the add
   preview-is : (j : Judgement) → judge (addRefusals c (length vectors) channel) ≡ j → (limit : ℕ) (output : List ℕ)
-      → previewed s channel limit output ≡ refusedOr (by j .judgement) (λ x. (Refused x, output)) (hearingRestarted (added s channel .state) limit output)
+      → previewed s channel limit output ≡ refusedOr (by j .0) (λ x. (Refused x, output)) (decodedHeldWith After (added s channel .1) limit output)
   preview-is j e limit output =
-      ap (λ (a : Heard). refusedOr (a .judgement) (λ x. (Refused x, output)) (hearingRestarted (added s channel .state) limit output)) (added-is j e)
+      ap (λ (a : Judgement × State). refusedOr (a .0) (λ x. (Refused x, output)) (decodedHeldWith After (added s channel .1) limit output)) (added-is j e)
 
-  sums : judge (addRefusals c (length vectors) channel) ≡ judgement.Fine → Holds d c (added s channel .state) (vectors ++ (channel ∷ []))
+  sums : judge (addRefusals c (length vectors) channel) ≡ judgement.Fine → Holds d c (added s channel .1) (vectors ++ (channel ∷ []))
   sums e =
-      subst (λ (t : State). Holds d c t (vectors ++ (channel ∷ []))) (after-more channel (opened d .state) calls)
-      (subst (Holds d c (after (opened d .state) (more channel calls))) (accepted-more channel c [] calls e) (held-after d c (more channel calls) code))
+      subst (λ (t : State). Holds d c t (vectors ++ (channel ∷ []))) (after-more channel (opened d .1) calls)
+      (subst (Holds d c (after (opened d .1) (more channel calls))) (accepted-more channel c [] calls e) (held-after d c (more channel calls) code))
 
   previews : Previews d c s vectors channel
   unfolding refusedOr
   previews = record {
     refused = λ x e limit output. preview-is (judgement.Refused x) e limit output;
-    decoded = λ e limit output. preview-is judgement.Fine e limit output ∙ sums e .restarted-is limit output;
+    decoded = λ e limit output. preview-is judgement.Fine e limit output ∙ sums e .decoded-is After limit output;
     sums = sums;
   }
 

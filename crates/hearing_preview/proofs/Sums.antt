@@ -19,15 +19,12 @@ use Rattle.code.specs.Code.{codeLength, longestDescription}
 use Rattle.code.specs.Description.{describe, onDescription}
 use Rattle.flip_run.specs.declared.Decoded.the-variants.{Refused}
 use Rattle.flip_trial.specs.declared.Restart.the-variants.{After}
-use Rattle.flip_run.specs.Plan.{planOf}
-use Rattle.flip_decoder.specs.Decode.{decodedWith}
-use Rattle.hearing.specs.declared.Hearing.{Hearing}
-use Rattle.hearing.specs.Hearing.{combined, clippedSums, addedTo, isHearing}
+use Rattle.decoder.specs.Decoder.{single, decodedAs}
+use Rattle.hearing.specs.Hearing.{Hearing, combined, clippedSums, addedTo, isHearing}
 use Rattle.hearing.specs.Contracts.{AddPre}
 use Rattle.hearing.proofs.Adding.{count-most, zeros-after, channel-size, not-full, add-pre, sums-are}
 use Rattle.hearing.proofs.Inside.{sums-inside, heard-hearing}
-use Rattle.hearing_state.specs.declared.State.{State}
-use Rattle.hearing_state.specs.State.{descriptionOf, codeOfState, withHearing, hearingRestarted}
+use Rattle.hearing_state.specs.State.{State, descriptionOf, codeOfState, withHearing, decodedHeldWith}
 use Rattle.hearing_state.proofs.States.{code-by, state-is, code-most, is-hearing}
 use Rattle.hearing_buffer.specs.Lent.{hearingSize, stateIn}
 use Rattle.hearing_buffer.proofs.Bytes.{state-at}
@@ -107,6 +104,6 @@ module _ (c : Code) (b channel : List ℕ) (may : MayAdd c b channel) where
       (ap₂ _&&_ zeros (heard-hearing c (clippedSums N (h .values) channel) (sums-inside N (h .values) channel) (h .count) full))
 
   pub decoded-sums : (limit : ℕ) (output : List ℕ)
-      → hearingRestarted (withHearing s sums) limit output ≡ decodedWith (planOf After limit) (descriptionOf s) (combined c sums) output
+      → decodedHeldWith After (withHearing s sums) limit output ≡ decodedAs (single limit) After (descriptionOf s) (combined c sums) output
   decoded-sums limit output =
-      ap (λ (a : Description). onDescription a (λ x. (Refused x, output)) (λ c. decodedWith (planOf After limit) (descriptionOf s) (combined c sums) output)) code-after
+      ap (λ (a : Description). onDescription a (λ x. (Refused x, output)) (λ c. decodedAs (single limit) After (descriptionOf s) (combined c sums) output)) code-after

@@ -3,25 +3,13 @@
 -- and then given up.
 use mathlib.Core.List.{List}
 use Prim.Native.Nat.{ℕ}
-use Rattle.refusal.specs.Judge.{refusedOr}
 use Rattle.flip_run.specs.declared.Decoded.{Decoded}
 use Rattle.flip_run.specs.declared.Decoded.the-variants.{Refused}
-use Rattle.hearing_state.specs.declared.State.{State}
-use Rattle.hearing_state.specs.declared.Heard.{Heard}
-use Rattle.hearing_state.specs.State.{added, hearingRestarted}
 use Rattle.hearing_buffer.specs.declared.Kept.{Kept}
 use Rattle.hearing_buffer.specs.declared.Kept.the-variants as keep
 use Rattle.hearing_buffer.specs.Lent.{addedIn, restartedIn}
 
--- what follows an add, by its answer and the state that it leaves
-abbrev pub thenRestarted : Heard → ℕ → List ℕ → Decoded × List ℕ
-thenRestarted a limit output = refusedOr (a .judgement) (λ x. (Refused x, output)) (hearingRestarted (a .state) limit output)
-
--- the preview of an add to a state
-abbrev pub previewed : State → List ℕ → ℕ → List ℕ → Decoded × List ℕ
-previewed s channel limit output = thenRestarted (added s channel) limit output
-
--- for C: what follows an add to a copy of a buffer, by its answer and the bytes that it leaves in the copy
+-- what follows an add to a copy of a buffer, by its answer and the bytes that it leaves in the copy
 abbrev pub thenRestartedIn : Kept × List ℕ → ℕ → List ℕ → Decoded × List ℕ
 thenRestartedIn (keep.Done count, copy) limit output = restartedIn copy limit output
 thenRestartedIn (keep.Refused x, copy) limit output = (Refused x, output)

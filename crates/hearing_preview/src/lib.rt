@@ -1,41 +1,28 @@
-// A vector that is tried before it is kept: an add, and restarted decoding of what it leaves, on a copy of the state.
+// A vector that is tried before it is kept: an add to a copy of the values in a buffer, and restarted decoding of the sums.
 use arrays::SIZE;
 use code::Code;
 use code::Description;
 use code::LONGEST;
 use flip_run::Decoded;
-use flip_run::Plan;
+use flip_run::Terms;
 use flip_trial::Restart;
 use hearing_buffer::VALUES_AT;
-use hearing_state::State;
 use refusal::Judgement;
 ghost use mathlib.Core.Path.{_≡_};
 ghost use Rattle.hearing.specs.Hearing.{addedTo};
-ghost use Rattle.hearing_state.specs.State.{codeOfState, withHearing, addedUnder, hearingRestarted};
+ghost use Rattle.hearing_state.specs.State.{codeOfState, withHearing, decodedHeldWith};
 ghost use Rattle.hearing_buffer.specs.Lent.{stateIn};
-ghost use Rattle.hearing_preview.specs.Preview.{thenRestarted, previewed, previewedIn};
+ghost use Rattle.hearing_preview.specs.Preview.{previewedIn};
 ghost use Rattle.hearing_preview.specs.Contracts.{MayAdd};
-
-// Previews an add to a state by value, which is a copy.
-pub fn preview(state: State, channel: &[u8], limit: u32, output: &mut [u8]) -> Decoded
-    ensures { λ a. ⌜ (a, now (output .exit)) ≡ previewed state (now (channel .entry)) limit (now (output .entry)) ⌝ }
-{
-    let heard = hearing_state::add(state, channel);
-    let judgement = heard.judgement;
-    match judgement {
-        Judgement::Fine => hearing_state::decode_restarted(heard.state, limit, output),
-        Judgement::Refused(x) => Decoded::Refused(x),
-    }
-}
 
 // Adds a vector to a copy of the values in a buffer, and decodes the sums.
 fn decode_sums(code: Code, buffer: &[u8], channel: &[u8], limit: u32, output: &mut [u8]) -> Decoded
     requires { ⌜ MayAdd code (now buffer) (now channel) ⌝ }
     ensures { λ a. ⌜ (a, now (output .exit))
-        ≡ hearingRestarted (withHearing (stateIn (now (buffer .entry)))
+        ≡ decodedHeldWith Restart.After (withHearing (stateIn (now (buffer .entry)))
         (addedTo code (stateIn (now (buffer .entry)) .hearing) (now (channel .entry)))) limit (now (output .entry)) ⌝ }
 {
-    let restarted = Plan {
+    let restarted = Terms {
         restart: Restart::After,
         limit,
     };
@@ -55,7 +42,7 @@ fn preview_under(
 ) -> Decoded
     requires { ⌜ codeOfState (stateIn (now buffer)) ≡ Description.Accepted code ⌝ }
     ensures { λ a. ⌜ (a, now (output .exit))
-        ≡ thenRestarted (addedUnder code (stateIn (now (buffer .entry))) (now (channel .entry))) limit (now (output .entry)) ⌝ }
+        ≡ previewedIn (now (buffer .entry)) (now (channel .entry)) limit (now (output .entry)) ⌝ }
 {
     match hearing::judge_add(code, buffer[LONGEST], channel) {
         Judgement::Fine => decode_sums(code, buffer, channel, limit, output),

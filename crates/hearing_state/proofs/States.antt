@@ -15,8 +15,7 @@ use Rattle.code.specs.declared.Description.the-variants.{Accepted, Refused}
 use Rattle.code.specs.Description.{describeUpTo, describe, onDescription}
 use Rattle.code.proofs.Facts.{described}
 use Rattle.hearing.specs.Hearing.{isHearing}
-use Rattle.hearing_state.specs.declared.State.{State}
-use Rattle.hearing_state.specs.State.{noState, descriptionOf, isState, codeOfState}
+use Rattle.hearing_state.specs.State.{State, noState, descriptionOf, isState, codeOfState}
 
 module _ (s : State) where
   -- the code by what the description says

@@ -9,12 +9,6 @@ use Rattle.code.specs.declared.Description.the-variants.{Accepted}
 use Rattle.code.specs.Code.{codeLength, longestDescription}
 use Rattle.code.specs.Description.{describe}
 use Rattle.code.specs.Record.{recordIn}
-use Rattle.hearing.specs.Contracts.{hearingBy}
-use Rattle.hearing_state.specs.declared.State.{State}
-
--- a state by its arrays and its count
-abbrev pub stateBy : List ℕ → ℕ → List ℕ → State
-stateBy description count values = record { description = description; hearing = hearingBy count values }
 
 -- arrays of the sizes that a state has
 pub record StatePre (description values : List ℕ) : Type 0 where

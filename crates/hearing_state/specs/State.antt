@@ -1,4 +1,5 @@
--- Document 02, request 2.6: what is kept from one call to the next, the description of a code and its hearing, and the operations on it.
+-- Document 02, request 2.6: what is kept from one call to the next, the description of a code and its hearing, and the operations on it. An
+-- operation that may change a state is a pair: what it answers, and the state afterwards.
 use mathlib.Core.Bool.{Bool, _&&_, cond}
 use mathlib.Core.List.{List, []}
 use Prim.Native.Nat.{ℕ}
@@ -15,16 +16,22 @@ use Rattle.code.specs.declared.Description.the-variants.{Accepted, Refused}
 use Rattle.code.specs.Code.{longestDescription}
 use Rattle.code.specs.Description.{describe, onDescription}
 use Rattle.code.specs.Record.{recordIn}
-use Rattle.flip_trial.specs.declared.Restart.the-variants.{Root, After}
-use Rattle.flip_run.specs.declared.Plan.{Plan}
+use Rattle.flip_trial.specs.declared.Restart.{Restart}
 use Rattle.flip_run.specs.declared.Decoded.{Decoded}
 use Rattle.flip_run.specs.declared.Decoded.the-variants as decode
-use Rattle.flip_run.specs.Plan.{planOf}
-use Rattle.flip_decoder.specs.Decode.{decodedWith}
-use Rattle.hearing.specs.declared.Hearing.{Hearing}
-use Rattle.hearing.specs.Hearing.{fresh, combined, addedTo, addRefusals, isHearing}
-use Rattle.hearing_state.specs.declared.State.{State}
-use Rattle.hearing_state.specs.declared.Heard.{Heard}
+use Rattle.decoder.specs.Decoder.{single, decodedAs}
+use Rattle.hearing.specs.Hearing.{Hearing, fresh, combined, addedTo, addRefusals, isHearing}
+
+-- what is kept from one call to the next
+pub record State : Type 0 where
+  -- the description of the code, and zeros after it
+  pub description : List ℕ
+  -- the combined values and their count
+  pub hearing : Hearing
+
+-- a state by its parts
+abbrev pub stateBy : List ℕ → ℕ → List ℕ → State
+stateBy description count values = record { description = description; hearing = record { values = values; count = count } }
 
 -- a state by its description, which zeros follow, and its hearing
 abbrev pub stateOf : List ℕ → Hearing → State
@@ -47,46 +54,34 @@ abbrev pub codeOfState : State → Description
 codeOfState s =
     onDescription (describe (descriptionOf s)) (λ x. Refused (Alone 40)) (λ c. cond (isState c s) (Accepted c) (Refused (Alone 40)))
 
--- what an operation answers, and the state afterwards
-abbrev pub heard : Judgement → State → Heard
-heard j s = record { judgement = j; state = s }
-
--- a refused call changes nothing
-abbrev pub refusedIn : State → Refusal → Heard
-refusedIn s x = heard (judgement.Refused x) s
+-- a refused call answers with the refusal, and changes nothing
+abbrev pub refusedIn : State → Refusal → Judgement × State
+refusedIn s x = (judgement.Refused x, s)
 
 -- a state with another hearing in the place of its hearing
 abbrev pub withHearing : State → Hearing → State
 withHearing s h = record { description = s .description; hearing = h }
 
 -- open: a fresh hearing for a code; the refusals of its description come first
-abbrev pub opened : List ℕ → Heard
-opened d = onDescription (describe d) (refusedIn noState) (λ c. heard judgement.Fine (stateOf d fresh))
+abbrev pub opened : List ℕ → Judgement × State
+opened d = onDescription (describe d) (refusedIn noState) (λ c. (judgement.Fine, stateOf d fresh))
 
 -- add under a code: 12, 13 and 27, then the sums
-abbrev pub addedUnder : Code → State → List ℕ → Heard
+abbrev pub addedUnder : Code → State → List ℕ → Judgement × State
 addedUnder c s channel =
     refusedOr (judge (addRefusals c (s .hearing .count) channel)) (refusedIn s)
-    (heard judgement.Fine (withHearing s (addedTo c (s .hearing) channel)))
+    (judgement.Fine, withHearing s (addedTo c (s .hearing) channel))
 
 -- add: refusal 40 first
-abbrev pub added : State → List ℕ → Heard
+abbrev pub added : State → List ℕ → Judgement × State
 added s channel = onDescription (codeOfState s) (refusedIn s) (λ c. addedUnder c s channel)
 
 -- clear: "Clearing returns zeros and count 0."
-abbrev pub cleared : State → Heard
-cleared s = onDescription (codeOfState s) (refusedIn s) (λ c. heard judgement.Fine (withHearing s fresh))
+abbrev pub cleared : State → Judgement × State
+cleared s = onDescription (codeOfState s) (refusedIn s) (λ c. (judgement.Fine, withHearing s fresh))
 
 -- "decoding uses the held values": the decoder's answer to the held description and values
-abbrev pub hearingWith : Plan → State → List ℕ → Decoded × List ℕ
-hearingWith plan s output =
+abbrev pub decodedHeldWith : Restart → State → ℕ → List ℕ → Decoded × List ℕ
+decodedHeldWith restart s limit output =
     onDescription (codeOfState s) (λ x. (decode.Refused x, output))
-    (λ c. decodedWith plan (descriptionOf s) (combined c (s .hearing)) output)
-
--- with each later trial repeated from the root
-abbrev pub hearingFull : State → ℕ → List ℕ → Decoded × List ℕ
-hearingFull s limit output = hearingWith (planOf Root limit) s output
-
--- with each later trial resumed after its flipped index
-abbrev pub hearingRestarted : State → ℕ → List ℕ → Decoded × List ℕ
-hearingRestarted s limit output = hearingWith (planOf After limit) s output
+    (λ c. decodedAs (single limit) restart (descriptionOf s) (combined c (s .hearing)) output)

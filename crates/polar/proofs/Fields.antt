@@ -4,7 +4,7 @@ use Rattle.hearing_buffer.specs.Lent.{stateIn}
 use Rattle.polar_number.proofs.Fields.{number-fields}
 use Rattle.polar.specs.Claims.{ReadBack}
 use Rattle.polar.proofs.Fitting.{encoded-fits, resumed-fits, decoded-fits, sets-fits}
-use Rattle.polar.proofs.Fitting.{opened-fits, added-fits, cleared-fits, heard-fits, previewed-fits}
+use Rattle.polar.proofs.Fitting.{opened-fits, added-fits, cleared-fits, held-fits, previewed-fits}
 
 pub read-back : ReadBack
 read-back = (
@@ -19,7 +19,7 @@ read-back = (
   λ d b. number-fields _ (opened-fits d b),
   λ b channel. number-fields _ (added-fits b channel),
   λ b. number-fields _ (cleared-fits b),
-  λ b limit output. number-fields _ (heard-fits Root (stateIn b) limit output),
-  λ b limit output. number-fields _ (heard-fits After (stateIn b) limit output),
+  λ b limit output. number-fields _ (held-fits Root (stateIn b) limit output),
+  λ b limit output. number-fields _ (held-fits After (stateIn b) limit output),
   λ b channel limit output. number-fields _ (previewed-fits b channel limit output),
 )

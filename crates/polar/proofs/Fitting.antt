@@ -39,13 +39,11 @@ use Rattle.decoder.specs.Decoder.{Decoder, single, sets, refusalsOf, trialsOf, 
 use Rattle.decoder_demands.proofs.StepBounds.{Bounded, bounded}
 use Rattle.hearing.specs.Hearing.{fresh, combined, addedTo, addRefusals, isHearing}
 use Rattle.hearing.proofs.Adding.{count-most, not-full}
-use Rattle.hearing_state.specs.declared.State.{State}
-use Rattle.hearing_state.specs.declared.Heard.{Heard}
-use Rattle.hearing_state.specs.State.{stateOf, noState, descriptionOf, isState, codeOfState, heard, refusedIn, withHearing, opened, hearingWith}
+use Rattle.hearing_state.specs.State.{State, stateOf, noState, descriptionOf, isState, codeOfState, refusedIn, withHearing, opened, decodedHeldWith}
 use Rattle.hearing_state.proofs.States.{codeBy, code-most, is-hearing}
 use Rattle.hearing_buffer.specs.declared.Kept.{Kept}
 use Rattle.hearing_buffer.specs.declared.Kept.the-variants as keep
-use Rattle.hearing_buffer.specs.Lent.{hearingSize, stateIn, kept, openedIn, addedIn, clearedIn}
+use Rattle.hearing_buffer.specs.Lent.{hearingSize, stateIn, answerIn, openedIn, addedIn, clearedIn}
 use Rattle.hearing_preview.specs.Preview.{thenRestartedIn, previewedIn}
 use Rattle.polar_number.specs.Number.{Parts, parts, refusalParts, encodedParts, resumedParts, decodedParts, keptParts}
 use Rattle.polar_number.specs.Contracts.{Fitting}
@@ -164,21 +162,21 @@ state-fits s = by (describe (descriptionOf s))
     by (NoCode x) = alone (omega arith)
 
 -- what is kept of an answer, its count within 255
-abbrev KeptFits : List ℕ → Heard → Type 0
-KeptFits b a = Fits keptParts (kept a b)
+abbrev KeptFits : List ℕ → Judgement × State → Type 0
+KeptFits b a = Fits keptParts (answerIn a b)
 
 kept-refused : (b : List ℕ) (s : State) (x : Refusal) → RefusalFits x → KeptFits b (refusedIn s x)
 unfolding refusedOr
 kept-refused b s x f = f
 
-kept-fine : (b : List ℕ) (s : State) → s .hearing .count ≤ 255 → KeptFits b (heard Fine s)
+kept-fine : (b : List ℕ) (s : State) → s .hearing .count ≤ 255 → KeptFits b (Fine, s)
 unfolding refusedOr
 kept-fine b s l = fitting (omega arith) (omega arith) (omega arith)
 
 pub opened-fits : (d b : List ℕ) → Fits keptParts (openedIn d b)
 opened-fits d b = at (eqb (length b) hearingSize)
   where
-    at : (t : Bool) → Fits keptParts (cond t (kept (opened d) b) (keep.Refused (Alone 40), b))
+    at : (t : Bool) → Fits keptParts (cond t (answerIn (opened d) b) (keep.Refused (Alone 40), b))
     at true = on-code (KeptFits b) (refusedIn noState) (kept-refused b noState) (describe d) (description-fits d) (λ c e. kept-fine b (stateOf d fresh) (omega arith))
     at false = alone (omega arith)
 
@@ -187,7 +185,7 @@ module _ (b channel : List ℕ) where
   s = stateIn b
 
   added-under : (c : Code) → isHearing c (s .hearing) ≡ true → (j : Judgement) → judge (addRefusals c (s .hearing .count) channel) ≡ j → Judged RefusalFits j
-      → KeptFits b (refusedOr j (refusedIn s) (heard Fine (withHearing s (addedTo c (s .hearing) channel))))
+      → KeptFits b (refusedOr j (refusedIn s) (Fine, withHearing s (addedTo c (s .hearing) channel)))
   unfolding refusedOr
   added-under c is Fine e f =
       kept-fine b (withHearing s (addedTo c (s .hearing) channel)) (omega (arith, not-full c (s .hearing .count) channel e (count-most c (s .hearing) is)))
@@ -205,14 +203,14 @@ cleared-fits b =
     let s = stateIn b in
     on-code (KeptFits b) (refusedIn s) (kept-refused b s) (codeOfState s) (state-fits s) (λ c e. kept-fine b (withHearing s fresh) (omega arith))
 
-pub heard-fits : (restart : Restart) (s : State) (limit : ℕ) (output : List ℕ) → Fits decodedParts (hearingWith (planOf restart limit) s output)
-heard-fits restart s limit output =
+pub held-fits : (restart : Restart) (s : State) (limit : ℕ) (output : List ℕ) → Fits decodedParts (decodedHeldWith restart s limit output)
+held-fits restart s limit output =
     on-code (Fits decodedParts) _ (λ x f. f) (codeOfState s) (state-fits s)
     (λ c e. decoded-fits restart (descriptionOf s) (combined c (s .hearing)) limit output)
 
 -- a preview: the refusal of the add, or the answer of decoding
 previewed-by : (a : Kept × List ℕ) (limit : ℕ) (output : List ℕ) → Fits keptParts a → Fits decodedParts (thenRestartedIn a limit output)
-previewed-by (keep.Done count, copy) limit output f = heard-fits After (stateIn copy) limit output
+previewed-by (keep.Done count, copy) limit output f = held-fits After (stateIn copy) limit output
 previewed-by (keep.Refused x, copy) limit output f = f
 
 pub previewed-fits : (b channel : List ℕ) (limit : ℕ) (output : List ℕ) → Fits decodedParts (previewedIn b channel limit output)

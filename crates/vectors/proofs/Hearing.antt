@@ -1,54 +1,44 @@
 -- Document 02, request 2.6: two weak hearings of one frame, of which neither decodes with the largest T, by computation; and what is held after
 -- both, from the theorems, whose premises are met.
 use mathlib.Core.Path.{_≡_, refl, sym, ap, _∙_, subst}
-use mathlib.Core.Bool.{Bool, true, false, _&&_}
+use mathlib.Core.Bool.{Bool, true, false}
 use mathlib.Core.List.{List, [], _∷_, map, map-map}
-use Prim.Native.Nat.{ℕ, zero, suc, _-_, _^_, _<_, _≤_}
-use native.Mathlib.Omega.{arith}
+use Prim.Native.Nat.{ℕ, _≤_}
 use borrow.Author.Tests.{ltb-true}
 use lib.Dec.{ltb}
 use lib.IntN.{ℤ, natAbs}
 use lib.ListN.{length, getD, replicate, length-replicate, List·getD-map}
 use Rattle.laws.specs.First.{firstWhere}
 use Rattle.laws.specs.Table.{table}
-use Rattle.laws.proofs.Each.{Each, each-append}
 use Rattle.laws.proofs.Table.{getD-table}
 use Rattle.laws.specs.Insert.{insertBy, sortBy}
 use Rattle.refusal.specs.Judge.{judge, refusedOr}
-use Rattle.arrays.specs.Sizes.{deepest}
-use Rattle.arrays.proofs.Zeros.{and-true, length-padded}
 use Rattle.bits.specs.Bit.{number}
 use Rattle.bits.specs.Mask.{onesBelow}
 use Rattle.bits.specs.Packing.{packed, unpacked}
 use Rattle.code.specs.Description.{describeUpTo}
-use Rattle.code.specs.Code.{longestDescription}
 use Rattle.crc.specs.Check.{checkOf}
 use Rattle.transform.specs.Transform.{covers, parity, transformed, xors}
 use Rattle.placing.specs.Place.{taken}
 use Rattle.values.specs.Values.{hard, f, g, leftValues, rightValues}
-use Rattle.channel.specs.Channel.{channelValue, channelValues, firstOutside}
-use Rattle.channel.proofs.Outside.{each-inside}
+use Rattle.channel.specs.Channel.{channelValue, channelValues}
 use Rattle.pass_tree.specs.Node.{node}
 use Rattle.flip_order.specs.Order.{information}
+use Rattle.flip_trial.specs.declared.Restart.the-variants.{Root, After}
 use Rattle.flip_run.specs.declared.Decoded.the-variants.{Accepted, Failed}
 use Rattle.flip_run.specs.Trials.{run}
-use Rattle.flip_run.specs.WellFormed.{WellFormed}
-use Rattle.flip_decoder.specs.Decode.{decodedBy, decodedWith, decodedFull, decodedRestarted}
-use Rattle.flip_demands.specs.Noiseless.{Received}
-use Rattle.flip_demands.proofs.NoiselessDecoding.{noiseless-decoding}
+use Rattle.decoder.specs.Decoder.{single, WellFormed, decodedUnder, decodedAs, decodedFull, decodedRestarted}
+use Rattle.decoder.proofs.Decoder.{spelt-out}
 use Rattle.decoder.proofs.Examples.{wideD, wideCode, vector}
-use Rattle.hearing.specs.Hearing.{hearingOf, combined}
-use Rattle.hearing.proofs.Inside.{Inside, each-zero, heard-hearing}
-use Rattle.hearing_state.specs.declared.State.{State}
-use Rattle.hearing_state.specs.State.{stateOf, descriptionOf, opened, hearingFull, hearingRestarted}
+use Rattle.decoder_demands.specs.Noiseless.{Received}
+use Rattle.decoder_demands.proofs.Noiseless.{noiseless-decoding}
+use Rattle.decoder_demands.proofs.Instances.{describes, encodes-80, small}
+use Rattle.hearing.specs.Hearing.{combined}
+use Rattle.hearing_state.specs.State.{State, opened, decodedHeldWith}
 use Rattle.hearing_buffer.specs.Lent.{hearingSize, stateIn, openedIn, fullIn, restartedIn}
 use Rattle.hearing_demands.specs.Repeats.{Call, add, clear, after, acceptedIn, Holds, bufferAfter}
-use Rattle.hearing_demands.specs.Claims.{Sized}
-use Rattle.hearing_demands.proofs.Descriptions.{code-of}
 use Rattle.hearing_demands.proofs.HeldAfter.{held-after}
-use Rattle.hearing_demands.proofs.Left.{left-by-some}
 use Rattle.hearing_demands.proofs.Buffer.{buffer-after}
-use Rattle.vectors.proofs.Sets.{describes, encodes, small}
 
 -- 9, 3, −21, 9, 13, 8, −3, −17
 abbrev pub firstV : List ℕ
@@ -68,7 +58,7 @@ Neither byte v =
     (decodedFull wideD v 5 (byte ∷ []) ≡ (Failed 5 120, byte ∷ [])) × (decodedRestarted wideD v 5 (byte ∷ []) ≡ (Failed 5 50, byte ∷ []))
 
 pub neither-decodes : (byte : ℕ) → Neither byte firstV × Neither byte secondV
-unfolding firstWhere table judge refusedOr number onesBelow packed describeUpTo checkOf covers parity transformed xors taken f g leftValues rightValues channelValue node information insertBy sortBy run decodedBy decodedWith
+unfolding firstWhere table judge refusedOr number onesBelow packed describeUpTo checkOf covers parity transformed xors taken f g leftValues rightValues channelValue node information insertBy sortBy run decodedUnder decodedAs
 neither-decodes byte = ((refl, refl), (refl, refl))
 
 -- another frame is heard and cleared; then both hearings, and between them a vector that is too short, and one with a value out of range
@@ -100,9 +90,13 @@ module _ (s : State) (h : Holds wideD wideCode s (firstV ∷ secondV ∷ [])) wh
   unfolding channelValue table
   strengths = sym (map-map (λ z. ltb 0 (natAbs z)) channelValue held) ∙ ap (map (λ z. ltb 0 (natAbs z))) values
 
-  received : Received 8 (0xA5 ∷ []) held
+  received : Received 8 wideD (0x80 ∷ []) held
   unfolding channelValue
   received = record {
+    bytes = small;
+    codeword = 0xA5 ∷ [];
+    before = 0 ∷ [];
+    encodes = encodes-80;
     sign = λ j l. sym (List·getD-map (λ b. hard (channelValue b)) held j 0) ∙ ap (λ (x : List ℕ). getD x j 0) signs;
     strength = λ j l.
         ltb-true 0 (natAbs (channelValue (getD held j 0)))
@@ -112,21 +106,19 @@ module _ (s : State) (h : Holds wideD wideCode s (firstV ∷ secondV ∷ [])) wh
 
   -- for every T, whatever byte the output held
   pub both-decode : (T byte : ℕ) → 1 ≤ T → T ≤ 5
-      → (hearingFull s T (byte ∷ []) ≡ (Accepted 1 24, 0x80 ∷ [])) × (hearingRestarted s T (byte ∷ []) ≡ (Accepted 1 24, 0x80 ∷ []))
+      → (decodedHeldWith Root s T (byte ∷ []) ≡ (Accepted 1 24, 0x80 ∷ [])) × (decodedHeldWith After s T (byte ∷ []) ≡ (Accepted 1 24, 0x80 ∷ []))
   both-decode T byte least most =
-      let well : WellFormed wideCode held T (byte ∷ []) = record {
-        channel-size = h .size-is;
-        in-range = h .in-range ∙ sym (h .size-is);
-        limit-least = least;
-        limit-most = most;
-        output-size = refl;
+      let well : WellFormed (single T) wideD wideCode held (byte ∷ []) = record {
+        described = describes;
+        fine = spelt-out (single T) wideCode held (byte ∷ []) .0
+            (record { channel-size = h .size-is; in-range = h .in-range ∙ sym (h .size-is); allowed = (least, most); output-size = refl });
       } in
-      let x = noiseless-decoding wideD wideCode (0x80 ∷ []) (0 ∷ []) (0xA5 ∷ []) held T (byte ∷ []) describes small encodes received well in
-      (h .full-is T (byte ∷ []) ∙ x .0, h .restarted-is T (byte ∷ []) ∙ x .1)
+      let x = noiseless-decoding wideD wideCode (0x80 ∷ []) held T (byte ∷ []) received well in
+      (h .decoded-is Root T (byte ∷ []) ∙ x .0, h .decoded-is After T (byte ∷ []) ∙ x .1)
 
--- in Rattle, where the state goes from call to call
+-- the state goes from call to call
 abbrev pub heardTwice : State
-heardTwice = after (opened wideD .state) calls
+heardTwice = after (opened wideD .1) calls
 
 holds-both : Holds wideD wideCode heardTwice (firstV ∷ secondV ∷ [])
 holds-both = subst (Holds wideD wideCode heardTwice) both-accepted (held-after wideD wideCode calls describes)
@@ -135,10 +127,10 @@ pub twice-counted : heardTwice .hearing .count ≡ 2
 twice-counted = holds-both .count-is
 
 pub twice-decodes : (T byte : ℕ) → 1 ≤ T → T ≤ 5
-    → (hearingFull heardTwice T (byte ∷ []) ≡ (Accepted 1 24, 0x80 ∷ [])) × (hearingRestarted heardTwice T (byte ∷ []) ≡ (Accepted 1 24, 0x80 ∷ []))
+    → (decodedHeldWith Root heardTwice T (byte ∷ []) ≡ (Accepted 1 24, 0x80 ∷ [])) × (decodedHeldWith After heardTwice T (byte ∷ []) ≡ (Accepted 1 24, 0x80 ∷ []))
 twice-decodes = both-decode heardTwice holds-both
 
--- and for C, in any buffer of the right size; a buffer of that size exists
+-- and in any buffer of the right size; a buffer of that size exists
 module _ (b : List ℕ) (size : length b ≡ hearingSize) where
   abbrev buffer : List ℕ
   buffer = bufferAfter (openedIn wideD b .1) calls
@@ -151,38 +143,3 @@ module _ (b : List ℕ) (size : length b ≡ hearingSize) where
 
 pub a-buffer : length (replicate {A = ℕ} hearingSize 0) ≡ hearingSize
 a-buffer = length-replicate {A = ℕ} hearingSize 0
-
--- ---- a state that is not refused is left by some calls: the one with these sums and count 2
-
-abbrev pub twice : State
-twice = stateOf wideD (hearingOf sumsV 2)
-
-sums-outside : firstOutside sumsV ≡ 8
-unfolding firstWhere channelValue
-sums-outside = refl
-
-inside : Inside 8 sumsV
-inside = record { size-is = refl; at = each-inside sumsV (omega (arith, sums-outside)) }
-
--- bytes, one by one
-below : List ℕ → Bool
-below [] = true
-below (b ∷ v) = ltb b 256 && below v
-
-each-below : (v : List ℕ) → below v ≡ true → Each (λ b. b < 256) 0 v
-unfolding below
-each-below [] e i = omega arith
-each-below (b ∷ v) e zero = ltb-true b 256 (and-true (ltb b 256) (below v) e .0)
-each-below (b ∷ v) e (suc i) = each-below v (and-true (ltb b 256) (below v) e .1) i
-
-sized : Sized twice
-unfolding below
-sized = record {
-  description-size = length-padded longestDescription wideD (omega arith);
-  values-size = length-padded (2 ^ deepest) sumsV (omega arith);
-  bytes = each-append (λ b. b < 256) 0 sumsV (replicate (2 ^ deepest - 8) 0) (each-below sumsV refl) (each-zero (λ b. b < 256) (omega arith) (2 ^ deepest - 8));
-}
-
-pub twice-left : (list : List Call) × (after (opened (descriptionOf twice) .state) list ≡ twice)
-twice-left =
-    left-by-some twice wideCode sized (code-of wideD wideCode describes (hearingOf sumsV 2) (heard-hearing wideCode sumsV inside 1 (omega arith)))

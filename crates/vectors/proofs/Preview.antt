@@ -8,17 +8,17 @@ use Rattle.refusal.specs.declared.Refusal.the-variants.{Alone, At}
 use Rattle.refusal.specs.declared.Judgement.the-variants.{Fine}
 use Rattle.refusal.specs.Judge.{judge, refusedOr}
 use Rattle.channel.specs.Channel.{channelValue}
+use Rattle.flip_trial.specs.declared.Restart.the-variants.{After}
 use Rattle.flip_run.specs.declared.Decoded.the-variants.{Accepted, Refused}
 use Rattle.decoder.proofs.Examples.{wideD, wideCode, vector}
+use Rattle.decoder_demands.proofs.Instances.{describes}
 use Rattle.hearing.specs.Hearing.{addRefusals}
-use Rattle.hearing_state.specs.declared.State.{State}
-use Rattle.hearing_state.specs.State.{opened, added}
+use Rattle.hearing_state.specs.State.{State, opened, added}
 use Rattle.hearing_buffer.specs.Lent.{hearingSize, openedIn}
 use Rattle.hearing_demands.specs.Repeats.{Call, add, clear, after, acceptedIn, bufferAfter}
-use Rattle.hearing_preview.specs.Preview.{previewed, previewedIn}
-use Rattle.hearing_preview.specs.Claims.{Previews}
+use Rattle.hearing_preview.specs.Preview.{previewedIn}
+use Rattle.hearing_preview.specs.Claims.{previewed, Previews}
 use Rattle.hearing_preview.proofs.After.{preview-after, preview-in-after}
-use Rattle.vectors.proofs.Sets.{describes}
 use Rattle.vectors.proofs.Hearing.{firstV, secondV, both-decode}
 
 -- another frame is heard and cleared; then the first hearing
@@ -26,7 +26,7 @@ abbrev pub calls : List Call
 calls = add vector ∷ clear ∷ add firstV ∷ []
 
 abbrev pub heardOnce : State
-heardOnce = after (opened wideD .state) calls
+heardOnce = after (opened wideD .1) calls
 
 first-accepted : acceptedIn wideCode [] calls ≡ firstV ∷ []
 unfolding firstWhere judge refusedOr channelValue
@@ -44,8 +44,8 @@ second-fine = refl
 pub second-settles : (T byte : ℕ) → 1 ≤ T → T ≤ 5 → previewed heardOnce secondV T (byte ∷ []) ≡ (Accepted 1 24, 0x80 ∷ [])
 second-settles T byte least most =
     let held = previews secondV .sums second-fine in
-    previews secondV .decoded second-fine T (byte ∷ []) ∙ sym (held .restarted-is T (byte ∷ []))
-    ∙ both-decode (added heardOnce secondV .state) held T byte least most .1
+    previews secondV .decoded second-fine T (byte ∷ []) ∙ sym (held .decoded-is After T (byte ∷ []))
+    ∙ both-decode (added heardOnce secondV .1) held T byte least most .1
 
 -- a vector that is too short, and one with a value out of range: nothing is decoded
 pub short-refused : (T : ℕ) (output : List ℕ) → previewed heardOnce (0x01 ∷ []) T output ≡ (Refused (Alone 12), output)
@@ -75,7 +75,7 @@ all-accepted : length (acceptedIn wideCode [] full) ≡ 255
 unfolding firstWhere judge refusedOr channelValue
 all-accepted = refl
 
-pub full-refused : (T : ℕ) (output : List ℕ) → previewed (after (opened wideD .state) full) secondV T output ≡ (Refused (Alone 27), output)
+pub full-refused : (T : ℕ) (output : List ℕ) → previewed (after (opened wideD .1) full) secondV T output ≡ (Refused (Alone 27), output)
 unfolding firstWhere judge channelValue
 full-refused =
     preview-after wideD wideCode full secondV describes .refused (Alone 27) (ap (λ (n : ℕ). judge (addRefusals wideCode n secondV)) all-accepted)

@@ -27,9 +27,10 @@ use Rattle.channel.specs.Channel.{channelValue, firstOutside}
 use Rattle.encoder.specs.declared.Encoded.the-variants.{Done}
 use Rattle.encoder.specs.Encode.{messageOf, codeword, encodedBy, encoded}
 use Rattle.flip_run.specs.declared.Decoded.the-variants.{Accepted}
-use Rattle.decoder.specs.Decoder.{decodedFull, decodedRestarted}
-use Rattle.flip_demands.specs.Noiseless.{Received}
-use Rattle.flip_demands.proofs.NoiselessDecoding.{noiseless-decoding}
+use Rattle.decoder.specs.Decoder.{single, decodedFull, decodedRestarted}
+use Rattle.decoder.proofs.Decoder.{spelt-out}
+use Rattle.decoder_demands.specs.Noiseless.{Received}
+use Rattle.decoder_demands.proofs.Noiseless.{noiseless-decoding}
 
 -- kind 4, N = 128, r = 16, the polynomial z^16 + z^12 + z^5 + 1, start FFFF, and the indices from 40 on
 abbrev description : List ℕ
@@ -78,14 +79,6 @@ strengths : map (λ b. natAbs (channelValue b)) received ≡ table (λ j. 4) 128
 unfolding channelValue unpacked table
 strengths = refl
 
-with-signs : Received 128 sent received
-unfolding channelValue
-with-signs = record {
-  sign = λ j l. sym (List·getD-map (λ b. hard (channelValue b)) received j 0) ∙ ap (λ (x : List ℕ). getD x j 0) signs;
-  strength = λ j l.
-      omega (arith, sym (List·getD-map (λ b. natAbs (channelValue b)) received j 0) ∙ ap (λ (x : List ℕ). getD x j 0) strengths ∙ getD-table (λ j. 4) 128 j 0 l);
-}
-
 abbrev allBelow : List ℕ → Bool
 allBelow [] = true
 allBelow (x ∷ xs) = ltb x 256 && allBelow xs
@@ -96,9 +89,23 @@ small [] e m = omega arith
 small (x ∷ xs) e zero = ltb-true x 256 (and-eq-true-iff (ltb x 256) (allBelow xs) .0 e .0)
 small (x ∷ xs) e (suc m) = small xs (and-eq-true-iff (ltb x 256) (allBelow xs) .0 e .1) m
 
+with-signs : Received 128 description digits received
+unfolding channelValue
+with-signs = record {
+  bytes = small digits refl;
+  codeword = sent;
+  before = replicate 16 0;
+  encodes = ibm-3740-encoded (replicate 16 0) refl;
+  sign = λ j l. sym (List·getD-map (λ b. hard (channelValue b)) received j 0) ∙ ap (λ (x : List ℕ). getD x j 0) signs;
+  strength = λ j l.
+      omega (arith, sym (List·getD-map (λ b. natAbs (channelValue b)) received j 0) ∙ ap (λ (x : List ℕ). getD x j 0) strengths ∙ getD-table (λ j. 4) 128 j 0 l);
+}
+
 -- for every T that 14 allows and every output of nine bytes
 pub ibm-3740-decoded : (T : ℕ) (output : List ℕ) → 1 ≤ T → T ≤ 89 → length output ≡ 9 → (decodedFull description received T output ≡ (Accepted 1 896, digits)) × (decodedRestarted description received T output ≡ (Accepted 1 896, digits))
 unfolding unpacked table
 ibm-3740-decoded T output least most size =
-    noiseless-decoding description code digits (replicate 16 0) sent received T output ibm-3740-code (small digits refl) (ibm-3740-encoded (replicate 16 0) refl) with-signs
-    (record { channel-size = refl; in-range = values-inside; limit-least = least; limit-most = most; output-size = size })
+    noiseless-decoding description code digits received T output with-signs (record {
+      described = ibm-3740-code;
+      fine = spelt-out (single T) code received output .0 (record { channel-size = refl; in-range = values-inside; allowed = (least, most); output-size = size });
+    })

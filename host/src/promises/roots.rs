@@ -13,12 +13,12 @@ const OPERATIONS: [(&str, &str); 16] = [
     ("sets_decoder", "decode_sets_full"),
     ("sets_decoder", "decode_sets_half"),
     ("sets_decoder", "decode_sets_restarted"),
-    ("hearing_state", "open"),
-    ("hearing_state", "add"),
-    ("hearing_state", "clear"),
-    ("hearing_state", "decode_full"),
-    ("hearing_state", "decode_restarted"),
-    ("hearing_preview", "preview"),
+    ("hearing_buffer", "open"),
+    ("hearing_buffer", "add"),
+    ("hearing_buffer", "clear"),
+    ("hearing_buffer", "decode_full"),
+    ("hearing_buffer", "decode_restarted"),
+    ("hearing_preview", "preview_in"),
     ("quantiser", "quantise"),
 ];
 

@@ -9,7 +9,7 @@ use Rattle.code.specs.declared.Description.{Description}
 use Rattle.code.specs.Description.{onDescription}
 use Rattle.hearing_state.specs.State.{refusedIn, addedUnder}
 use Rattle.hearing_buffer.specs.declared.Kept.{Kept}
-use Rattle.hearing_buffer.specs.Lent.{stateIn, kept}
+use Rattle.hearing_buffer.specs.Lent.{stateIn, answerIn}
 use Rattle.hearing_buffer.proofs.add.Statement.{statement}
 use Rattle.hearing_buffer.proofs.add.Tie as tie
 
@@ -17,7 +17,7 @@ use Rattle.hearing_buffer.proofs.add.Tie as tie
 abbrev by : tie.Start → Description → Kept × List ℕ
 by s a =
     let b = now (s .args .buffer) in
-    kept (onDescription a (refusedIn (stateIn b)) (λ c. addedUnder c (stateIn b) (now (s .args .channel)))) b
+    answerIn (onDescription a (refusedIn (stateIn b)) (λ c. addedUnder c (stateIn b) (now (s .args .channel)))) b
 
 returns : tie.Need-returns
 returns c =

@@ -12,17 +12,14 @@ use Rattle.refusal.specs.declared.Judgement.the-variants.{Fine}
 use Rattle.refusal.specs.Judge.{judge, refusedOr}
 use Rattle.arrays.specs.Sizes.{deepest}
 use Rattle.code.specs.Code.{longestDescription}
-use Rattle.hearing.specs.declared.Hearing.{Hearing}
-use Rattle.hearing.specs.Hearing.{addedTo, addRefusals, isHearing}
+use Rattle.hearing.specs.Hearing.{Hearing, addedTo, addRefusals, isHearing}
 use Rattle.hearing.specs.Contracts.{hearingBy}
 use Rattle.hearing.proofs.Adding.{count-most, not-full, add-pre, sums-are}
-use Rattle.hearing_state.specs.declared.State.{State}
-use Rattle.hearing_state.specs.State.{codeOfState, heard, refusedIn, withHearing}
-use Rattle.hearing_state.specs.Contracts.{stateBy}
+use Rattle.hearing_state.specs.State.{State, stateBy, codeOfState, refusedIn, withHearing}
 use Rattle.hearing_state.proofs.States.{code-most, is-hearing}
 use Rattle.hearing_buffer.specs.declared.Kept.{Kept}
 use Rattle.hearing_buffer.specs.declared.Kept.the-variants.{Done}
-use Rattle.hearing_buffer.specs.Lent.{hearingSize, stateIn, kept}
+use Rattle.hearing_buffer.specs.Lent.{hearingSize, stateIn, answerIn}
 use Rattle.hearing_buffer.proofs.InPlace.{code-size, part, parts, state-parts, added-bytes}
 use Rattle.hearing_buffer.proofs.add_under.Statement.{statement}
 use Rattle.hearing_buffer.proofs.add_under.Tie as tie
@@ -57,7 +54,7 @@ module _ (s : tie.Start) where
   abbrev by : State → Judgement → Kept × List ℕ
   by t j =
       let x = s .args in
-      kept (refusedOr j (refusedIn t) (heard Fine (withHearing t (addedTo (x .code) (t .hearing) (now (x .channel)))))) b
+      answerIn (refusedOr j (refusedIn t) (Fine, withHearing t (addedTo (x .code) (t .hearing) (now (x .channel))))) b
 
 -- the answer and the bytes if no refusal applies
 module _ (c : tie.After-enum-told) where

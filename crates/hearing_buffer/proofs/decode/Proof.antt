@@ -8,7 +8,7 @@ use Rattle.code.specs.declared.Description.{Description}
 use Rattle.code.specs.Description.{onDescription}
 use Rattle.flip_run.specs.declared.Decoded.{Decoded}
 use Rattle.flip_run.specs.declared.Decoded.the-variants.{Refused}
-use Rattle.flip_decoder.specs.Decode.{decodedWith}
+use Rattle.decoder.specs.Decoder.{single, decodedAs}
 use Rattle.hearing.specs.Hearing.{combined}
 use Rattle.hearing_state.specs.State.{descriptionOf}
 use Rattle.hearing_buffer.specs.Lent.{stateIn}
@@ -20,7 +20,7 @@ abbrev by : tie.Start → Description → Decoded × List ℕ
 by s a =
     let x = s .args in
     let t = stateIn (now (x .buffer)) in
-    onDescription a (λ r. (Refused r, now (x .output))) (λ c. decodedWith (x .plan) (descriptionOf t) (combined c (t .hearing)) (now (x .output)))
+    onDescription a (λ r. (Refused r, now (x .output))) (λ c. decodedAs (single (x .terms .limit)) (x .terms .restart) (descriptionOf t) (combined c (t .hearing)) (now (x .output)))
 
 returns : tie.Need-returns
 returns c =

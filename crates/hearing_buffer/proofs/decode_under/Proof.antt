@@ -11,11 +11,9 @@ use Rattle.code.specs.declared.Description.the-variants.{Accepted}
 use Rattle.code.specs.Description.{describe}
 use Rattle.code.specs.Code.{longestDescription}
 use Rattle.code.proofs.Facts.{described}
-use Rattle.flip_decoder.specs.Decode.{decodedWith}
+use Rattle.decoder.specs.Decoder.{single, decodedAs}
 use Rattle.hearing.specs.Hearing.{combined}
-use Rattle.hearing_state.specs.declared.State.{State}
-use Rattle.hearing_state.specs.State.{descriptionOf, codeOfState}
-use Rattle.hearing_state.specs.Contracts.{stateBy}
+use Rattle.hearing_state.specs.State.{State, stateBy, descriptionOf, codeOfState}
 use Rattle.hearing_state.proofs.States.{state-is}
 use Rattle.hearing_buffer.specs.Lent.{hearingSize}
 use Rattle.hearing_buffer.proofs.InPlace.{code-size, part, parts, state-parts}
@@ -42,7 +40,7 @@ returns c =
     let s = d .before .before .before .before .before .before in
     let x = s .args in
     d .decode-values .ensures
-    ∙ ap (λ (t : State). decodedWith (x .plan) (descriptionOf t) (combined (x .code) (t .hearing)) (now (x .output))) (state-parts (b s) (size s))
+    ∙ ap (λ (t : State). decodedAs (single (x .terms .limit)) (x .terms .restart) (descriptionOf t) (combined (x .code) (t .hearing)) (now (x .output))) (state-parts (b s) (size s))
 
 pub decode-under-spec : {M : Type 1} → statement M
 decode-under-spec =

@@ -14,12 +14,10 @@ use Rattle.code.specs.Code.{codeLength, longestDescription}
 use Rattle.code.specs.Description.{describe}
 use Rattle.code.specs.Record.{recordIn}
 use Rattle.flip_trial.specs.declared.Restart.the-variants.{After}
-use Rattle.flip_run.specs.Plan.{planOf}
-use Rattle.flip_decoder.specs.Decode.{decodedWith}
+use Rattle.decoder.specs.Decoder.{single, decodedAs}
 use Rattle.hearing.specs.Hearing.{clippedSums, addedTo}
 use Rattle.hearing.specs.Contracts.{AddPre}
-use Rattle.hearing_state.specs.declared.State.{State}
-use Rattle.hearing_state.specs.State.{descriptionOf}
+use Rattle.hearing_state.specs.State.{State, descriptionOf}
 use Rattle.hearing_buffer.specs.Lent.{hearingSize, stateIn}
 use Rattle.hearing_buffer.proofs.Bytes.{state-at}
 use Rattle.hearing_preview.proofs.Sums as sums
@@ -83,7 +81,7 @@ returns r =
     let s = a .before .before .before .before .before .before .before .before in
     let output = now (s .args .output) in
     d .decode-values .ensures
-    ∙ ap₂ (λ (l v : List ℕ). decodedWith (planOf After (s .args .limit)) l (take (codeLength (c s)) v) output) (record-is s) (made a)
+    ∙ ap₂ (λ (l v : List ℕ). decodedAs (single (s .args .limit)) After l (take (codeLength (c s)) v) output) (record-is s) (made a)
     ∙ sym (sums.decoded-sums (c s) (b s) (channel s) (s .pre) (s .args .limit) output)
 
 pub decode-sums-spec : {M : Type 1} → statement M

@@ -6,19 +6,15 @@ use native.Mathlib.Omega.{arith}
 use borrow.Author.Needs.{needs}
 use denote.Ref.{now}
 use lib.ListN.{length}
-use Rattle.refusal.specs.declared.Judgement.{Judgement}
-use Rattle.refusal.specs.declared.Judgement.the-variants.{Fine}
-use Rattle.refusal.specs.Judge.{judge, refusedOr}
+use Rattle.refusal.specs.Judge.{judge}
 use Rattle.arrays.specs.Sizes.{deepest}
-use Rattle.flip_run.specs.declared.Decoded.{Decoded}
-use Rattle.hearing.specs.Hearing.{addedTo, addRefusals}
-use Rattle.hearing_state.specs.declared.State.{State}
-use Rattle.hearing_state.specs.State.{heard, refusedIn, withHearing}
+use Rattle.hearing.specs.Hearing.{addRefusals}
+use Rattle.hearing_state.specs.State.{State}
 use Rattle.hearing_state.proofs.States.{code-most}
 use Rattle.hearing_buffer.specs.Lent.{hearingSize, stateIn}
 use Rattle.hearing_buffer.proofs.Bytes.{state-at}
 use Rattle.hearing_buffer.proofs.InPlace.{code-size}
-use Rattle.hearing_preview.specs.Preview.{thenRestarted}
+use Rattle.hearing_preview.proofs.Copy.{preview-refused, preview-fine}
 use Rattle.hearing_preview.proofs.preview_under.Statement.{statement}
 use Rattle.hearing_preview.proofs.preview_under.Tie as tie
 
@@ -32,13 +28,6 @@ module _ (s : tie.Start) where
   n-most : s .args .code .n ≤ deepest
   n-most = code-most (stateIn b) (s .args .code) (s .pre)
 
-  -- the answer, by the judgement
-  abbrev by : Judgement → Decoded × List ℕ
-  by j =
-      let x = s .args in
-      let t = stateIn b in
-      thenRestarted (refusedOr j (refusedIn t) (heard Fine (withHearing t (addedTo (x .code) (t .hearing) (now (x .channel)))))) (x .limit) (now (x .output))
-
 -- the count is that in the buffer
 judged : (j : tie.After-judge-add) → let s = j .before .before .before .before .before in j .judge-add .result ≡ judge (addRefusals (s .args .code) (stateIn (b s) .hearing .count) (now (s .args .channel)))
 judged j =
@@ -46,21 +35,22 @@ judged j =
     j .judge-add .ensures ∙ ap (λ (t : State). judge (addRefusals (s .args .code) (t .hearing .count) (now (s .args .channel)))) (sym (state-at (b s) (size s)))
 
 returns : tie.Need-returns
-unfolding refusedOr
 returns c =
     let d = c .before .before in
     let t = d .before .before in
     let j = t .before .before in
     let s = j .before .before .before .before .before in
-    d .decode-sums .ensures ∙ sym (ap (by s) (sym (judged j) ∙ t .enum-told .given .1))
+    let x = s .args in
+    d .decode-sums .ensures
+    ∙ sym (preview-fine (b s) (now (x .channel)) (x .limit) (now (x .output)) (x .code) (s .pre) (sym (judged j) ∙ t .enum-told .given .1))
 
 returns-2 : tie.Need-returns-2
-unfolding refusedOr
 returns-2 c =
     let t = c .before in
     let j = t .before .before in
     let s = j .before .before .before .before .before in
-    sym (ap (by s) (sym (judged j) ∙ t .x .given .1))
+    let x = s .args in
+    sym (preview-refused (b s) (now (x .channel)) (x .limit) (now (x .output)) (x .code) _ (s .pre) (sym (judged j) ∙ t .x .given .1))
 
 pub preview-under-spec : {M : Type 1} → statement M
 preview-under-spec =

@@ -11,8 +11,8 @@ use Rattle.laws.proofs.Powers.{one-shl}
 use Rattle.code.specs.Description.{word, maskAt, maskOf}
 use Rattle.code.specs.Claims.{Coded, Described}
 use Rattle.code.proofs.Facts.{described}
-use Rattle.flip_decoder.specs.Decode.{decodedBy}
-use Rattle.flip_decoder.proofs.WellFormed.{decoded-by}
+use Rattle.decoder.specs.Decoder.{single, decodedUnder}
+use Rattle.decoder.proofs.Decoder.{under-code}
 use Rattle.hearing_state.proofs.decode_values.Statement.{statement}
 use Rattle.hearing_state.proofs.decode_values.Tie as tie
 
@@ -48,8 +48,8 @@ returns c =
     let x = s .args in
     let channel : ℕ → List ℕ = λ k. take k (now (x .values)) in
     c .before .before .decode-by .ensures
-    ∙ ap₂ (λ (mask : List ℕ) (k : ℕ). decodedBy (x .plan) mask (x .code) (channel k) (now (x .output))) (mask-is m) (size s)
-    ∙ sym (decoded-by (x .plan) (d s) (channel (2 ^ x .code .n)) (now (x .output)) (x .code) (s .pre .describes))
+    ∙ ap₂ (λ (mask : List ℕ) (k : ℕ). decodedUnder (single (x .terms .limit)) (x .terms .restart) mask (x .code) (channel k) (now (x .output))) (mask-is m) (size s)
+    ∙ sym (under-code (single (x .terms .limit)) (x .terms .restart) (d s) (channel (2 ^ x .code .n)) (now (x .output)) (x .code) (s .pre .describes))
 
 pub decode-values-spec : {M : Type 1} → statement M
 decode-values-spec =

@@ -6,7 +6,7 @@ use Rattle.flip_trial.specs.declared.Restart.the-variants.{Root}
 use Rattle.hearing_buffer.specs.Lent.{stateIn}
 use Rattle.polar_number.specs.Number.{decodedParts}
 use Rattle.polar.proofs.Answers.{numbered-answer}
-use Rattle.polar.proofs.Fitting.{Fits, heard-fits}
+use Rattle.polar.proofs.Fitting.{Fits, held-fits}
 use Rattle.polar.proofs.polar_hearing_decode_full.Statement.{statement}
 use Rattle.polar.proofs.polar_hearing_decode_full.Tie as tie
 
@@ -15,6 +15,6 @@ polar-hearing-decode-full-spec =
     tie.close
     (tie.spec
     (λ c κs. search needs)
-    (λ c κs. let x = c .before .before .before .before .before .before .args in subst (Fits decodedParts) (sym (c .before .before .decode-full .ensures)) (heard-fits Root (stateIn (now (x .state))) (x .limit) (now (x .payload))))
+    (λ c κs. let x = c .before .before .before .before .before .before .args in subst (Fits decodedParts) (sym (c .before .before .decode-full .ensures)) (held-fits Root (stateIn (now (x .state))) (x .limit) (now (x .payload))))
     (λ c. search needs)
     (λ c. numbered-answer decodedParts (c .decoded-answer .ensures) (c .before .before .before .decode-full .ensures)))
