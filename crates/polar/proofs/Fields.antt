@@ -1,21 +1,15 @@
 -- Every answer of every export is read back from its number.
-use Rattle.flip_trial.specs.declared.Restart.the-variants.{Root, Half, After}
+use Rattle.flip_trial.specs.declared.Restart.the-variants.{Root, After}
 use Rattle.hearing_buffer.specs.Lent.{stateIn}
 use Rattle.polar_number.proofs.Fields.{number-fields}
 use Rattle.polar.specs.Claims.{ReadBack}
-use Rattle.polar.proofs.Fitting.{encoded-fits, resumed-fits, decoded-fits, sets-fits}
-use Rattle.polar.proofs.Fitting.{opened-fits, added-fits, cleared-fits, held-fits, previewed-fits}
+use Rattle.polar.proofs.Fitting.{encoded-fits, resumed-fits, decoded-fits, opened-fits, added-fits, cleared-fits, held-fits, previewed-fits}
 
 pub read-back : ReadBack
 read-back = (
   λ d payload output. number-fields _ (encoded-fits d payload output),
   λ d channel prefix output. number-fields _ (resumed-fits d channel prefix output),
-  λ d channel limit output. number-fields _ (decoded-fits Root d channel limit output),
-  λ d channel limit output. number-fields _ (decoded-fits Half d channel limit output),
-  λ d channel limit output. number-fields _ (decoded-fits After d channel limit output),
-  λ d channel w limit output. number-fields _ (sets-fits Root d channel w limit output),
-  λ d channel w limit output. number-fields _ (sets-fits Half d channel w limit output),
-  λ d channel w limit output. number-fields _ (sets-fits After d channel w limit output),
+  λ p restart d channel output. number-fields _ (decoded-fits p restart d channel output),
   λ d b. number-fields _ (opened-fits d b),
   λ b channel. number-fields _ (added-fits b channel),
   λ b. number-fields _ (cleared-fits b),

@@ -206,7 +206,7 @@ cleared-fits b =
 pub held-fits : (restart : Restart) (s : State) (limit : ℕ) (output : List ℕ) → Fits decodedParts (decodedHeldWith restart s limit output)
 held-fits restart s limit output =
     on-code (Fits decodedParts) _ (λ x f. f) (codeOfState s) (state-fits s)
-    (λ c e. decoded-fits restart (descriptionOf s) (combined c (s .hearing)) limit output)
+    (λ c e. decoded-fits (single limit) restart (descriptionOf s) (combined c (s .hearing)) output)
 
 -- a preview: the refusal of the add, or the answer of decoding
 previewed-by : (a : Kept × List ℕ) (limit : ℕ) (output : List ℕ) → Fits keptParts a → Fits decodedParts (thenRestartedIn a limit output)

@@ -3,7 +3,8 @@ use Prim.Native.Nat.{ℕ}
 use mathlib.Core.List.{List}
 use Rattle.encoder.specs.Encode.{encoded}
 use Rattle.pass_resume.specs.Resume.{resumed}
-use Rattle.decoder.specs.Decoder.{decodedFull, decodedHalf, decodedRestarted, setsFull, setsHalf, setsRestarted}
+use Rattle.flip_trial.specs.declared.Restart.{Restart}
+use Rattle.decoder.specs.Decoder.{Decoder, decodedAs}
 use Rattle.hearing_buffer.specs.Lent.{openedIn, addedIn, clearedIn, fullIn, restartedIn}
 use Rattle.hearing_preview.specs.Preview.{previewedIn}
 use Rattle.polar_number.specs.Number.{encodedParts, resumedParts, decodedParts, keptParts}
@@ -14,12 +15,7 @@ abbrev pub ReadBack : Type 0
 ReadBack =
     ((d payload output : List ℕ) → Read (encodedParts (encoded d payload output .0)))
     × ((d channel prefix output : List ℕ) → Read (resumedParts (resumed d channel prefix output .0)))
-    × ((d channel : List ℕ) (limit : ℕ) (output : List ℕ) → Read (decodedParts (decodedFull d channel limit output .0)))
-    × ((d channel : List ℕ) (limit : ℕ) (output : List ℕ) → Read (decodedParts (decodedHalf d channel limit output .0)))
-    × ((d channel : List ℕ) (limit : ℕ) (output : List ℕ) → Read (decodedParts (decodedRestarted d channel limit output .0)))
-    × ((d channel : List ℕ) (w limit : ℕ) (output : List ℕ) → Read (decodedParts (setsFull d channel w limit output .0)))
-    × ((d channel : List ℕ) (w limit : ℕ) (output : List ℕ) → Read (decodedParts (setsHalf d channel w limit output .0)))
-    × ((d channel : List ℕ) (w limit : ℕ) (output : List ℕ) → Read (decodedParts (setsRestarted d channel w limit output .0)))
+    × ((p : Decoder) (restart : Restart) (d channel output : List ℕ) → Read (decodedParts (decodedAs p restart d channel output .0)))
     × ((d b : List ℕ) → Read (keptParts (openedIn d b .0)))
     × ((b channel : List ℕ) → Read (keptParts (addedIn b channel .0)))
     × ((b : List ℕ) → Read (keptParts (clearedIn b .0)))
