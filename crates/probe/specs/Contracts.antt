@@ -12,6 +12,7 @@ use Rattle.bits.specs.Packing.{bytesFor, packed, unpacked}
 use Rattle.bits.specs.Mask.{maskBit, onesIn}
 use Rattle.laws.specs.Contracts.{splice}
 use Rattle.arrays.specs.Claims.{longestBytes}
+use Rattle.walk.specs.Walked.{walked}
 use Rattle.placing.specs.Place.{placed, taken}
 use Rattle.code.specs.declared.Description.{Description}
 use Rattle.code.specs.declared.Description.the-variants.{Accepted, Refused}
@@ -54,21 +55,25 @@ none = 0xffff_ffff_ffff_ffff
 abbrev pub onesAnswer : List ℕ → ℕ
 onesAnswer mask = cond (ltb 65536 (length mask)) none (onesIn mask)
 
--- N looks with the message placed; `none` with the output as it was if the mask is longer than that of the longest code, the output or the
+-- the looks of a walk along the whole mask
+abbrev looksAlong : List ℕ → ℕ
+looksAlong mask = walked mask (8 * length mask) .looks
+
+-- its looks, with the message placed; `none` with the output as it was if the mask is longer than that of the longest code, the output or the
 -- array of bits is too short, or some number is no bit
 abbrev pub placingAnswer : List ℕ → List ℕ → List ℕ → ℕ × List ℕ
 placingAnswer mask message u =
     cond (ltb longestBytes (length mask)) (none, u)
     (cond (ltb (length u) (length mask)) (none, u)
     (cond (ltb (length message) (8 * length mask)) (none, u)
-    (cond (allBits message) (8 * length mask, splice u 0 (packed (placed mask message (8 * length mask)))) (none, u))))
+    (cond (allBits message) (looksAlong mask, splice u 0 (packed (placed mask message (8 * length mask)))) (none, u))))
 
--- N looks with the message taken out; `none` with the output as it was if bits or output are shorter than N
+-- the looks, with the message taken out; `none` with the output as it was if bits or output are shorter than N
 abbrev pub takingAnswer : List ℕ → List ℕ → List ℕ → ℕ × List ℕ
 takingAnswer mask u message =
     cond (ltb (length u) (8 * length mask)) (none, message)
     (cond (ltb (length message) (8 * length mask)) (none, message)
-    (8 * length mask, splice message 0 (taken mask u (8 * length mask))))
+    (looksAlong mask, splice message 0 (taken mask u (8 * length mask))))
 
 -- the peak, or positive zero for a refusal. Number 0 is the refusal or 0; number 1 is the clipped count, or the refusal's index or 0.
 abbrev pub probeAnswer : Quantised → List ℕ → Float × List ℕ

@@ -26,9 +26,10 @@ const OPERATIONS: [(&str, &str); 16] = [
 const EXPORTING: &str = "polar";
 
 /// What `receive` prints and how it runs, and the statements of the main theorems.
-const DEFINITIONS: [(&str, &str); 16] = [
+const DEFINITIONS: [(&str, &str); 17] = [
     ("receive_stream", "printed"),
     ("receive_stream", "Run"),
+    ("walk", "WalkCounts"),
     ("flip_demands", "Demand3"),
     ("flip_demands", "NoiselessDecoding"),
     ("theorems_start", "Trial1Fails"),
@@ -46,8 +47,9 @@ const DEFINITIONS: [(&str, &str); 16] = [
 ];
 
 /// The main theorems.
-const THEOREMS: [(&str, &str); 16] = [
+const THEOREMS: [(&str, &str); 17] = [
     ("receive_stream", "run-printed"),
+    ("walk", "walk-counts"),
     ("flip_demands", "demand-3"),
     ("flip_demands", "noiseless-decoding"),
     ("theorems_start", "trial-1-fails"),
