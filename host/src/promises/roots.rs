@@ -26,7 +26,7 @@ const OPERATIONS: [(&str, &str); 16] = [
 const EXPORTING: &str = "polar";
 
 /// What `receive` prints and how it runs, and the statements of the main theorems.
-const DEFINITIONS: [(&str, &str); 17] = [
+const DEFINITIONS: [(&str, &str); 18] = [
     ("receive_stream", "printed"),
     ("receive_stream", "Run"),
     ("walk", "WalkCounts"),
@@ -39,6 +39,7 @@ const DEFINITIONS: [(&str, &str); 17] = [
     ("sets_demands", "SetsNoiseless"),
     ("sets_demands", "StaysAccepted"),
     ("theorems_largest", "OldAnswers"),
+    ("theorems_largest", "InnerBound"),
     ("theorems_half", "ThreeDecode"),
     ("theorems_half", "ThreeDecodeSets"),
     ("theorems_half", "StaysAccepted"),
@@ -47,7 +48,7 @@ const DEFINITIONS: [(&str, &str); 17] = [
 ];
 
 /// The main theorems.
-const THEOREMS: [(&str, &str); 17] = [
+const THEOREMS: [(&str, &str); 18] = [
     ("receive_stream", "run-printed"),
     ("walk", "walk-counts"),
     ("flip_demands", "demand-3"),
@@ -59,6 +60,7 @@ const THEOREMS: [(&str, &str); 17] = [
     ("sets_demands", "sets-noiseless"),
     ("sets_demands", "stays-accepted"),
     ("theorems_largest", "old-answers"),
+    ("theorems_largest", "inner-bound"),
     ("theorems_half", "three-decode"),
     ("theorems_half", "three-decode-sets"),
     ("theorems_half", "stays-accepted"),
