@@ -15,10 +15,11 @@ use Rattle.channel.specs.Channel.{channelValue, channelValues}
 use Rattle.pass_tree.specs.Node.{node}
 use Rattle.theorems_largest.proofs.Inner.{inner-bound}
 
--- document 01's D, with N = 8, and its code
+-- document 01's D, with N = 8
 abbrev D : List ℕ
 D = 0x09 ∷ 0x00 ∷ 0x01 ∷ 0x00 ∷ 0x03 ∷ 0x01 ∷ 0x01 ∷ 0x00 ∷ 0xE8 ∷ []
 
+-- its code
 abbrev codeD : Code
 codeD = record { n = 3; r = 1; polynomial = 1; start = 0; k = 3 }
 
@@ -35,5 +36,6 @@ loud-3 p rule i = inner-bound .bounded D codeD (replicate 8 31) p rule i accepte
 pub loudest-12 : (mask : List ℕ) → getD (node 12 [] (maskRule mask) (channelValues (replicate 4096 31)) .leaves) 4095 (pos 0) ≡ pos 126976
 loudest-12 mask = inner-bound .reached 12 mask
 
+-- what that is by the formula
 pub largest-bound : 31 * 2 ^ 12 ≡ 126976
 largest-bound = inner-bound .largest

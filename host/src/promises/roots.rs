@@ -26,10 +26,11 @@ const OPERATIONS: [(&str, &str); 16] = [
 const EXPORTING: &str = "polar";
 
 /// What `receive` prints and how it runs, and the statements of the main theorems.
-const DEFINITIONS: [(&str, &str); 18] = [
+const DEFINITIONS: [(&str, &str); 19] = [
     ("receive_stream", "printed"),
     ("receive_stream", "Run"),
     ("walk", "WalkCounts"),
+    ("pass_resume", "ResumeSteps"),
     ("flip_demands", "Demand3"),
     ("flip_demands", "NoiselessDecoding"),
     ("theorems_start", "Trial1Fails"),
@@ -48,9 +49,10 @@ const DEFINITIONS: [(&str, &str); 18] = [
 ];
 
 /// The main theorems.
-const THEOREMS: [(&str, &str); 18] = [
+const THEOREMS: [(&str, &str); 19] = [
     ("receive_stream", "run-printed"),
     ("walk", "walk-counts"),
+    ("pass_resume", "resume-steps"),
     ("flip_demands", "demand-3"),
     ("flip_demands", "noiseless-decoding"),
     ("theorems_start", "trial-1-fails"),
