@@ -9,7 +9,7 @@ use host::testing::belief::{Cited, Crates};
 use host::testing::files::repository;
 
 /// One sitting.
-const MOST_LINES: usize = 900;
+const MOST_LINES: usize = 890;
 
 fn crates() -> Crates {
     Crates::read(&here())
