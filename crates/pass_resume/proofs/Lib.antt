@@ -1,2 +1,3 @@
 pub mod WellFormed
+pub mod ResumeSteps
 pub mod Resuming

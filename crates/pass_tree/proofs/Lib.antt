@@ -9,3 +9,4 @@ pub mod RestartFlip
 pub mod Noiseless
 pub mod Leaves
 pub mod Bounds
+pub mod Loudest

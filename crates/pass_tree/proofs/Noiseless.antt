@@ -39,7 +39,7 @@ decided-right usual x z c e = e
 decided-right opposite x z c e = absurd c
 
 -- a whole pass at two halves: no bit is forced in either
-plain-halves : (s : ℕ) (rule : ℕ → Rule) (v : List ℤ) → node (suc s) [] rule v ≡ (let h = 2 ^ s in let l = node s [] rule (leftValues h v) in join h (leftValues h v) l (rightValues h v (l .sums)) (node s [] (λ i. rule (h + i)) (rightValues h v (l .sums))))
+pub plain-halves : (s : ℕ) (rule : ℕ → Rule) (v : List ℤ) → node (suc s) [] rule v ≡ (let h = 2 ^ s in let l = node s [] rule (leftValues h v) in join h (leftValues h v) l (rightValues h v (l .sums)) (node s [] (λ i. rule (h + i)) (rightValues h v (l .sums))))
 plain-halves s rule v =
     let none : leb (2 ^ s) 0 ≡ false = lt-leb (2 ^ s) 0 (pow-pos s) in
     node-halves s [] rule v (pow-pos (suc s)) ∙ rw (none, take-nil (2 ^ s), drop-nil (2 ^ s))

@@ -61,7 +61,7 @@ restart s p rule v short begins =
     )
 
 -- a pass begins with its prefix
-begins-forced : (s : ℕ) (p : List ℕ) (rule : ℕ → Rule) (v : List ℤ) → Short s p → p ≡ take (length p) (node s p rule v .bits)
+pub begins-forced : (s : ℕ) (p : List ℕ) (rule : ℕ → Rule) (v : List ℤ) → Short s p → p ≡ take (length p) (node s p rule v .bits)
 begins-forced s p rule v short =
     sym (take-length p)
     ∙ take-agree p (node s p rule v .bits) 0 (length p) (omega arith) (omega (arith, length-bits s p rule v short))

@@ -1,33 +1,15 @@
--- What the exports for tests promise. Nothing here need be believed.
+-- What the exports of functions below the public operations promise. Nothing here need be believed.
 use Prim.Native.Nat.{ℕ, _*_}
 use mathlib.Core.Bool.{Bool, true, _&&_, cond}
 use mathlib.Core.List.{List, [], _∷_}
 use lib.Dec.{ltb, eqb}
-use lib.ListN.{length, set}
-use lib.Ieee.{Float}
-use Rattle.refusal.specs.declared.Refusal.{Refusal}
-use Rattle.refusal.specs.declared.Refusal.the-variants.{Alone, At}
-use Rattle.refusal.specs.Judge.{numberOf}
+use lib.ListN.{length}
 use Rattle.bits.specs.Packing.{bytesFor, packed, unpacked}
 use Rattle.bits.specs.Mask.{maskBit, onesIn}
 use Rattle.laws.specs.Contracts.{splice}
 use Rattle.arrays.specs.Claims.{longestBytes}
+use Rattle.walk.specs.Walked.{walked}
 use Rattle.placing.specs.Place.{placed, taken}
-use Rattle.code.specs.declared.Description.{Description}
-use Rattle.code.specs.declared.Description.the-variants.{Accepted, Refused}
-use Rattle.quantiser.specs.declared.Quantised.{Quantised}
-use Rattle.quantiser.specs.declared.Quantised.the-variants.{Done, Refused}
-use Rattle.quantiser_level.specs.Level.{plusZero}
-
--- a refusal's index, or 0
-abbrev pub indexOf : Refusal → ℕ
-indexOf (Alone i) = 0
-indexOf (At i index) = index
-
--- for an accepted description 0, with n, r, polynomial, start and k in the numbers; for a refused one the refusal, with the numbers as they were
-abbrev pub descriptionNumbers : Description → List ℕ → ℕ × List ℕ
-descriptionNumbers (Accepted c) numbers = (0, set (set (set (set (set numbers 0 (c .n)) 1 (c .r)) 2 (c .polynomial)) 3 (c .start)) 4 (c .k))
-descriptionNumbers (Refused x) numbers = (numberOf x, numbers)
 
 -- whether each number is 0 or 1
 abbrev pub allBits : List ℕ → Bool
@@ -54,27 +36,22 @@ none = 0xffff_ffff_ffff_ffff
 abbrev pub onesAnswer : List ℕ → ℕ
 onesAnswer mask = cond (ltb 65536 (length mask)) none (onesIn mask)
 
--- N looks with the message placed; `none` with the output as it was if the mask is longer than that of the longest code, the output or the
+-- the looks of a walk along the whole mask
+abbrev looksAlong : List ℕ → ℕ
+looksAlong mask = walked mask (8 * length mask) .looks
+
+-- its looks, with the message placed; `none` with the output as it was if the mask is longer than that of the longest code, the output or the
 -- array of bits is too short, or some number is no bit
 abbrev pub placingAnswer : List ℕ → List ℕ → List ℕ → ℕ × List ℕ
 placingAnswer mask message u =
     cond (ltb longestBytes (length mask)) (none, u)
     (cond (ltb (length u) (length mask)) (none, u)
     (cond (ltb (length message) (8 * length mask)) (none, u)
-    (cond (allBits message) (8 * length mask, splice u 0 (packed (placed mask message (8 * length mask)))) (none, u))))
+    (cond (allBits message) (looksAlong mask, splice u 0 (packed (placed mask message (8 * length mask)))) (none, u))))
 
--- N looks with the message taken out; `none` with the output as it was if bits or output are shorter than N
+-- the looks, with the message taken out; `none` with the output as it was if bits or output are shorter than N
 abbrev pub takingAnswer : List ℕ → List ℕ → List ℕ → ℕ × List ℕ
 takingAnswer mask u message =
     cond (ltb (length u) (8 * length mask)) (none, message)
     (cond (ltb (length message) (8 * length mask)) (none, message)
-    (8 * length mask, splice message 0 (taken mask u (8 * length mask))))
-
--- the peak, or positive zero for a refusal. Number 0 is the refusal or 0; number 1 is the clipped count, or the refusal's index or 0.
-abbrev pub probeAnswer : Quantised → List ℕ → Float × List ℕ
-probeAnswer (Done s) numbers = (s .peak, set (set numbers 0 0) 1 (s .clipped))
-probeAnswer (Refused x) numbers = (plusZero, set (set numbers 0 (numberOf x)) 1 (indexOf x))
-
--- the peak and the numbers, with the output bytes
-abbrev pub probeAnswerBy : Quantised × List ℕ → List ℕ → (Float × List ℕ) × List ℕ
-probeAnswerBy answer numbers = (probeAnswer (answer .0) numbers, answer .1)
+    (looksAlong mask, splice message 0 (taken mask u (8 * length mask))))

@@ -8,8 +8,8 @@ ghost use mathlib.Core.Path.{_≡_};
 ghost use Rattle.refusal.specs.Judge.{numberOf};
 ghost use Rattle.code.specs.Description.{describe};
 ghost use Rattle.quantiser.specs.Quantise.{quantised};
-ghost use Rattle.probe.specs.Contracts.{indexOf, descriptionNumbers, allBits, packing, unpacking, bitAt};
-ghost use Rattle.probe.specs.Contracts.{onesAnswer, placingAnswer, takingAnswer, probeAnswerBy};
+ghost use Rattle.probe.specs.Numbers.{indexOf, descriptionNumbers, quantisedNumbers};
+ghost use Rattle.probe.specs.Contracts.{allBits, packing, unpacking, bitAt, onesAnswer, placingAnswer, takingAnswer};
 
 // A refusal's number.
 fn refusal_number(x: Refusal) -> u64
@@ -151,8 +151,8 @@ pub extern "C" fn probe_quantise(
     output: &mut [u8],
     numbers: &mut [u64; 2],
 ) -> f32
-    ensures { λ peak. ⌜ ((peak, now (numbers .exit)), now (output .exit))
-        ≡ probeAnswerBy (quantised scale (now (samples .entry)) (now (output .entry))) (now (numbers .entry)) ⌝ }
+    ensures { λ x. ⌜ ((x, now (numbers .exit)) ≡ quantisedNumbers (quantised scale (now (samples .entry)) (now (output .entry)) .0) (now (numbers .entry)))
+        × (now (output .exit) ≡ quantised scale (now (samples .entry)) (now (output .entry)) .1) ⌝ }
 {
     match quantiser::quantise(scale, samples, output) {
         Quantised::Done(s) => {

@@ -1,2 +1,3 @@
 pub mod Longer
-pub mod Small
+pub mod Inner
+pub mod Instances

@@ -1,20 +1,12 @@
--- What the theorems of this crate state besides `OldAnswers`: which answers a larger n changes, the operations with n up to `deepest`, and the
--- bound on the values of a pass.
+-- What the theorems of this crate state besides `OldAnswers`: which answers a larger n changes, and the operations with n up to `deepest`.
 use mathlib.Core.Path.{_≡_}
-use mathlib.Core.List.{List, List·Memᴰ}
+use mathlib.Core.List.{List}
 use Prim.Native.Nat.{ℕ, _<_, _≤_}
-use lib.IntN.{ℤ}
 use lib.ListN.{getD}
 use Rattle.refusal.specs.declared.Refusal.the-variants.{Alone}
-use Rattle.arrays.specs.Sizes.{deepest}
-use Rattle.code.specs.declared.Code.{Code}
 use Rattle.code.specs.declared.Description.the-variants.{Refused}
 use Rattle.code.specs.Description.{describeUpTo, describe}
-use Rattle.values.specs.Values.{Rule}
-use Rattle.values.specs.Claims.{Within}
 use Rattle.encoder.specs.Encode.{encodedUpTo, encoded}
-use Rattle.pass_tree.specs.Node.{node}
-use Rattle.pass_tree.specs.Claims.{most, worked}
 use Rattle.pass_resume.specs.Resume.{resumedUpTo, resumed}
 use Rattle.flip_trial.specs.declared.Restart.{Restart}
 use Rattle.decoder.specs.Decoder.{Decoder, decodedUpTo, decodedAs}
@@ -35,9 +27,3 @@ pub record AnswersAs (largest : ℕ) (d : List ℕ) : Type 0 where
   pub resume : (channel prefix output : List ℕ) → resumed d channel prefix output ≡ resumedUpTo largest d channel prefix output
   pub decode :
       (p : Decoder) (restart : Restart) (channel output : List ℕ) → decodedAs p restart d channel output ≡ decodedUpTo largest p restart d channel output
-
--- "The inner bound is 31 · 2^n at a leaf, up to 126,976": no magnitude at a leaf exceeds that, nor one at layer s what `most` allows at the
--- largest n. `small-values` of proofs/Small.antt: this holds in every pass under a description, resumed or not and by any rules.
-pub record SmallValues (c : Code) (p : List ℕ) (rule : ℕ → Rule) (v : List ℤ) : Type 0 where
-  pub leaves : Within 126976 (node (c .n) p rule v .leaves)
-  pub layers : (x : ℕ × List ℤ) → List·Memᴰ x (worked (c .n) p rule v) → Within (most deepest (x .0)) (x .1)

@@ -1,2 +1,3 @@
 pub mod Longer
+pub mod InnerBound
 pub mod Claims

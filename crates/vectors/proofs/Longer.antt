@@ -1,7 +1,7 @@
 -- Document 02, request 2.3, at descriptions with n = 3, and on both sides of 10 and of 12.
 use mathlib.Core.Path.{_≡_, refl, ap}
 use mathlib.Core.List.{List, [], _∷_}
-use Prim.Native.Nat.{ℕ, _+_, _-_, _/_, _%_, _^_}
+use Prim.Native.Nat.{ℕ, _+_, _-_, _/_, _%_, _^_, _≤_}
 use native.Mathlib.Omega.{arith}
 use lib.Dec.{ltb}
 use lib.IntN.{pos, natAbs}
@@ -14,7 +14,6 @@ use Rattle.arrays.specs.Sizes.{deepest}
 use Rattle.bits.specs.Mask.{onesBelow}
 use Rattle.code.specs.declared.Code.{Code}
 use Rattle.code.specs.declared.Description.the-variants.{Accepted, Refused}
-use Rattle.code.specs.Code.{codeLength}
 use Rattle.code.specs.Description.{maskOf, describeUpTo, describe}
 use Rattle.transform.specs.Transform.{covers, parity, transformed, xors}
 use Rattle.values.specs.Values.{f, g, leftValues, rightValues, Rule}
@@ -22,9 +21,9 @@ use Rattle.channel.specs.Channel.{channelValue, channelValues, firstOutside}
 use Rattle.pass_tree.specs.Node.{node}
 use Rattle.flip_trial.specs.Trial.{firstTrial}
 use Rattle.theorems_largest.specs.Longer.{SameAnswers}
-use Rattle.theorems_largest.specs.Claims.{NewAnswer, AnswersAs, SmallValues}
+use Rattle.theorems_largest.specs.Claims.{NewAnswer, AnswersAs}
 use Rattle.theorems_largest.proofs.Longer.{old-answers, as-10}
-use Rattle.theorems_largest.proofs.Small.{small-values}
+use Rattle.theorems_largest.proofs.Inner.{inner-bound}
 use Rattle.vectors.proofs.Descriptions.{D}
 
 -- D with another n: each of its N / 8 mask bytes is `E8`
@@ -91,8 +90,8 @@ loud-inside size =
     (λ k l. ap (λ (b : ℕ). ltb 31 (natAbs (channelValue b))) (getD-replicate size k 31 0 (omega (arith, length-replicate {A = ℕ} size 31)))) (λ l. absurd (omega arith))
 
 -- at n = 12, under any forced bits and any rules
-pub loud-12 : (p : List ℕ) (rule : ℕ → Rule) → SmallValues (longCode 12) p rule (channelValues (loud (codeLength (longCode 12))))
-loud-12 p rule = small-values (long 12) (longCode 12) (loud (codeLength (longCode 12))) p rule (long-rows .7) refl (loud-inside (codeLength (longCode 12)))
+pub loud-12 : (p : List ℕ) (rule : ℕ → Rule) (i : ℕ) → natAbs (getD (node 12 p rule (channelValues (loud 4096)) .leaves) i (pos 0)) ≤ 126976
+loud-12 p rule i = inner-bound .bounded (long 12) (longCode 12) (loud 4096) p rule i (long-rows .7) refl (loud-inside 4096)
 
 -- under D the last leaf reaches 31 · 2^3
 pub loudest-3 : getD (firstTrial (maskOf D) (longCode 3) (channelValues (loud 8)) .leaves) 7 (pos 0) ≡ pos 248

@@ -3,7 +3,7 @@
 //!
 //! In each crate's specs/, `Claims.antt` has what theorems about the definitions state, and
 //! `Contracts.antt` what only contracts of the crate's own functions cite. All other files are to
-//! be believed, but for those of crates that promise nothing to users.
+//! be believed.
 
 mod code;
 mod name;

@@ -10,68 +10,66 @@ use denote.Ref.{now}
 use lib.Dec.{eqb}
 use lib.ListN.{length, getD, set}
 use Rattle.laws.specs.Contracts.{splice}
-use Rattle.bits.specs.Mask.{onesBelow}
 use Rattle.bits.proofs.Mask.{ones-le}
+use Rattle.walk.specs.declared.Walk.{Walk}
+use Rattle.walk.specs.Walked.{walked}
+use Rattle.walk.proofs.Walked.{ones-are, next-bit, next-walk, may-look}
 use Rattle.placing.specs.Place.{taken}
 use Rattle.placing.proofs.Placing.{take-start, take-next}
 use Rattle.placing.proofs.take_out.Statement.{statement}
 use Rattle.placing.proofs.take_out.Tie as tie
 
 abbrev Inv-loop : tie.InvT-loop
-Inv-loop mask u message₀ looks₀ ones₀ message looks ones =
-    (looks ≤ 8 * length mask) × (ones ≡ onesBelow mask looks) × (length message ≡ length message₀) × (message ≡ splice message₀ 0 (taken mask u looks))
+Inv-loop mask u message₀ walk₀ i₀ message walk i =
+    (i ≤ 8 * length mask) × (walk ≡ walked mask i) × (length message ≡ length message₀) × (message ≡ splice message₀ 0 (taken mask u i))
 
 abbrev μ-loop : tie.MeasureT-loop
-μ-loop mask u message₀ looks₀ ones₀ message looks ones = 8 * length mask - looks
+μ-loop mask u message₀ walk₀ i₀ message walk i = 8 * length mask - i
 
 loop-holds : tie.Need-loop-holds Inv-loop μ-loop
-unfolding onesBelow
-loop-holds c = (omega arith, refl, refl, take-start _ _ _)
+unfolding walked
+loop-holds c = (omega arith, c .start .ensures, refl, take-start _ _ _)
 
--- fewer bits are taken than there is room for
-room : (c : tie.In-loop Inv-loop μ-loop) → c .before .loop .ones < length (c .before .loop .message)
-room c =
-    let l = c .before .loop in
-    let s = c .before .before .before .before .before in
-    omega (arith, l .inv .2, l .inv .1, ones-le (now (s .args .mask)) (l .looks), s .pre .1)
-
--- after a turn
-module _ (c : tie.After-slice-known2 Inv-loop μ-loop) where
-  abbrev after-look : tie.After-look Inv-loop μ-loop
-  after-look = c .before .before .before .before .before
-
+module _ (k : tie.In-loop Inv-loop μ-loop) where
   abbrev l : tie.At-loop Inv-loop μ-loop
-  l = after-look .before .before .before .before
+  l = k .before
 
   abbrev s : tie.Start Inv-loop μ-loop
-  s = l .before .before .before .before
+  s = l .before .before .before .before .before
 
   abbrev mask : List ℕ
   mask = now (s .args .mask)
 
+  -- fewer bits are taken than there is room for
+  room : l .loop .walk .ones < length (l .loop .message)
+  room = omega (arith, l .loop .inv .2, ones-are mask (l .loop .i) (l .loop .inv .1), ones-le mask (l .loop .i), s .pre .1)
+
 loop-again : tie.Need-loop-again Inv-loop μ-loop
 loop-again c =
-    let a = l c .loop in
-    let u = now (s c .args .u) in
-    let w = now (s c .args .message) in
-    let look = after-look c .look .ensures in
-    let after = c .before .before .take-bit in (
-      omega (arith, look .1),
-      look .2 ∙ ap (onesBelow (mask c)) (sym (look .1)),
+    let after-look = c .before .before .before .before .before .before in
+    let k = after-look .before .before in
+    let a = l k .loop in
+    let u = now (s k .args .u) in
+    let w = now (s k .args .message) in
+    let ones = after-look .before .ones in
+    let after = c .before .before .before .take-bit in (
+      omega arith,
+      next-walk (mask k) (a .i) (a .inv .1) (after-look .look .ensures .1),
       after .kept .0 ∙ a .inv .2,
       after .ensures
-          ∙ ap (λ (t : ℕ). cond (eqb t 1) (set (a .message) (a .ones) (getD u (a .looks) 0)) (a .message)) (look .0)
-          ∙ take-next (mask c) u w (a .message) (a .looks) (a .ones) _ (a .inv .3) (a .inv .1) (omega (arith, room (after-look c .before .before .before), a .inv .2)) refl
-          ∙ ap (λ (n : ℕ). splice w 0 (taken (mask c) u n)) (sym (look .1 ∙ add-one (a .looks))),
+          ∙ ap (λ (t : ℕ). cond (eqb t 1) (set (a .message) (ones .result) (getD u (a .i) 0)) (a .message)) (after-look .look .ensures .0 ∙ next-bit (mask k) (a .i) (a .inv .1))
+          ∙ take-next (mask k) u w (a .message) (a .i) (ones .result) _ (a .inv .3) (ones .ensures ∙ ones-are (mask k) (a .i) (a .inv .1)) (omega (arith, ones .ensures, room k, a .inv .2)) refl
+          ∙ ap (λ (n : ℕ). splice w 0 (taken (mask k) u n)) (sym (add-one (a .i))),
     )
 
 returns : tie.Need-returns Inv-loop μ-loop
 returns c =
-    let s = c .before .before .before .before .before in
-    let l = c .before .loop in
-    let done : l .looks ≡ 8 * length (now (s .args .mask)) = omega arith in (
-      done,
-      l .inv .3 ∙ ap (λ (n : ℕ). splice (now (s .args .message)) 0 (taken (now (s .args .mask)) (now (s .args .u)) n)) done,
+    let l = c .before .before .loop in
+    let s = c .before .before .before .before .before .before .before in
+    let mask = now (s .args .mask) in
+    let done : l .i ≡ 8 * length mask = omega arith in (
+      c .looks .ensures ∙ ap (λ (w : Walk). w .looks) (l .inv .1) ∙ ap (λ (n : ℕ). walked mask n .looks) done,
+      l .inv .3 ∙ ap (λ (n : ℕ). splice (now (s .args .message)) 0 (taken mask (now (s .args .u)) n)) done,
     )
 
 pub take-out-spec : {M : Type 1} → statement M
@@ -80,12 +78,16 @@ take-out-spec =
     (tie.spec
     Inv-loop
     μ-loop
+    (λ c κs. search needs)
     loop-holds
     (λ c. search needs)
-    (λ c κs. (search needs, search needs, search needs))
+    (λ c κs. search needs)
+    (λ c κs. let k = c .before in may-look (mask k) (l k .loop .i) (l k .loop .inv .1) (search needs) (search needs))
     (λ c. search needs)
-    (λ c κs. room (c .before .before .before .before .before))
-    (λ c. omega (arith, after-look c .look .ensures .1))
+    (λ c κs. let k = c .before .before .before .before in omega (arith, c .before .before .before .ones .ensures, room k))
+    (λ c. search needs)
+    (λ c. search needs)
     loop-again
+    (λ c κs. search needs)
     (λ c. search needs)
     returns)

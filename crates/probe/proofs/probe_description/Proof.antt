@@ -5,7 +5,7 @@ use Prim.Native.Nat.{ℕ}
 use borrow.Author.Needs.{needs}
 use denote.Ref.{now}
 use Rattle.code.specs.declared.Description.{Description}
-use Rattle.probe.specs.Contracts.{descriptionNumbers}
+use Rattle.probe.specs.Numbers.{descriptionNumbers}
 use Rattle.probe.proofs.probe_description.Statement.{statement}
 use Rattle.probe.proofs.probe_description.Tie as tie
 

@@ -6,13 +6,15 @@ use borrow.Author.Needs.{needs}
 use denote.Ref.{now}
 use lib.Ieee.{ofBits}
 use Rattle.quantiser.specs.declared.Quantised.{Quantised}
-use Rattle.probe.specs.Contracts.{probeAnswerBy}
+use Rattle.probe.specs.Numbers.{quantisedNumbers}
 use Rattle.probe.proofs.probe_quantise.Statement.{statement}
 use Rattle.probe.proofs.probe_quantise.Tie as tie
 
 -- an answer a that was found, with the output that it left
-by : {a b : Quantised} {left : List ℕ} {x : Quantised × List ℕ} (numbers : List ℕ) → b ≡ a → (b, left) ≡ x → probeAnswerBy (a, left) numbers ≡ probeAnswerBy x numbers
-by {left = left} numbers e f = ap (λ (y : Quantised × List ℕ). probeAnswerBy y numbers) (ap (λ (a : Quantised). (a, left)) (sym e) ∙ f)
+by : {a b : Quantised} {left : List ℕ} {x : Quantised × List ℕ} (numbers : List ℕ) → b ≡ a → (b, left) ≡ x
+    → (quantisedNumbers a numbers ≡ quantisedNumbers (x .0) numbers) × (left ≡ x .1)
+by numbers e f =
+    (ap (λ (a : Quantised). quantisedNumbers a numbers) (sym e ∙ ap (λ (y : Quantised × List ℕ). y .0) f), ap (λ (y : Quantised × List ℕ). y .1) f)
 
 returns : tie.Need-returns
 returns c =

@@ -5,9 +5,6 @@ use std::fmt::{self, Display, Formatter};
 /// Files of specs/ that need not be believed. `Lib` has no definitions.
 const APART: [&str; 3] = ["Claims", "Contracts", "Lib"];
 
-/// Crates that promise nothing to users.
-const UNPROMISED: [&str; 2] = ["probe", "receive"];
-
 /// A module below a crate's specs. `declared.T` has the type T that the crate's code declares, and
 /// `declared.T.the-variants` its variants. Besides, `src` is the crate's code and `proofs.F` a file of
 /// its proofs.
@@ -81,7 +78,7 @@ impl Place {
     }
 
     pub fn is_believed(&self) -> bool {
-        !APART.contains(&self.module.as_str()) && !UNPROMISED.contains(&self.of.as_str())
+        !APART.contains(&self.module.as_str())
     }
 
     /// The type that the code declares.
@@ -291,6 +288,5 @@ mod tests {
         assert!(Place::new("bits", "Mask").is_believed());
         assert!(!Place::new("bits", "Claims").is_believed());
         assert!(!Place::new("pass", "Contracts").is_believed());
-        assert!(!Place::new("probe", "Mask").is_believed());
     }
 }

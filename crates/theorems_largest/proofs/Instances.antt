@@ -1,0 +1,41 @@
+-- The theorems of this crate at document 01's D and at the largest n.
+use mathlib.Core.Path.{_≡_, refl}
+use mathlib.Core.List.{List, [], _∷_}
+use Prim.Native.Nat.{ℕ, _*_, _^_, _≤_}
+use lib.IntN.{pos, natAbs}
+use lib.ListN.{getD, replicate}
+use Rattle.laws.specs.First.{firstWhere}
+use Rattle.refusal.specs.Judge.{judge, refusedOr}
+use Rattle.bits.specs.Mask.{onesBelow}
+use Rattle.code.specs.declared.Code.{Code}
+use Rattle.code.specs.declared.Description.the-variants.{Accepted}
+use Rattle.code.specs.Description.{describeUpTo, describe}
+use Rattle.values.specs.Values.{Rule, maskRule}
+use Rattle.channel.specs.Channel.{channelValue, channelValues}
+use Rattle.pass_tree.specs.Node.{node}
+use Rattle.theorems_largest.proofs.Inner.{inner-bound}
+
+-- document 01's D, with N = 8
+abbrev D : List ℕ
+D = 0x09 ∷ 0x00 ∷ 0x01 ∷ 0x00 ∷ 0x03 ∷ 0x01 ∷ 0x01 ∷ 0x00 ∷ 0xE8 ∷ []
+
+-- its code
+abbrev codeD : Code
+codeD = record { n = 3; r = 1; polynomial = 1; start = 0; k = 3 }
+
+accepted : describe D ≡ Accepted codeD
+unfolding describeUpTo judge refusedOr onesBelow
+accepted = refl
+
+-- eight values of 31 under D: with any bits forced and by any rules, no leaf exceeds 31 · 2^3
+pub loud-3 : (p : List ℕ) (rule : ℕ → Rule) (i : ℕ) → natAbs (getD (node 3 p rule (channelValues (replicate 8 31)) .leaves) i (pos 0)) ≤ 248
+unfolding firstWhere channelValue
+loud-3 p rule i = inner-bound .bounded D codeD (replicate 8 31) p rule i accepted refl refl
+
+-- the leaf at 4,095 of 4,096 values of 31, under any mask
+pub loudest-12 : (mask : List ℕ) → getD (node 12 [] (maskRule mask) (channelValues (replicate 4096 31)) .leaves) 4095 (pos 0) ≡ pos 126976
+loudest-12 mask = inner-bound .reached 12 mask
+
+-- what that is by the formula
+pub largest-bound : 31 * 2 ^ 12 ≡ 126976
+largest-bound = inner-bound .largest
