@@ -1,5 +1,5 @@
--- Demand 3, and document 02, requests 2.2 and 2.4: one input, every restart. "For one input, all three decoders agree in payload and trial or refusal,
--- and steps obey restarted ≤ half restart ≤ full." `agreement` of proofs/Agreement.antt proves it of every decoder.
+-- Document 02, request 2.4: "For one input, all three decoders agree in payload and trial or refusal, and steps obey restarted ≤ half restart ≤ full."
+-- `agreement` of proofs/Agreement.antt proves it of every decoder, with demand 3's exact steps.
 use mathlib.Core.Path.{_≡_}
 use mathlib.Core.Logic.{_⊎_}
 use mathlib.Core.List.{List, [], _∷_, map, List·Memᴰ}

@@ -1,5 +1,5 @@
--- The demands, "Why": a decoder "may refuse only malformed input, or a frame that still fails its check after every permitted trial", and what it accepts
--- passed its check. `only-checked` and `after-all` of proofs/Checked.antt prove it of every decoder at every restart.
+-- Document 01, "Flip decoding, full and restarted": what is accepted passed its check, and a frame is refused as 16 only if it "still fails its check
+-- after every permitted trial". `only-checked` and `after-all` of proofs/Checked.antt prove it of every decoder at every restart.
 use mathlib.Core.Path.{_≡_}
 use mathlib.Core.Bool.{true, false}
 use mathlib.Core.List.{List, [], map}
