@@ -48,6 +48,14 @@ pairV = 0xFE ∷ 0x02 ∷ 0xFF ∷ 0x00 ∷ 0x00 ∷ 0x00 ∷ 0xFF ∷ 0x01 ∷ 
 abbrev pub equalV : List ℕ
 equalV = 0xFA ∷ 0xFE ∷ 0xFE ∷ 0x04 ∷ 0x03 ∷ 0xFE ∷ 0x05 ∷ 0x04 ∷ []
 
+-- 3, 3, 7, −8, 4, 7, 9, −6
+abbrev pub longerV : List ℕ
+longerV = 0x03 ∷ 0x03 ∷ 0x07 ∷ 0xF8 ∷ 0x04 ∷ 0x07 ∷ 0x09 ∷ 0xFA ∷ []
+
+-- 8, 7, 0, 6, 9, −9, −9, −3
+abbrev pub secondV : List ℕ
+secondV = 0x08 ∷ 0x07 ∷ 0x00 ∷ 0x06 ∷ 0x09 ∷ 0xF7 ∷ 0xF7 ∷ 0xFD ∷ []
+
 -- 4, 6, −5, −3, −4, 3, 1, −5
 abbrev pub usedUpV : List ℕ
 usedUpV = 0x04 ∷ 0x06 ∷ 0xFB ∷ 0xFD ∷ 0xFC ∷ 0x03 ∷ 0x01 ∷ 0xFB ∷ []
@@ -124,6 +132,20 @@ pub record SetExamples (byte : ℕ) : Type 0 where
       × (setsOn equalV 2 4 ≡ (3 ∷ []) ∷ (3 ∷ 6 ∷ []) ∷ (5 ∷ []) ∷ [])
       × (setsFull wideD equalV 2 4 (byte ∷ []) ≡ (Accepted 3 72, 0x80 ∷ []))
       × (setsRestarted wideD equalV 2 4 (byte ∷ []) ≡ (Accepted 3 46, 0x80 ∷ []))
+  -- A longer list does not come first: of equal metrics, 19 + 6 and 3 + 4 + 18, [3] comes before [5, 6]. This is accepted on trial 4.
+  pub not-by-length :
+      (metricOn longerV [] (3 ∷ []) ≡ 25)
+      × (metricOn longerV (5 ∷ []) (5 ∷ 6 ∷ []) ≡ 25)
+      × (setsOn longerV 2 4 ≡ (5 ∷ []) ∷ (3 ∷ []) ∷ (5 ∷ 6 ∷ []) ∷ [])
+      × (setsFull wideD longerV 2 12 (byte ∷ []) ≡ (Accepted 4 96, 0x00 ∷ []))
+      × (setsRestarted wideD longerV 2 12 (byte ∷ []) ≡ (Accepted 4 51, 0x00 ∷ []))
+  -- Of equal metrics, 2 + 11 + 12 and 2 + 5 + 18, and equal first entries, [3, 5] comes before [3, 6]. It is accepted on trial 4.
+  pub by-second-entry :
+      (metricOn secondV (3 ∷ []) (3 ∷ 5 ∷ []) ≡ 25)
+      × (metricOn secondV (3 ∷ []) (3 ∷ 6 ∷ []) ≡ 25)
+      × (setsOn secondV 2 5 ≡ (3 ∷ []) ∷ (5 ∷ []) ∷ (3 ∷ 5 ∷ []) ∷ (3 ∷ 6 ∷ []) ∷ [])
+      × (setsFull wideD secondV 2 12 (byte ∷ []) ≡ (Accepted 4 96, 0x00 ∷ []))
+      × (setsRestarted wideD secondV 2 12 (byte ∷ []) ≡ (Accepted 4 54, 0x00 ∷ []))
   -- w = 3: a set of three is accepted, on trial 5. It has 0 + 2 + 0 + 18 from the trial of [3, 5].
   pub of-three :
       (metricOn threeV (3 ∷ 5 ∷ []) (3 ∷ 5 ∷ 6 ∷ []) ≡ 20)
@@ -155,6 +177,8 @@ pub record SetExamples (byte : ℕ) : Type 0 where
       × (setsRestarted wideD pairV 2 0 (byte ∷ []) ≡ (Refused (Alone 14), byte ∷ []))
       × (setsRestarted wideD pairV 2 513 (byte ∷ []) ≡ (Refused (Alone 14), byte ∷ []))
       × (setsRestarted wideD pairV 2 512 [] ≡ (Refused (Alone 15), []))
+      × (setsRestarted wideD threeV 3 513 (byte ∷ []) ≡ (Refused (Alone 14), byte ∷ []))
+      × (setsRestarted wideD threeV 3 512 (byte ∷ []) ≡ (Accepted 5 65, 0x80 ∷ []))
 
 pub set-examples : (byte : ℕ) → SetExamples byte
 unfolding judge refusedOr table number onesBelow packed describeUpTo checkOf covers parity transformed xors taken channelValue f g leftValues rightValues firstWhere node information insertBy sortBy run doubtful extensions insertEach tried decodedUnder decodedAs
@@ -164,8 +188,10 @@ set-examples byte = record {
   by-metric = (refl, refl, refl, refl);
   by-own-trial = (refl, refl, refl, refl, refl, refl, refl, refl, refl, refl);
   by-first-entry = (refl, refl, refl, refl, refl);
+  not-by-length = (refl, refl, refl, refl, refl);
+  by-second-entry = (refl, refl, refl, refl, refl);
   of-three = (refl, refl, refl, refl);
   at-20 = (refl, refl, refl, refl, refl, refl);
   used-up = (refl, refl, refl, refl, refl, refl);
-  refusals = (refl, refl, refl, refl, refl, refl, refl);
+  refusals = (refl, refl, refl, refl, refl, refl, refl, refl, refl);
 }

@@ -1,11 +1,13 @@
 -- The theorems of this crate at document 01's D and at the largest n.
 use mathlib.Core.Path.{_≡_, refl}
 use mathlib.Core.List.{List, [], _∷_}
-use Prim.Native.Nat.{ℕ, _*_, _^_, _≤_}
+use Prim.Native.Nat.{ℕ, _-_, _*_, _≤_}
 use lib.IntN.{pos, natAbs}
 use lib.ListN.{getD, replicate}
 use Rattle.laws.specs.First.{firstWhere}
 use Rattle.refusal.specs.Judge.{judge, refusedOr}
+use Rattle.arrays.specs.Sizes.{deepest}
+use Rattle.arrays.specs.Claims.{longest}
 use Rattle.bits.specs.Mask.{onesBelow}
 use Rattle.code.specs.declared.Code.{Code}
 use Rattle.code.specs.declared.Description.the-variants.{Accepted}
@@ -32,10 +34,10 @@ pub loud-3 : (p : List ℕ) (rule : ℕ → Rule) (i : ℕ) → natAbs (getD (no
 unfolding firstWhere channelValue
 loud-3 p rule i = inner-bound .bounded D codeD (replicate 8 31) p rule i accepted refl refl
 
--- the leaf at 4,095 of 4,096 values of 31, under any mask
-pub loudest-12 : (mask : List ℕ) → getD (node 12 [] (maskRule mask) (channelValues (replicate 4096 31)) .leaves) 4095 (pos 0) ≡ pos 126976
-loudest-12 mask = inner-bound .reached 12 mask
+-- the last leaf of the longest code, on values of 31 and under any mask
+pub loudest-longest : (mask : List ℕ) → getD (node deepest [] (maskRule mask) (channelValues (replicate longest 31)) .leaves) (longest - 1) (pos 0) ≡ pos 126976
+loudest-longest mask = inner-bound .reached deepest mask
 
 -- what that is by the formula
-pub largest-bound : 31 * 2 ^ 12 ≡ 126976
+pub largest-bound : 31 * longest ≡ 126976
 largest-bound = inner-bound .largest

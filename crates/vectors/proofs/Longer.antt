@@ -11,6 +11,7 @@ use Rattle.laws.proofs.First.{first-is}
 use Rattle.refusal.specs.declared.Refusal.the-variants.{Alone}
 use Rattle.refusal.specs.Judge.{judge, refusedOr}
 use Rattle.arrays.specs.Sizes.{deepest}
+use Rattle.arrays.specs.Claims.{longest}
 use Rattle.bits.specs.Mask.{onesBelow}
 use Rattle.code.specs.declared.Code.{Code}
 use Rattle.code.specs.declared.Description.the-variants.{Accepted, Refused}
@@ -90,8 +91,8 @@ loud-inside size =
     (λ k l. ap (λ (b : ℕ). ltb 31 (natAbs (channelValue b))) (getD-replicate size k 31 0 (omega (arith, length-replicate {A = ℕ} size 31)))) (λ l. absurd (omega arith))
 
 -- at n = 12, under any forced bits and any rules
-pub loud-12 : (p : List ℕ) (rule : ℕ → Rule) (i : ℕ) → natAbs (getD (node 12 p rule (channelValues (loud 4096)) .leaves) i (pos 0)) ≤ 126976
-loud-12 p rule i = inner-bound .bounded (long 12) (longCode 12) (loud 4096) p rule i (long-rows .7) refl (loud-inside 4096)
+pub loud-12 : (p : List ℕ) (rule : ℕ → Rule) (i : ℕ) → natAbs (getD (node 12 p rule (channelValues (loud longest)) .leaves) i (pos 0)) ≤ 126976
+loud-12 p rule i = inner-bound .bounded (long 12) (longCode 12) (loud longest) p rule i (long-rows .7) refl (loud-inside longest)
 
 -- under D the last leaf reaches 31 · 2^3
 pub loudest-3 : getD (firstTrial (maskOf D) (longCode 3) (channelValues (loud 8)) .leaves) 7 (pos 0) ≡ pos 248
