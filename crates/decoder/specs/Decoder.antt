@@ -11,12 +11,11 @@ use Rattle.refusal.specs.declared.Refusal.{Refusal}
 use Rattle.refusal.specs.declared.Refusal.the-variants.{Alone}
 use Rattle.refusal.specs.declared.Judgement.the-variants.{Fine}
 use Rattle.refusal.specs.Judge.{differs, outside, judge, refusedOr}
-use Rattle.arrays.specs.Sizes.{deepest}
 use Rattle.bits.specs.Packing.{bytesFor}
 use Rattle.code.specs.declared.Code.{Code}
 use Rattle.code.specs.declared.Description.the-variants.{Accepted as Coding}
 use Rattle.code.specs.Code.{informationCount}
-use Rattle.code.specs.Description.{maskOf, describeUpTo, describe, onDescription}
+use Rattle.code.specs.Description.{maskOf, describe, onDescription}
 use Rattle.channel.specs.Channel.{channelValues, channelRefusals}
 use Rattle.pass_tree.specs.Node.{Out}
 use Rattle.flip_trial.specs.declared.Restart.{Restart}
@@ -69,14 +68,9 @@ decodedUnder p restart mask c channel output =
     refusedOr (judge (refusalsOf p c channel output)) (λ x. (Refused x, output))
     (answerOf mask c output (run (trialPasses mask c) 0 0 (trialsOf p restart mask c (channelValues channel))))
 
--- the answer and the output afterwards for a description, with `largest` as the largest n: the refusals of the description come first
-abbrev pub decodedUpTo : ℕ → Decoder → Restart → List ℕ → List ℕ → List ℕ → Decoded × List ℕ
-decodedUpTo largest p restart d channel output =
-    onDescription (describeUpTo largest d) (λ x. (Refused x, output)) (λ c. decodedUnder p restart (maskOf d) c channel output)
-
--- the answer and the output afterwards for a description, with `deepest` as the largest n
+-- the answer and the output afterwards for a description: its refusals come first
 unfoldable pub decodedAs : Decoder → Restart → List ℕ → List ℕ → List ℕ → Decoded × List ℕ
-decodedAs p restart d channel output = decodedUpTo deepest p restart d channel output
+decodedAs p restart d channel output = onDescription (describe d) (λ x. (Refused x, output)) (λ c. decodedUnder p restart (maskOf d) c channel output)
 
 -- full decoding repeats each trial from the root
 abbrev pub decodedFull : List ℕ → List ℕ → ℕ → List ℕ → Decoded × List ℕ

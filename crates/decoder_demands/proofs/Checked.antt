@@ -81,12 +81,10 @@ only-checked p restart d c channel output trial steps payload code e =
     let same : x .0 ≡ bitsOf p restart mask c v trial = x .1 .bits-are ∙ from-one (trialsOf p restart mask c v) trial (x .1 .least) in
     let passes : trialPasses mask c (bitsOf p restart mask c v trial) ≡ true = sym (ap (trialPasses mask c) same) ∙ x .1 .passes in
     let u = trial-placed mask c v restart p trial (x .1 .least) (x .1 .most) in
-    record {
-      passes = passes;
-      encodes = λ o l.
-          ap (λ (y : List ℕ). encoded d y o) (x .2 ∙ ap (λ (bits : List ℕ). packed (take (c .k) (messageIn mask c bits))) same)
-          ∙ encodes-back d code (bitsOf p restart mask c v trial) (u .size) (u .bits) (u .frozen) passes o l;
-    }
+    let written = x .2 ∙ ap (λ (bits : List ℕ). packed (take (c .k) (messageIn mask c bits))) same in (
+      passes,
+      λ o l. ap (λ (y : List ℕ). encoded d y o) written ∙ encodes-back d code (bitsOf p restart mask c v trial) (u .size) (u .bits) (u .frozen) passes o l,
+    )
 
 pub after-all : AfterAll
 after-all p restart d c channel output made steps bytes code e =

@@ -14,7 +14,8 @@ use Rattle.pass_tree.specs.Skipped.{skipped}
 use Rattle.pass_tree.proofs.Steps.{skipped-none, skipped-half, skipped-grows}
 use Rattle.flip_trial.specs.declared.Restart.{Restart}
 use Rattle.flip_trial.specs.declared.Restart.the-variants.{Root, Half, After}
-use Rattle.flip_trial.specs.Trial.{resumeAt, halfAt, restartAt}
+use Rattle.flip_trial.specs.Trial.{resumeAt, restartAt}
+use Rattle.flip_trial.specs.Claims.{halfAt}
 use Rattle.flip_trial.proofs.Restartable.{half-at-most}
 use Rattle.decoder.specs.Decoder.{Decoder}
 use Rattle.decoder_demands.specs.Agreement.{skippedOver, lowestOfEach, SameRun}

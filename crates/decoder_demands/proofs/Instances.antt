@@ -305,11 +305,11 @@ bitsBy channel t flips =
 pub pair-passes : trialPasses (maskOf wideD) wideCode (bitsOn pairV (3 ∷ 5 ∷ [])) ≡ true
 pair-passes =
     subst (λ (flips : List (List ℕ)). trialPasses (maskOf wideD) wideCode (bitsBy pairV 3 flips) ≡ true) (set-examples 0 .by-own-trial .3)
-    (only-checked (sets 2 4) After wideD wideCode pairV (0 ∷ []) 3 46 (0x80 ∷ []) describes (set-examples 0 .by-own-trial .8) .passes)
+    (only-checked (sets 2 4) After wideD wideCode pairV (0 ∷ []) 3 46 (0x80 ∷ []) describes (set-examples 0 .by-own-trial .8) .0)
 
 pub pair-codeword : packed (transformed 3 (bitsOn pairV (3 ∷ 5 ∷ []))) ≡ 0xA5 ∷ []
 pair-codeword =
-    let e = only-checked (sets 2 4) After wideD wideCode pairV (0 ∷ []) 3 46 (0x80 ∷ []) describes (set-examples 0 .by-own-trial .8) .encodes (0 ∷ []) refl in
+    let e = only-checked (sets 2 4) After wideD wideCode pairV (0 ∷ []) 3 46 (0x80 ∷ []) describes (set-examples 0 .by-own-trial .8) .1 (0 ∷ []) refl in
     sym (ap (λ (flips : List (List ℕ)). packed (transformed 3 (bitsBy pairV 3 flips))) (set-examples 0 .by-own-trial .3))
     ∙ sym (ap (λ (z : Encoded × List ℕ). z .1) e) ∙ ap (λ (z : Encoded × List ℕ). z .1) encodes-80
 

@@ -19,6 +19,7 @@ use Rattle.flip_trial.specs.Trial.{lowest, restartAt}
 use Rattle.flip_trial.specs.Flips.{Flips}
 use Rattle.flip_run.specs.declared.Decoded.{Decoded}
 use Rattle.flip_run.specs.declared.Decoded.the-variants.{Accepted, Failed, Refused}
+use Rattle.decoder.specs.Tried.{flipSets}
 use Rattle.decoder.specs.Decoder.{Decoder, single, sets, flipsOf, decodedAs}
 
 -- the sum, over some q, of q − (q mod 2^j) for every j from 0 to n − 1
@@ -31,14 +32,10 @@ abbrev pub limitOf : Decoder → ℕ
 limitOf (single limit) = limit
 limitOf (sets w limit) = limit
 
--- how many indices a trial flips at most
-abbrev pub widthOf : Decoder → ℕ
-widthOf (single limit) = 1
-widthOf (sets w limit) = w
-
--- "Where no untried set is left": every set of so many indices is among those of the trials
+-- "Where no untried set is left": every set of at most w indices is among those of the trials. A decoder by single flips never ends so.
 abbrev pub AllTried : Decoder → List ℕ → Code → List ℤ → Type 0
-AllTried p mask c v = (is : List ℕ) → Flips mask (codeLength c) is → length is ≤ widthOf p → List·Memᴰ is (flipsOf p mask c v)
+AllTried (single limit) mask c v = ⊥
+AllTried (sets w limit) mask c v = (is : List ℕ) → Flips mask (codeLength c) is → length is ≤ w → List·Memᴰ is (flipSets w limit mask c v)
 
 -- `answer` is what p answers at each restart; each call has its own output of `size` bytes, whatever they are
 abbrev pub Answers : Decoder → List ℕ → List ℕ → ℕ → (Restart → List ℕ → Decoded × List ℕ) → Type 0

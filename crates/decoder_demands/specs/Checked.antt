@@ -24,18 +24,14 @@ use Rattle.decoder.specs.Decoder.{Decoder, trialsOf, decodedAs}
 abbrev pub bitsOf : Decoder → Restart → List ℕ → Code → List ℤ → ℕ → List ℕ
 bitsOf p restart mask c v t = getD (map (λ o. o .bits) (trialsOf p restart mask c v)) (t - 1) []
 
--- the payload that a trial with these bits is accepted with
-pub record Checked (d : List ℕ) (c : Code) (bits payload : List ℕ) : Type 0 where
-  -- the trial's check passes
-  pub passes : trialPasses (maskOf d) c bits ≡ true
-  -- what is accepted is the codeword of what is written: encode gives the transform of the trial's bits
-  pub encodes : (output : List ℕ) → length output ≡ codeLength c / 8 → encoded d payload output ≡ (Done, packed (transformed (c .n) bits))
-
+-- the check of the trial that is accepted passes; and it is the codeword of what is written: encode gives the transform of its bits
 abbrev pub OnlyChecked : Type 0
 OnlyChecked =
     (p : Decoder) (restart : Restart) (d : List ℕ) (c : Code) (channel output : List ℕ) (trial steps : ℕ) (payload : List ℕ)
     → describe d ≡ Coding c → decodedAs p restart d channel output ≡ (Accepted trial steps, payload)
-    → Checked d c (bitsOf p restart (maskOf d) c (channelValues channel) trial) payload
+    → let bits = bitsOf p restart (maskOf d) c (channelValues channel) trial in
+    (trialPasses (maskOf d) c bits ≡ true)
+    × ((codeword : List ℕ) → length codeword ≡ codeLength c / 8 → encoded d payload codeword ≡ (Done, packed (transformed (c .n) bits)))
 
 -- refusal 16 is answered only if every permitted trial was made and failed
 abbrev pub AfterAll : Type 0

@@ -6,11 +6,10 @@ use lib.ListN.{length}
 use Rattle.refusal.specs.declared.Refusal.{Refusal}
 use Rattle.refusal.specs.declared.Refusal.the-variants.{Alone}
 use Rattle.refusal.specs.Judge.{differs, judge, refusedOr}
-use Rattle.arrays.specs.Sizes.{deepest}
 use Rattle.bits.specs.Packing.{bytesFor, packed, unpacked, unusedBits}
 use Rattle.code.specs.declared.Code.{Code}
 use Rattle.code.specs.Code.{codeLength, divisor, startBits}
-use Rattle.code.specs.Description.{maskOf, describeUpTo, onDescription}
+use Rattle.code.specs.Description.{maskOf, describe, onDescription}
 use Rattle.crc.specs.Check.{checkOf}
 use Rattle.transform.specs.Transform.{transformed}
 use Rattle.placing.specs.Place.{placed}
@@ -38,11 +37,6 @@ unfoldable pub encodedBy : List ℕ → Code → List ℕ → List ℕ → Encod
 encodedBy mask c payload output =
     refusedOr (judge (encodingRefusals c payload output)) (λ x. (Refused x, output)) (Done, codeword mask c payload)
 
--- encode under a description, if `largest` is the largest n: the refusals of the description come first
-abbrev pub encodedUpTo : ℕ → List ℕ → List ℕ → List ℕ → Encoded × List ℕ
-encodedUpTo largest d payload output =
-    onDescription (describeUpTo largest d) (λ x. (Refused x, output)) (λ c. encodedBy (maskOf d) c payload output)
-
--- encode under a description
+-- encode under a description: its refusals come first
 unfoldable pub encoded : List ℕ → List ℕ → List ℕ → Encoded × List ℕ
-encoded d payload output = encodedUpTo deepest d payload output
+encoded d payload output = onDescription (describe d) (λ x. (Refused x, output)) (λ c. encodedBy (maskOf d) c payload output)

@@ -10,7 +10,8 @@ use Rattle.laws.specs.Insert.{sortBy}
 use Rattle.laws.proofs.Permutation.{permutation-member}
 use Rattle.laws.proofs.Pairs.{Pairs, none}
 use Rattle.laws.proofs.Insert.{sort-permutes, insert-pairs}
-use Rattle.flip_order.specs.Order.{information, before, ordered}
+use Rattle.flip_order.specs.Order.{information, before}
+use Rattle.flip_order.specs.Contracts.{ordered}
 use Rattle.flip_order.specs.Claims.{ListsInformation, Distinct, Sorted}
 use Rattle.flip_order.proofs.Pairwise.{pairwise-of, pairwise-tail, pairwise-head}
 use Rattle.flip_order.proofs.Before.{before-irrefl, before-trans, before-total}

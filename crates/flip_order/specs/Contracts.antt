@@ -8,12 +8,17 @@ use lib.IntN.{ℤ, pos, natAbs}
 use lib.ListN.{length, getD, take}
 use lib.Signed.{ltZ}
 use Rattle.laws.specs.Table.{table}
+use Rattle.laws.specs.Insert.{sortBy}
 use Rattle.laws.specs.Contracts.{splice}
 use Rattle.arrays.specs.Sizes.{deepest}
 use Rattle.arrays.specs.Claims.{longest}
 use Rattle.bits.specs.Mask.{maskBit}
 use Rattle.values.specs.Claims.{Within}
-use Rattle.flip_order.specs.Order.{information, ordered}
+use Rattle.flip_order.specs.Order.{information, before}
+
+-- indices in order
+abbrev pub ordered : List ℤ → List ℕ → List ℕ
+ordered leaves is = sortBy (before leaves) is
 
 -- the information indices below n in order, by their leaf values
 abbrev pub orderIn : List ℕ → ℕ → List ℤ → List ℕ

@@ -6,7 +6,6 @@ use Prim.Native.Nat.{ℕ, zero, suc}
 use lib.Dec.{ltb, eqb}
 use lib.IntN.{ℤ, pos, natAbs}
 use lib.ListN.{getD}
-use Rattle.laws.specs.Insert.{sortBy}
 use Rattle.bits.specs.Mask.{maskBit}
 
 -- the information indices below n, ascending
@@ -22,7 +21,3 @@ magnitude leaves i = natAbs (getD leaves i (pos 0))
 abbrev pub before : List ℤ → ℕ → ℕ → Bool
 before leaves i j =
     ltb (magnitude leaves i) (magnitude leaves j) || (eqb (magnitude leaves i) (magnitude leaves j) && ltb i j)
-
--- indices in order
-abbrev pub ordered : List ℤ → List ℕ → List ℕ
-ordered leaves is = sortBy (before leaves) is

@@ -4,18 +4,19 @@ use mathlib.Core.List.{List, [], _∷_}
 use Prim.Native.Nat.{ℕ, _+_}
 use lib.IntN.{ℤ}
 use lib.ListN.{take}
+use Rattle.laws.specs.Insert.{sortBy}
 use Rattle.bits.specs.Packing.{packed}
 use Rattle.code.specs.declared.Code.{Code}
 use Rattle.code.specs.Code.{codeLength}
 use Rattle.pass_tree.specs.Node.{Out}
-use Rattle.flip_order.specs.Order.{information, ordered}
+use Rattle.flip_order.specs.Order.{information, before}
 use Rattle.flip_trial.specs.Trial.{firstTrial, messageIn}
 use Rattle.flip_run.specs.declared.Decoded.{Decoded}
 use Rattle.flip_run.specs.declared.Decoded.the-variants.{Accepted, Failed}
 
 -- the order of flipped indices: trial t, from 2, flips the one at place t - 1
 abbrev pub flipOrder : List ℕ → Code → List ℤ → List ℕ
-flipOrder mask c v = ordered (firstTrial mask c v .leaves) (information mask (codeLength c))
+flipOrder mask c v = sortBy (before (firstTrial mask c v .leaves)) (information mask (codeLength c))
 
 -- how a run of trials ends
 pub data Verdict : Type 0 where

@@ -19,9 +19,9 @@ use Rattle.pass_tree.proofs.Causality.{bits-before, leaf-at}
 use Rattle.pass_tree.proofs.Restart.{restart-bits, restart-leaves}
 use Rattle.pass_tree.proofs.RestartFlip.{begins-flipped}
 use Rattle.pass_tree.proofs.Steps.{steps-and-skipped, skipped-mono}
-use Rattle.flip_trial.specs.Trial.{firstTrial, flipRule, lowest, forcedPrefix, trialFrom}
+use Rattle.flip_trial.specs.Trial.{firstTrial, flipRule, lowest, forcedPrefix}
 use Rattle.flip_trial.specs.Flips.{Flips}
-use Rattle.flip_trial.specs.Claims.{Restartable, leafAt}
+use Rattle.flip_trial.specs.Claims.{trialFrom, Restartable, leafAt}
 use Rattle.flip_trial.proofs.Flips.{lowest-usual, lowest-opposite, rule-before, rule-zero}
 use Rattle.flip_trial.proofs.Prefix.{length-forced, forced-before, forced-past}
 

@@ -9,7 +9,8 @@ use Rattle.code.specs.Code.{codeLength}
 use Rattle.values.specs.Values.{maskRule}
 use Rattle.pass_tree.proofs.StepsMost.{steps-most}
 use Rattle.pass_tree.proofs.Sums.{bits-bits}
-use Rattle.flip_trial.specs.Trial.{firstTrial, flipRule, lowest, forcedPrefix, trialFrom}
+use Rattle.flip_trial.specs.Trial.{firstTrial, flipRule, lowest, forcedPrefix}
+use Rattle.flip_trial.specs.Claims.{trialFrom}
 use Rattle.flip_trial.proofs.Prefix.{bits-forced}
 
 module _ (mask : List ℕ) (c : Code) (v : List ℤ) where

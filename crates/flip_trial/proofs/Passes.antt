@@ -21,7 +21,8 @@ use Rattle.pass_tree.proofs.Restart.{rules-below}
 use Rattle.pass_ends.specs.Contracts.{ruleAt, Arrays, arrays, Whole}
 use Rattle.pass.specs.Contracts.{Ruled, PassPre, passOf, PassPost}
 use Rattle.flip_trial.specs.declared.Restart.{Restart}
-use Rattle.flip_trial.specs.Trial.{firstTrial, member, flipRule, lowest, forcedPrefix, trialFrom, restartAt, laterTrial}
+use Rattle.flip_trial.specs.Trial.{firstTrial, member, flipRule, lowest, forcedPrefix, restartAt, laterTrial}
+use Rattle.flip_trial.specs.Claims.{trialFrom}
 use Rattle.flip_trial.specs.Flips.{Flips}
 use Rattle.flip_trial.specs.Contracts.{Below, setAll, trialBy, PlainRules, TrialPre, LaterTrialPre, FirstBits, TrialPost, FirstTrialPost}
 use Rattle.flip_trial.proofs.Agree.{length-prefix}

@@ -15,10 +15,10 @@ use Rattle.bits.specs.Mask.{maskBit}
 use Rattle.bits.proofs.Mask.{mask-cases}
 use Rattle.flip_trial.specs.declared.Restart.{Restart}
 use Rattle.flip_trial.specs.declared.Restart.the-variants.{Root, Half, After}
-use Rattle.flip_trial.specs.Trial.{lowest, resumeAt, halfAt, restartAt}
+use Rattle.flip_trial.specs.Trial.{lowest, resumeAt, restartAt}
 use Rattle.flip_trial.specs.FirstAfter.{FirstAfter}
 use Rattle.flip_trial.specs.Flips.{Flips}
-use Rattle.flip_trial.specs.Claims.{Restartable}
+use Rattle.flip_trial.specs.Claims.{halfAt, Restartable}
 use Rattle.flip_trial.proofs.Flips.{lowest-below}
 
 module _ (mask : List ℕ) (size i : ℕ) (below : i < size) where

@@ -38,27 +38,21 @@ lowest (i ∷ is) = i
 abbrev pub forcedPrefix : List ℕ → ℕ → ℕ → List ℕ
 forcedPrefix bits i q = take q (take i bits ++ ((1 - getD bits i 0) ∷ replicate (q - (i + 1)) 0))
 
--- a later trial that resumes at q
-abbrev pub trialFrom : ℕ → List ℕ → Code → List ℤ → List ℕ → Out
-trialFrom q mask c v is = node (c .n) (forcedPrefix (firstTrial mask c v .bits) (lowest is) q) (flipRule mask is) v
-
 -- the first information index above i, or N, of N indices
 abbrev pub resumeAt : List ℕ → ℕ → ℕ → ℕ
 resumeAt mask N i = i + 1 + firstWhere (λ k. eqb (maskBit mask (i + 1 + k)) 1) (N - (i + 1))
 
--- half restart (document 02, request 2.4), i being the lowest flipped index: N/2 if i is N/2 or above, otherwise 0
-abbrev pub halfAt : ℕ → ℕ → ℕ
-halfAt N i = cond (leb (N / 2) i) (N / 2) 0
-
--- the index at which later trials resume: 0 in full decoding, that of half restart, or the first information index above the lowest flipped one
+-- the index at which a later trial resumes, i being its lowest flipped index: 0 in full decoding; in half restart (document 02, request 2.4) N/2 if i is
+-- N/2 or above, otherwise 0; in restarted decoding the first information index above i
 abbrev pub restartAt : Restart → List ℕ → ℕ → ℕ → ℕ
 restartAt Root mask N i = 0
-restartAt Half mask N i = halfAt N i
+restartAt Half mask N i = cond (leb (N / 2) i) (N / 2) 0
 restartAt After mask N i = resumeAt mask N i
 
 -- a later trial that resumes at the index of its restart
 abbrev pub laterTrial : Restart → List ℕ → Code → List ℤ → List ℕ → Out
-laterTrial restart mask c v is = trialFrom (restartAt restart mask (codeLength c) (lowest is)) mask c v is
+laterTrial restart mask c v is =
+    node (c .n) (forcedPrefix (firstTrial mask c v .bits) (lowest is) (restartAt restart mask (codeLength c) (lowest is))) (flipRule mask is) v
 
 -- payload and check of a trial's bits: those at the information indices
 abbrev pub messageIn : List ℕ → Code → List ℕ → List ℕ

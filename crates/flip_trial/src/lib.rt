@@ -14,7 +14,8 @@ ghost use Rattle.code.specs.Claims.{Coded};
 ghost use Rattle.channel.specs.Channel.{channelValues};
 ghost use Rattle.pass_ends.specs.Contracts.{arrays};
 ghost use Rattle.pass.specs.Contracts.{PassPre};
-ghost use Rattle.flip_trial.specs.Trial.{halfAt, restartAt, forcedPrefix, messageIn, trialPasses};
+ghost use Rattle.flip_trial.specs.Trial.{restartAt, forcedPrefix, messageIn, trialPasses};
+ghost use Rattle.flip_trial.specs.Claims.{halfAt};
 ghost use Rattle.flip_trial.specs.Contracts.{firstFrom, Below, setAll, trialBy, TrialPre, LaterTrialPre, TrialPost, FirstTrialPost};
 
 // The rule of a flipped index: the opposite decision.

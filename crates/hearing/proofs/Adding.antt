@@ -24,8 +24,8 @@ use Rattle.code.specs.Code.{codeLength}
 use Rattle.channel.specs.Channel.{channelValue, firstOutside, channelRefusals}
 use Rattle.channel.proofs.Judge.{fine-channel}
 use Rattle.channel.proofs.Outside.{each-inside}
-use Rattle.hearing.specs.Hearing.{Hearing, combined, clippedSums, addedTo, addRefusals, zeroFrom, isHearing}
-use Rattle.hearing.specs.Contracts.{AddPre}
+use Rattle.hearing.specs.Hearing.{Hearing, combined, clippedSums, addedTo, addRefusals, isHearing}
+use Rattle.hearing.specs.Contracts.{zeroFrom, AddPre}
 
 pub from-most : (c : Code) (count : ℕ) → zeroFrom c count ≤ codeLength c
 from-most c count = cond-ind (λ (k : ℕ). k ≤ codeLength c) (eqb count 0) 0 (codeLength c) (λ t. omega arith) (λ t. omega arith)

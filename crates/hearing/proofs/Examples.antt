@@ -9,7 +9,8 @@ use Rattle.refusal.specs.declared.Judgement.the-variants.{Fine, Refused}
 use Rattle.refusal.specs.Judge.{judge}
 use Rattle.code.specs.declared.Code.{Code}
 use Rattle.channel.specs.Channel.{channelValue}
-use Rattle.hearing.specs.Hearing.{clippedSum, clippedSums, addRefusals}
+use Rattle.hearing.specs.Hearing.{clippedSums, addRefusals}
+use Rattle.hearing.specs.Contracts.{clippedSum}
 
 -- a code of eight values
 abbrev eight : Code

@@ -20,7 +20,8 @@ use Rattle.code.specs.declared.Code.{Code}
 use Rattle.code.specs.Code.{codeLength}
 use Rattle.channel.specs.Channel.{channelValue, channelValues, clip, firstOutside}
 use Rattle.channel.proofs.Bytes.{channel-byte}
-use Rattle.hearing.specs.Hearing.{hearingOf, combined, fresh, clippedSum, clippedSums, addedTo, zeroFrom, isHearing}
+use Rattle.hearing.specs.Hearing.{hearingOf, combined, fresh, clippedSums, addedTo, isHearing}
+use Rattle.hearing.specs.Contracts.{clippedSum, zeroFrom}
 
 -- ---- values in −31..31
 

@@ -7,7 +7,7 @@ use lib.IntN.{ℤ, pos, negsuc, natAbs, _+ℤ_}
 use Rattle.laws.proofs.Choice.{cond-ind}
 use Rattle.channel.specs.Channel.{channelValue, byteOf, clip}
 use Rattle.channel.proofs.Bytes.{minus-byte, byte-channel}
-use Rattle.hearing.specs.Hearing.{clippedSum}
+use Rattle.hearing.specs.Contracts.{clippedSum}
 
 -- what the code computes of two bytes
 abbrev pub computed : ℕ → ℕ → ℕ

@@ -1,10 +1,22 @@
 -- What only contracts below the public operations cite. Nothing here need be believed.
-use Prim.Native.Nat.{ℕ, _≤_, _<_}
-use lib.IntN.{natAbs}
-use lib.ListN.{length, getD}
+use mathlib.Core.Bool.{cond}
 use mathlib.Core.List.{List}
-use Rattle.channel.specs.Channel.{channelValue}
+use Prim.Native.Nat.{ℕ, _≤_, _<_}
+use lib.Dec.{eqb}
+use lib.IntN.{natAbs, _+ℤ_}
+use lib.ListN.{length, getD}
+use Rattle.code.specs.declared.Code.{Code}
+use Rattle.code.specs.Code.{codeLength}
+use Rattle.channel.specs.Channel.{channelValue, byteOf, clip}
 use Rattle.hearing.specs.Hearing.{Hearing}
+
+-- the sum of two values, clipped to −31..31
+abbrev pub clippedSum : ℕ → ℕ → ℕ
+clippedSum a b = byteOf (clip (channelValue a +ℤ channelValue b))
+
+-- the index from which on all values are zero: 0 if the count is 0, otherwise N
+abbrev pub zeroFrom : Code → ℕ → ℕ
+zeroFrom c count = cond (eqb count 0) 0 (codeLength c)
 
 -- values to which a vector may be added: at least as many as it has, and all lie in −31..31
 pub record AddPre (values channel : List ℕ) : Type 0 where

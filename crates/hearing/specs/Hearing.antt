@@ -34,13 +34,9 @@ combined c h = take (codeLength c) (h .values)
 abbrev pub fresh : Hearing
 fresh = hearingOf [] 0
 
--- the sum of two values, clipped to −31..31
-abbrev pub clippedSum : ℕ → ℕ → ℕ
-clippedSum a b = byteOf (clip (channelValue a +ℤ channelValue b))
-
 -- "Adding a vector adds value by value and clips to −31..31"
 abbrev pub clippedSums : ℕ → List ℕ → List ℕ → List ℕ
-clippedSums size values channel = table (λ i. clippedSum (getD values i 0) (getD channel i 0)) size
+clippedSums size values channel = table (λ i. byteOf (clip (channelValue (getD values i 0) +ℤ channelValue (getD channel i 0)))) size
 
 -- a hearing after one more vector
 abbrev pub addedTo : Code → Hearing → List ℕ → Hearing
@@ -50,12 +46,10 @@ addedTo c h channel = hearingOf (clippedSums (codeLength c) (h .values) channel)
 abbrev pub addRefusals : Code → ℕ → List ℕ → List (Bool × Refusal)
 addRefusals c count channel = channelRefusals c channel ++ ((eqb count 255, Alone 27) ∷ [])
 
--- the index from which on all values are zero: 0 if the count is 0, otherwise N
-abbrev pub zeroFrom : Code → ℕ → ℕ
-zeroFrom c count = cond (eqb count 0) 0 (codeLength c)
-
--- whether a list of adds and clears can leave this hearing under a code: a count of at most 255, values in −31..31, and zeros from `zeroFrom` on.
+-- whether a list of adds and clears can leave this hearing under a code: a count of at most 255, values in −31..31, and zeros after the N of its code, or
+-- zeros alone if the count is 0.
 -- `held-after` and `left-by-some` of crate `hearing_demands` prove that these are the ones.
 abbrev pub isHearing : Code → Hearing → Bool
 isHearing c h =
-    leb (h .count) 255 && (allZero (drop (zeroFrom c (h .count)) (h .values)) && eqb (firstOutside (combined c h)) (codeLength c))
+    leb (h .count) 255
+    && (allZero (drop (cond (eqb (h .count) 0) 0 (codeLength c)) (h .values)) && eqb (firstOutside (combined c h)) (codeLength c))

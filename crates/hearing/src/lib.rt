@@ -11,8 +11,8 @@ ghost use Rattle.laws.specs.Contracts.{splice};
 ghost use Rattle.refusal.specs.Judge.{judge};
 ghost use Rattle.arrays.specs.Sizes.{deepest};
 ghost use Rattle.channel.specs.Channel.{channelValue, firstOutside};
-ghost use Rattle.hearing.specs.Hearing.{clippedSum, clippedSums, addRefusals, zeroFrom, isHearing};
-ghost use Rattle.hearing.specs.Contracts.{AddPre, hearingBy};
+ghost use Rattle.hearing.specs.Hearing.{clippedSums, addRefusals, isHearing};
+ghost use Rattle.hearing.specs.Contracts.{clippedSum, zeroFrom, AddPre, hearingBy};
 
 // The sum of two values, clamped to −31..31. The sum has 62 added while it is clamped, so that it is not negative.
 fn clipped_sum(a: u8, b: u8) -> u8

@@ -13,7 +13,8 @@ use Rattle.arrays.specs.Sizes.{deepest}
 use Rattle.code.specs.Code.{longestDescription}
 use Rattle.hearing.specs.Hearing.{fresh}
 use Rattle.hearing_state.specs.State.{State, stateOf, noState, withHearing}
-use Rattle.hearing_buffer.specs.Lent.{hearingSize, bytesOf, stateAt, stateIn}
+use Rattle.hearing_buffer.specs.Lent.{hearingSize, bytesOf, stateIn}
+use Rattle.hearing_buffer.specs.Contracts.{stateAt}
 use Rattle.hearing_buffer.specs.Claims.{ReadWritten, WrittenRead}
 
 pub size-of : (s : State) → length (s .description) ≡ longestDescription → length (s .hearing .values) ≡ 2 ^ deepest → length (bytesOf s) ≡ hearingSize

@@ -12,10 +12,11 @@ use lib.Seq.{take-all, take-suc, append-snoc, set-at, length-take-le}
 use Rattle.code.specs.declared.Code.{Code}
 use Rattle.code.specs.declared.Description.the-variants.{Accepted}
 use Rattle.code.specs.Code.{longestDescription}
-use Rattle.hearing_state.specs.State.{stateBy, noState, codeOfState}
-use Rattle.hearing_state.specs.Contracts.{StatePre}
+use Rattle.hearing_state.specs.State.{noState, codeOfState}
+use Rattle.hearing_state.specs.Contracts.{stateBy, StatePre}
 use Rattle.hearing_state.proofs.States.{no-code}
-use Rattle.hearing_buffer.specs.Lent.{hearingSize, stateAt, stateIn}
+use Rattle.hearing_buffer.specs.Lent.{hearingSize, stateIn}
+use Rattle.hearing_buffer.specs.Contracts.{stateAt}
 use Rattle.hearing_buffer.proofs.Bytes.{state-at}
 
 -- a buffer whose state has a code has the right size

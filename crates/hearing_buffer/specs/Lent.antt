@@ -12,7 +12,8 @@ use Rattle.arrays.specs.Sizes.{deepest}
 use Rattle.code.specs.Code.{longestDescription}
 use Rattle.flip_trial.specs.declared.Restart.the-variants.{Root, After}
 use Rattle.flip_run.specs.declared.Decoded.{Decoded}
-use Rattle.hearing_state.specs.State.{State, stateBy, noState, opened, added, cleared, decodedHeldWith}
+use Rattle.hearing.specs.Hearing.{Hearing}
+use Rattle.hearing_state.specs.State.{State, noState, opened, added, cleared, decodedHeldWith}
 use Rattle.hearing_buffer.specs.declared.Kept.{Kept}
 use Rattle.hearing_buffer.specs.declared.Kept.the-variants.{Done, Refused}
 
@@ -24,13 +25,11 @@ hearingSize = longestDescription + (1 + 2 ^ deepest)
 abbrev pub bytesOf : State → List ℕ
 bytesOf s = s .description ++ (s .hearing .count ∷ s .hearing .values)
 
--- the state that has these bytes, as many as the size of a buffer
-abbrev pub stateAt : List ℕ → State
-stateAt b = stateBy (take longestDescription b) (getD b longestDescription 0) (drop (1 + longestDescription) b)
-
 -- the state in a buffer; no state if the buffer has another size
 abbrev pub stateIn : List ℕ → State
-stateIn b = cond (eqb (length b) hearingSize) (stateAt b) noState
+stateIn b =
+    let hearing : Hearing = record { count = getD b longestDescription 0; values = drop (1 + longestDescription) b } in
+    cond (eqb (length b) hearingSize) (record { description = take longestDescription b; hearing = hearing }) noState
 
 -- what a call answers, with the count of hearings, and what the buffer holds afterwards: a refused call changes nothing
 abbrev pub answerIn : Judgement × State → List ℕ → Kept × List ℕ

@@ -1,2 +1,3 @@
 pub mod Lent
 pub mod Claims
+pub mod Contracts

@@ -15,7 +15,8 @@ ghost use lib.ListN.{length, take, replicate};
 ghost use Rattle.code.specs.Code.{longestDescription};
 ghost use Rattle.decoder.specs.Decoder.{single, decodedAs};
 ghost use Rattle.hearing.specs.Hearing.{fresh, combined};
-ghost use Rattle.hearing_state.specs.State.{stateOf, descriptionOf, codeOfState, addedUnder, decodedHeldWith};
+ghost use Rattle.hearing_state.specs.State.{stateOf, descriptionOf, codeOfState, decodedHeldWith};
+ghost use Rattle.hearing_state.specs.Contracts.{addedUnder};
 ghost use Rattle.hearing_buffer.specs.Lent.{hearingSize, bytesOf, stateIn, answerIn, openedIn, addedIn, clearedIn, fullIn, restartedIn};
 
 // What a call on a state in a buffer answers.

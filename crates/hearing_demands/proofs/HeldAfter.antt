@@ -25,8 +25,10 @@ use Rattle.decoder_demands.proofs.Agreement.{agreement}
 use Rattle.hearing.specs.Hearing.{Hearing, hearingOf, combined, fresh, clippedSums, addRefusals, isHearing}
 use Rattle.hearing.proofs.Adding.{not-full}
 use Rattle.hearing.proofs.Inside.{Inside, none-outside, zeros-inside, sums-inside, zeros-values, sums-values, fresh-is, combined-is, added-to, zeros-hearing, heard-hearing}
-use Rattle.hearing_state.specs.State.{State, stateOf, refusedIn, addedUnder, added, cleared}
+use Rattle.hearing_state.specs.State.{State, stateOf, refusedIn, opened, added, cleared}
+use Rattle.hearing_state.specs.Contracts.{addedUnder}
 use Rattle.hearing_demands.specs.Repeats.{Call, add, clear, after, acceptedIn, foldOfSums, Holds, HeldAfter}
+use Rattle.hearing_demands.specs.Claims.{Bounds, HeldBounds}
 use Rattle.hearing_demands.proofs.Descriptions.{opened-is, description-of, code-of, on-state, decoded-is}
 
 -- the last vector apart
@@ -111,27 +113,39 @@ module _ (d : List ℕ) (c : Code) (code : describe d ≡ Coding c) where
         ∙ added-refused (k .values) (k .inside) (length vectors) (k .hearing) channel x e ∙ sym (k .state-is) in
         subst (λ (t : State). Invariant t vectors) (sym same) k
 
+    same : combined c h ≡ k .values
+    same = combined-is c (k .values) (k .inside) (length vectors)
+
     holds : Holds d c s vectors
     holds =
-        let same : combined c h ≡ k .values = combined-is c (k .values) (k .inside) (length vectors) in
-        let long : length (combined c h) ≡ N = ap length same ∙ k .inside .size-is in
-        let range : firstOutside (combined c h) ≡ N = ap firstOutside same ∙ none-outside (k .inside) in
         subst (λ (t : State). Holds d c t vectors) (sym (k .state-is)) (record {
           description-is = description-of d c code h;
           code-is = code-of d c code h (k .hearing);
           count-is = refl;
-          count-most = k .most;
           values-are = ap channelValues same ∙ k .values-are;
-          size-is = long;
-          in-range = range;
           decoded-is = decoded-is d c code h (k .hearing);
           agree = λ limit size. agreement (single limit) d (combined c h) size;
         })
 
-  held : (s : State) (vectors : List (List ℕ)) (calls : List Call) → Invariant s vectors → Holds d c (after s calls) (acceptedIn c vectors calls)
-  held s vectors [] k = holds s vectors k
-  held s vectors (add channel ∷ calls) k = held _ _ calls (kept-add s vectors k channel (judge (addRefusals c (length vectors) channel)) refl)
-  held s vectors (clear ∷ calls) k = held _ _ calls (kept-clear s vectors k)
+    bounds : Bounds c s vectors
+    bounds =
+        subst (λ (t : State). Bounds c t vectors) (sym (k .state-is)) (record {
+          count-most = k .most;
+          size-is = ap length same ∙ k .inside .size-is;
+          in-range = ap firstOutside same ∙ none-outside (k .inside);
+        })
+
+  kept : (s : State) (vectors : List (List ℕ)) (calls : List Call) → Invariant s vectors → Invariant (after s calls) (acceptedIn c vectors calls)
+  kept s vectors [] k = k
+  kept s vectors (add channel ∷ calls) k = kept _ _ calls (kept-add s vectors k channel (judge (addRefusals c (length vectors) channel)) refl)
+  kept s vectors (clear ∷ calls) k = kept _ _ calls (kept-clear s vectors k)
+
+  -- from a fresh hearing
+  kept-after : (calls : List Call) → Invariant (after (opened d .1) calls) (acceptedIn c [] calls)
+  kept-after calls = kept _ [] calls (kept-fresh (ap (λ (a : Judgement × State). a .1) (opened-is d c code)))
 
 pub held-after : HeldAfter
-held-after d c calls code = held d c code _ [] calls (kept-fresh d c code (ap (λ (a : Judgement × State). a .1) (opened-is d c code)))
+held-after d c calls code = holds d c code _ _ (kept-after d c code calls)
+
+pub held-bounds : HeldBounds
+held-bounds d c calls code = bounds d c code _ _ (kept-after d c code calls)

@@ -46,12 +46,13 @@ use Rattle.decoder_demands.specs.Agreement.{skippedOver, lowestOfEach}
 use Rattle.decoder_demands.proofs.Instances.{run-in, accepted-run}
 use Rattle.hearing.specs.Hearing.{hearingOf, combined, clippedSums, addRefusals}
 use Rattle.hearing.proofs.Inside.{Inside, each-zero, zeros-inside, fresh-is, combined-is, zeros-hearing, heard-hearing}
-use Rattle.hearing_state.specs.State.{State, stateOf, descriptionOf, codeOfState, refusedIn, opened, addedUnder, added, decodedHeldWith}
+use Rattle.hearing_state.specs.State.{State, stateOf, descriptionOf, codeOfState, refusedIn, opened, added, decodedHeldWith}
+use Rattle.hearing_state.specs.Contracts.{addedUnder}
 use Rattle.hearing_buffer.specs.Lent.{bytesOf, stateIn}
 use Rattle.hearing_buffer.proofs.Bytes.{size-of, read-written}
 use Rattle.hearing_demands.specs.Repeats.{Call, add, after, acceptedIn, Holds}
 use Rattle.hearing_demands.proofs.Descriptions.{opened-is, code-of}
-use Rattle.hearing_demands.proofs.HeldAfter.{room, added-fine, held-after}
+use Rattle.hearing_demands.proofs.HeldAfter.{room, added-fine, held-after, held-bounds}
 use Rattle.hearing_demands.proofs.Left.{left-by-some, bytes-left}
 
 -- document 01's D with r = 3 and the polynomial z^3 + z + 1, so k = 1: its information indices are 3, 5, 6 and 7
@@ -149,7 +150,7 @@ sums-inside = inside sumsV refl (none-outside .1)
 held-bytes : combined c (s .hearing) ≡ sumsV
 held-bytes = ap (λ (t : State). combined c (t .hearing)) leaves ∙ combined-is c sumsV sums-inside 2
 
--- ---- each field of `Holds`
+-- ---- each field of `Holds` and of `Bounds`
 
 pub record Held : Type 0 where
   -- the description that is held has nine bytes
@@ -173,10 +174,10 @@ held = record {
   description = ap length (h .description-is);
   code = ap (λ (a : Description). onDescription a (refusedIn s) (λ c. addedUnder c s (0x01 ∷ [])) .0) (h .code-is);
   count = h .count-is ∙ ap length both-accepted;
-  most = λ more. le-ltb 255 (length (acceptedIn c [] more)) (held-after d c more describes .count-most);
+  most = λ more. le-ltb 255 (length (acceptedIn c [] more)) (held-bounds d c more describes .count-most);
   values = h .values-are;
-  size = h .size-is;
-  in-range = h .in-range;
+  size = held-bounds d c calls describes .size-is;
+  in-range = held-bounds d c calls describes .in-range;
   full = λ byte. h .decoded-is Root 5 (byte ∷ []) ∙ ap (λ (v : List ℕ). decodedFull d v 5 (byte ∷ [])) held-bytes ∙ decodings byte .sums-full;
   restarted = λ byte. h .decoded-is After 5 (byte ∷ []) ∙ ap (λ (v : List ℕ). decodedRestarted d v 5 (byte ∷ [])) held-bytes ∙ decodings byte .sums-restarted;
 }

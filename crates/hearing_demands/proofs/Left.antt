@@ -29,7 +29,8 @@ use Rattle.channel.specs.Channel.{channelValue, byteOf, clip, channelRefusals}
 use Rattle.channel.proofs.Bytes.{byte-channel}
 use Rattle.channel.proofs.Judge.{channel-fine}
 use Rattle.channel.proofs.Outside.{each-inside}
-use Rattle.hearing.specs.Hearing.{Hearing, hearingOf, combined, fresh, clippedSum, clippedSums, addRefusals, zeroFrom, isHearing}
+use Rattle.hearing.specs.Hearing.{Hearing, hearingOf, combined, fresh, clippedSums, addRefusals, isHearing}
+use Rattle.hearing.specs.Contracts.{clippedSum, zeroFrom}
 use Rattle.hearing.proofs.Adding.{from-most, count-most, zero-from, held-size, held-inside}
 use Rattle.hearing.proofs.Inside.{Inside, none-outside, each-zero, zeros-inside, fresh-is, zeros-hearing}
 use Rattle.hearing_state.specs.State.{State, stateOf, descriptionOf, codeOfState, added, opened}

@@ -11,7 +11,8 @@ use Rattle.code.specs.declared.Description.{Description}
 use Rattle.code.specs.declared.Description.the-variants.{Accepted as Coding, Refused as NoCode}
 use Rattle.code.specs.Description.{onDescription}
 use Rattle.hearing.specs.Hearing.{addRefusals}
-use Rattle.hearing_state.specs.State.{State, codeOfState, refusedIn, addedUnder}
+use Rattle.hearing_state.specs.State.{State, codeOfState, refusedIn}
+use Rattle.hearing_state.specs.Contracts.{addedUnder}
 use Rattle.hearing_demands.specs.Repeats.{add, clear}
 use Rattle.hearing_demands.specs.Claims.{RefusedKeeps}
 

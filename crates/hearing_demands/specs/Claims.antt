@@ -1,17 +1,33 @@
 -- What the theorems of this crate state besides `HeldAfter` and `BufferAfter`.
 use mathlib.Core.Path.{_≡_}
-use mathlib.Core.List.{List}
-use Prim.Native.Nat.{ℕ, _<_, _^_}
+use mathlib.Core.List.{List, []}
+use Prim.Native.Nat.{ℕ, _<_, _≤_, _^_}
 use lib.ListN.{length, getD}
 use Rattle.refusal.specs.declared.Refusal.{Refusal}
 use Rattle.refusal.specs.declared.Judgement.the-variants.{Refused}
 use Rattle.arrays.specs.Sizes.{deepest}
 use Rattle.code.specs.declared.Code.{Code}
 use Rattle.code.specs.declared.Description.the-variants.{Accepted as Coding}
-use Rattle.code.specs.Code.{longestDescription}
+use Rattle.code.specs.Code.{codeLength, longestDescription}
+use Rattle.code.specs.Description.{describe}
+use Rattle.channel.specs.Channel.{firstOutside}
+use Rattle.hearing.specs.Hearing.{combined}
 use Rattle.hearing_state.specs.State.{State, descriptionOf, codeOfState, opened}
 use Rattle.hearing_buffer.specs.Lent.{hearingSize, bytesOf, stateIn}
-use Rattle.hearing_demands.specs.Repeats.{Call, called, after}
+use Rattle.hearing_demands.specs.Repeats.{Call, called, after, acceptedIn}
+
+-- what the state s of a code c holds is within bounds, which its code says too: no call refuses it as 40
+pub record Bounds (c : Code) (s : State) (vectors : List (List ℕ)) : Type 0 where
+  -- at most 255 vectors
+  pub count-most : length vectors ≤ 255
+  -- N values
+  pub size-is : length (combined c (s .hearing)) ≡ codeLength c
+  -- they lie in −31..31
+  pub in-range : firstOutside (combined c (s .hearing)) ≡ codeLength c
+
+-- any code, and any list of adds and clears from a fresh hearing: `held-bounds` of proofs/HeldAfter.antt
+abbrev pub HeldBounds : Type 0
+HeldBounds = (d : List ℕ) (c : Code) (calls : List Call) → describe d ≡ Coding c → Bounds c (after (opened d .1) calls) (acceptedIn c [] calls)
 
 -- a refused call changes nothing: `refused-keeps`
 abbrev pub RefusedKeeps : Type 0

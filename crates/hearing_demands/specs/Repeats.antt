@@ -2,7 +2,7 @@
 -- every list of adds and clears from a fresh hearing.
 use mathlib.Core.Path.{_≡_}
 use mathlib.Core.List.{List, [], _∷_, _++_, map}
-use Prim.Native.Nat.{ℕ, _+_, _≤_}
+use Prim.Native.Nat.{ℕ}
 use lib.IntN.{ℤ, pos, _+ℤ_}
 use lib.ListN.{length, getD, replicate}
 use Rattle.laws.specs.Table.{table}
@@ -12,7 +12,7 @@ use Rattle.code.specs.declared.Code.{Code}
 use Rattle.code.specs.declared.Description.the-variants.{Accepted as Coding}
 use Rattle.code.specs.Code.{codeLength}
 use Rattle.code.specs.Description.{describe}
-use Rattle.channel.specs.Channel.{clip, channelValues, firstOutside}
+use Rattle.channel.specs.Channel.{clip, channelValues}
 use Rattle.flip_trial.specs.declared.Restart.{Restart}
 use Rattle.decoder.specs.Decoder.{single, decodedAs}
 use Rattle.decoder_demands.specs.Agreement.{Agree}
@@ -57,14 +57,8 @@ pub record Holds (d : List ℕ) (c : Code) (s : State) (vectors : List (List ℕ
   pub code-is : codeOfState s ≡ Coding c
   -- the count is the number of the vectors
   pub count-is : s .hearing .count ≡ length vectors
-  -- which is at most 255
-  pub count-most : length vectors ≤ 255
   -- the held values are the fold of clipped sums
   pub values-are : channelValues (combined c (s .hearing)) ≡ foldOfSums (codeLength c) (replicate (codeLength c) (pos 0)) (map channelValues vectors)
-  -- they are N
-  pub size-is : length (combined c (s .hearing)) ≡ codeLength c
-  -- they lie in −31..31
-  pub in-range : firstOutside (combined c (s .hearing)) ≡ codeLength c
   -- decoding is that of the held values, at every restart
   pub decoded-is :
       (restart : Restart) (limit : ℕ) (output : List ℕ)

@@ -14,7 +14,8 @@ use Rattle.code.specs.Description.{describe, onDescription}
 use Rattle.flip_trial.specs.declared.Restart.the-variants.{After}
 use Rattle.flip_run.specs.declared.Decoded.the-variants.{Refused}
 use Rattle.hearing.specs.Hearing.{addedTo, addRefusals}
-use Rattle.hearing_state.specs.State.{State, refusedIn, withHearing, opened, addedUnder, added, decodedHeldWith}
+use Rattle.hearing_state.specs.State.{State, refusedIn, withHearing, opened, added, decodedHeldWith}
+use Rattle.hearing_state.specs.Contracts.{addedUnder}
 use Rattle.hearing_buffer.specs.Lent.{openedIn}
 use Rattle.hearing_demands.specs.Repeats.{Call, add, clear, called, after, acceptedIn, Holds, bufferAfter}
 use Rattle.hearing_demands.proofs.HeldAfter.{held-after}

@@ -14,7 +14,8 @@ use Rattle.flip_trial.specs.declared.Restart.the-variants.{After}
 use Rattle.flip_run.specs.declared.Decoded.{Decoded}
 use Rattle.flip_run.specs.declared.Decoded.the-variants as decode
 use Rattle.hearing.specs.Hearing.{addedTo, addRefusals}
-use Rattle.hearing_state.specs.State.{State, codeOfState, refusedIn, withHearing, addedUnder, decodedHeldWith}
+use Rattle.hearing_state.specs.State.{State, codeOfState, refusedIn, withHearing, decodedHeldWith}
+use Rattle.hearing_state.specs.Contracts.{addedUnder}
 use Rattle.hearing_buffer.specs.Lent.{stateIn, answerIn}
 use Rattle.hearing_buffer.proofs.Bytes.{read-written}
 use Rattle.hearing_preview.specs.Preview.{thenRestartedIn, previewedIn}

@@ -14,7 +14,8 @@ use Rattle.code.specs.declared.Description.the-variants.{Accepted}
 use Rattle.code.specs.Description.{onDescription}
 use Rattle.channel.specs.Channel.{channelValue}
 use Rattle.hearing.specs.Hearing.{fresh}
-use Rattle.hearing_state.specs.State.{State, codeOfState, refusedIn, withHearing, addedUnder, cleared}
+use Rattle.hearing_state.specs.State.{State, codeOfState, refusedIn, withHearing, cleared}
+use Rattle.hearing_state.specs.Contracts.{addedUnder}
 
 -- a code of eight values
 abbrev eight : Code

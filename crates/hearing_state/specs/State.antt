@@ -29,10 +29,6 @@ pub record State : Type 0 where
   -- the combined values and their count
   pub hearing : Hearing
 
--- a state by its parts
-abbrev pub stateBy : List ℕ → ℕ → List ℕ → State
-stateBy description count values = record { description = description; hearing = record { values = values; count = count } }
-
 -- a state by its description, which zeros follow, and its hearing
 abbrev pub stateOf : List ℕ → Hearing → State
 stateOf d h = record { description = padded longestDescription d; hearing = h }
@@ -66,15 +62,11 @@ withHearing s h = record { description = s .description; hearing = h }
 abbrev pub opened : List ℕ → Judgement × State
 opened d = onDescription (describe d) (refusedIn noState) (λ c. (judgement.Fine, stateOf d fresh))
 
--- add under a code: 12, 13 and 27, then the sums
-abbrev pub addedUnder : Code → State → List ℕ → Judgement × State
-addedUnder c s channel =
-    refusedOr (judge (addRefusals c (s .hearing .count) channel)) (refusedIn s)
-    (judgement.Fine, withHearing s (addedTo c (s .hearing) channel))
-
--- add: refusal 40 first
+-- add: refusal 40 first; then 12, 13 and 27; then the sums
 abbrev pub added : State → List ℕ → Judgement × State
-added s channel = onDescription (codeOfState s) (refusedIn s) (λ c. addedUnder c s channel)
+added s channel =
+    onDescription (codeOfState s) (refusedIn s)
+    (λ c. refusedOr (judge (addRefusals c (s .hearing .count) channel)) (refusedIn s) (judgement.Fine, withHearing s (addedTo c (s .hearing) channel)))
 
 -- clear: "Clearing returns zeros and count 0."
 abbrev pub cleared : State → Judgement × State

@@ -13,8 +13,8 @@ ghost use Rattle.code.specs.Code.{codeLength};
 ghost use Rattle.code.specs.Description.{describe};
 ghost use Rattle.code.specs.Record.{recordIn};
 ghost use Rattle.decoder.specs.Decoder.{single, decodedAs};
-ghost use Rattle.hearing_state.specs.State.{stateBy, isState, codeOfState};
-ghost use Rattle.hearing_state.specs.Contracts.{StatePre, DecodePre};
+ghost use Rattle.hearing_state.specs.State.{isState, codeOfState};
+ghost use Rattle.hearing_state.specs.Contracts.{stateBy, StatePre, DecodePre};
 
 // The description at the start of these bytes.
 fn described_in(bytes: &[u8]) -> Description

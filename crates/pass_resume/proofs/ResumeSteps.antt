@@ -21,7 +21,8 @@ use Rattle.pass_tree.proofs.Restart.{begins-forced}
 use Rattle.pass_tree.proofs.Steps.{steps-and-skipped}
 use Rattle.pass_resume.specs.declared.Resumed.{Resumed}
 use Rattle.pass_resume.specs.declared.Resumed.the-variants.{Done, Refused}
-use Rattle.pass_resume.specs.Resume.{resumePass, resumingRefusals, resumedBy, resumed}
+use Rattle.pass_resume.specs.Resume.{resumingRefusals, resumedBy, resumed}
+use Rattle.pass_resume.specs.Contracts.{resumePass}
 use Rattle.pass_resume.specs.ResumeSteps.{ResumeSteps}
 use Rattle.pass_resume.proofs.WellFormed.{fine-well-formed, well-formed-answer}
 

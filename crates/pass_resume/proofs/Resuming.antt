@@ -26,8 +26,8 @@ use Rattle.pass_tree.proofs.Node.{length-bits}
 use Rattle.pass_tree.proofs.Restart.{rules-below}
 use Rattle.pass_ends.specs.Contracts.{ruleAt, Arrays, arrays}
 use Rattle.pass.specs.Contracts.{Ruled, PassPre, passOf, PassPost}
-use Rattle.pass_resume.specs.Resume.{badBit, firstBad, resumePass}
-use Rattle.pass_resume.specs.Contracts.{ResumePre}
+use Rattle.pass_resume.specs.Resume.{firstBad}
+use Rattle.pass_resume.specs.Contracts.{badBit, resumePass, ResumePre}
 
 -- no byte of the prefix is bad
 all-bits : (mask prefix : List ℕ) → length prefix ≤ firstBad mask prefix → Bits prefix

@@ -22,7 +22,8 @@ use Rattle.channel.specs.Channel.{channelRefusals}
 use Rattle.channel.proofs.Judge.{channel-fine, fine-channel}
 use Rattle.pass_resume.specs.declared.Resumed.{Resumed}
 use Rattle.pass_resume.specs.declared.Resumed.the-variants.{Done, Refused}
-use Rattle.pass_resume.specs.Resume.{firstBad, resumePass, prefixRefusals, resumingRefusals, resumedBy, resumed}
+use Rattle.pass_resume.specs.Resume.{firstBad, resumingRefusals, resumedBy, resumed}
+use Rattle.pass_resume.specs.Contracts.{resumePass, prefixRefusals}
 use Rattle.pass_resume.specs.Claims.{WellFormed, accepts}
 
 module _ (mask : List ℕ) (c : Code) (channel prefix output : List ℕ) where

@@ -11,8 +11,8 @@ ghost use Prim.Native.Nat.{_*_, _≤_};
 ghost use lib.ListN.{length};
 ghost use Rattle.refusal.specs.Judge.{judge};
 ghost use Rattle.code.specs.Claims.{Coded};
-ghost use Rattle.pass_resume.specs.Resume.{badBit, firstBad, resumePass, prefixRefusals, resumingRefusals, resumedBy, resumed};
-ghost use Rattle.pass_resume.specs.Contracts.{ResumePre};
+ghost use Rattle.pass_resume.specs.Resume.{firstBad, resumingRefusals, resumedBy, resumed};
+ghost use Rattle.pass_resume.specs.Contracts.{badBit, resumePass, prefixRefusals, ResumePre};
 
 // What resume answers.
 pub enum Resumed {

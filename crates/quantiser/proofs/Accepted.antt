@@ -14,7 +14,8 @@ use Rattle.quantiser_level.proofs.Levels.{level-le}
 use Rattle.quantiser.specs.declared.Summary.{Summary}
 use Rattle.quantiser.specs.declared.Quantised.{Quantised}
 use Rattle.quantiser.specs.declared.Quantised.the-variants.{Done}
-use Rattle.quantiser.specs.Quantise.{product, peakOf, clippedOf, bytes, accepted, quantised}
+use Rattle.quantiser.specs.Quantise.{product, peakOf, clippedOf, bytes, quantised}
+use Rattle.quantiser.specs.Contracts.{accepted}
 use Rattle.quantiser.specs.Claims.{WellFormed, accepts, Peak}
 use Rattle.quantiser.proofs.Numbers.{admitted-number}
 use Rattle.quantiser.proofs.WellFormed.{well-formed-answer, well-formed-exactly}

@@ -15,7 +15,8 @@ use Rattle.refusal.proofs.Judge.{judge-none, judge-no, judge-past, refused-fine
 use Rattle.refusal.proofs.Tests.{differs-past, differs-no}
 use Rattle.quantiser.specs.declared.Quantised.{Quantised}
 use Rattle.quantiser.specs.declared.Quantised.the-variants.{Refused}
-use Rattle.quantiser.specs.Quantise.{firstNan, validScale, quantisingRefusals, accepted, quantised}
+use Rattle.quantiser.specs.Quantise.{firstNan, validScale, quantisingRefusals, quantised}
+use Rattle.quantiser.specs.Contracts.{accepted}
 use Rattle.quantiser.specs.Claims.{WellFormed, accepts}
 
 module _ (scale : Float) (samples : List Float) (output : List ℕ) where

@@ -1,2 +1,3 @@
 pub mod Quantise
 pub mod Claims
+pub mod Contracts

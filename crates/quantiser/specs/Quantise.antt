@@ -52,14 +52,10 @@ quantisingRefusals scale samples output =
     ∷ (ltb (firstNan samples) (length samples), At 22 (firstNan samples))
     ∷ []
 
--- the answer and the output bytes if no refusal applies
-abbrev pub accepted : Float → List Float → Quantised × List ℕ
-accepted scale samples =
-    let p = product scale samples in
-    let n = length samples in
-    (Done (record { peak = peakOf p n; clipped = clippedOf p n }), bytes p n)
-
 -- the answer, and the bytes that the output holds afterwards. A refusal writes nothing.
 unfoldable pub quantised : Float → List Float → List ℕ → Quantised × List ℕ
 quantised scale samples output =
-    refusedOr (judge (quantisingRefusals scale samples output)) (λ x. (Refused x, output)) (accepted scale samples)
+    let p = product scale samples in
+    let n = length samples in
+    refusedOr (judge (quantisingRefusals scale samples output)) (λ x. (Refused x, output))
+    (Done (record { peak = peakOf p n; clipped = clippedOf p n }), bytes p n)

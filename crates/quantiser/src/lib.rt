@@ -4,7 +4,8 @@ use refusal::Judgement;
 use refusal::Refusal;
 ghost use mathlib.Core.Path.{_≡_};
 ghost use Rattle.refusal.specs.Judge.{judge};
-ghost use Rattle.quantiser.specs.Quantise.{larger, validScale, firstNan, quantisingRefusals, accepted, quantised};
+ghost use Rattle.quantiser.specs.Quantise.{larger, validScale, firstNan, quantisingRefusals, quantised};
+ghost use Rattle.quantiser.specs.Contracts.{accepted};
 ghost use Rattle.quantiser.specs.Claims.{WellFormed};
 
 // What is reported of the products.

@@ -28,14 +28,10 @@ abbrev pub hex : List ℕ → List ℕ
 hex [] = []
 hex (byte ∷ bytes) = hexDigit (byte / 16) ∷ hexDigit (byte % 16) ∷ hex bytes
 
--- a field after its space: one space between fields
-abbrev pub spaced : List ℕ → List ℕ
-spaced field = text " " ++ field
-
--- the fields after a line's first word, and one line feed after each line
+-- the fields after a line's first word, a space before each, and one line feed after each line
 abbrev pub fields : List (List ℕ) → List ℕ
 fields [] = text "\n"
-fields (field ∷ rest) = spaced field ++ fields rest
+fields (field ∷ rest) = (text " " ++ field) ++ fields rest
 
 -- a line: its first word, then its other fields
 abbrev pub line : List ℕ → List (List ℕ) → List ℕ

@@ -4,8 +4,8 @@ ghost use mathlib.Core.Path.{_≡_};
 ghost use mathlib.Core.List.{[], _∷_};
 ghost use Prim.Native.Nat.{_+_, _*_, _≤_, _<_};
 ghost use lib.ListN.{length};
-ghost use Rattle.receive_lines.specs.Line.{decimal, hexDigit, hex, spaced, codeLine, okLine, cutLine, endLine, line as lineOf};
-ghost use Rattle.receive_lines.specs.Contracts.{PutPost};
+ghost use Rattle.receive_lines.specs.Line.{decimal, hexDigit, hex, codeLine, okLine, cutLine, endLine, line as lineOf};
+ghost use Rattle.receive_lines.specs.Contracts.{spaced, PutPost};
 
 // Room for the longest line: `ok`; two numbers of 21 bytes, a space and the 20 digits that a u64 has at most; a space and a payload in
 // hexadecimal; and the line feed.

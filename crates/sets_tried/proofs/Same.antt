@@ -20,7 +20,8 @@ use Rattle.pass_tree.proofs.Node.{length-leaves}
 use Rattle.flip_order.specs.Order.{magnitude}
 use Rattle.flip_trial.specs.declared.Restart.{Restart}
 use Rattle.flip_trial.specs.declared.Restart.the-variants.{Root}
-use Rattle.flip_trial.specs.Trial.{firstTrial, restartAt, trialFrom, laterTrial}
+use Rattle.flip_trial.specs.Trial.{firstTrial, restartAt, laterTrial}
+use Rattle.flip_trial.specs.Claims.{trialFrom}
 use Rattle.flip_trial.specs.Flips.{Flips}
 use Rattle.flip_trial.proofs.Restartable.{restartable}
 use Rattle.flip_trial.proofs.Agree.{same-leaf}

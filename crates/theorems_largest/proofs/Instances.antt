@@ -1,7 +1,8 @@
 -- The theorems of this crate at document 01's D and at the largest n.
-use mathlib.Core.Path.{_≡_, refl}
+use mathlib.Core.Path.{_≡_, refl, sym, ap, _∙_}
 use mathlib.Core.List.{List, [], _∷_}
 use Prim.Native.Nat.{ℕ, _-_, _*_, _≤_}
+use native.Mathlib.Omega.{arith}
 use lib.IntN.{pos, natAbs}
 use lib.ListN.{getD, replicate}
 use Rattle.laws.specs.First.{firstWhere}
@@ -10,12 +11,15 @@ use Rattle.arrays.specs.Sizes.{deepest}
 use Rattle.arrays.specs.Claims.{longest}
 use Rattle.bits.specs.Mask.{onesBelow}
 use Rattle.code.specs.declared.Code.{Code}
+use Rattle.code.specs.declared.Description.{Description}
 use Rattle.code.specs.declared.Description.the-variants.{Accepted}
-use Rattle.code.specs.Description.{describeUpTo, describe}
+use Rattle.code.specs.Code.{codeLength}
+use Rattle.code.specs.Description.{describeUpTo, describe, onDescription}
 use Rattle.values.specs.Values.{Rule, maskRule}
 use Rattle.channel.specs.Channel.{channelValue, channelValues}
 use Rattle.pass_tree.specs.Node.{node}
 use Rattle.theorems_largest.proofs.Inner.{inner-bound}
+use Rattle.theorems_largest.proofs.Longer.{old-answers}
 
 -- document 01's D, with N = 8
 abbrev D : List ℕ
@@ -41,3 +45,15 @@ loudest-longest mask = inner-bound .reached deepest mask
 -- what that is by the formula
 pub largest-bound : 31 * longest ≡ 126976
 largest-bound = inner-bound .largest
+
+-- ---- old answers: D with n up to 10 and up to 12
+
+accepted-10 : describeUpTo 10 D ≡ Accepted codeD
+unfolding describeUpTo judge refusedOr onesBelow
+accepted-10 = refl
+
+-- the steps of a whole pass under D, by an operation that reads them, and 0 if D is refused
+pub D-stays : onDescription (describeUpTo deepest D) (λ x. 0) (λ c. c .n * codeLength c) ≡ 24
+D-stays =
+    sym (old-answers ℕ (λ x. 0) (λ c. c .n * codeLength c) 10 deepest D (omega arith) (λ e. let same : describeUpTo 10 D ≡ Accepted codeD = accepted-10 in let z : _≡_ {A = ℕ} 0 1 = cc in omega arith))
+    ∙ ap (λ (x : Description). onDescription x (λ y. 0) (λ c. c .n * codeLength c)) accepted-10

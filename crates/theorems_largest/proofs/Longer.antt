@@ -19,28 +19,12 @@ use Rattle.arrays.specs.Sizes.{deepest}
 use Rattle.code.specs.declared.Code.{Code}
 use Rattle.code.specs.declared.Description.{Description}
 use Rattle.code.specs.declared.Description.the-variants.{Accepted, Refused as NoCode}
-use Rattle.code.specs.Description.{maskOf, refusalsUpTo, codeOf, describeUpTo, onDescription}
-use Rattle.encoder.specs.declared.Encoded.the-variants.{Refused as NotEncoded}
-use Rattle.encoder.specs.Encode.{encodedBy, encoded}
-use Rattle.pass_resume.specs.declared.Resumed.the-variants.{Refused as NotResumed}
-use Rattle.pass_resume.specs.Resume.{resumedBy, resumed}
-use Rattle.flip_run.specs.declared.Decoded.the-variants.{Refused as NotDecoded}
-use Rattle.decoder.specs.Decoder.{decodedUnder, decodedAs}
-use Rattle.theorems_largest.specs.Longer.{SameAnswers, OldAnswers}
+use Rattle.code.specs.Description.{refusalsUpTo, codeOf, describeUpTo, onDescription}
+use Rattle.encoder.specs.Encode.{encoded}
+use Rattle.pass_resume.specs.Resume.{resumed}
+use Rattle.decoder.specs.Decoder.{decodedAs}
+use Rattle.theorems_largest.specs.Longer.{OldAnswers}
 use Rattle.theorems_largest.specs.Claims.{NewAnswer, AnswersAs}
-
--- an operation, by the description's answer
-under : {X : Type 0} (refuse : Refusal → X) (go : Code → X) {x y : Description} → x ≡ y → onDescription x refuse go ≡ onDescription y refuse go
-under refuse go e = ap (λ (x : Description). onDescription x refuse go) e
-
--- if the description has one answer, so has each operation
-by-description : (small large : ℕ) (d : List ℕ) → describeUpTo small d ≡ describeUpTo large d → SameAnswers small large d
-by-description small large d e = record {
-  description = e;
-  encoding = λ payload output. under (λ x. (NotEncoded x, output)) (λ c. encodedBy (maskOf d) c payload output) e;
-  resuming = λ channel prefix output. under (λ x. (NotResumed x, output)) (λ c. resumedBy (maskOf d) c channel prefix output) e;
-  decoding = λ p restart channel output. under (λ x. (NotDecoded x, output)) (λ c. decodedUnder p restart (maskOf d) c channel output) e;
-}
 
 -- ---- the answer of a description, by the test of n
 
@@ -99,11 +83,11 @@ module _ (d : List ℕ) where
 
 module _ (small large : ℕ) (d : List ℕ) where
   -- the test of n has one outcome
-  alike : outside (n d) 3 small ≡ outside (n d) 3 large → SameAnswers small large d
-  alike e = by-description small large d (answered d small ∙ ap (answer d) e ∙ sym (answered d large))
+  alike : outside (n d) 3 small ≡ outside (n d) 3 large → describeUpTo small d ≡ describeUpTo large d
+  alike e = answered d small ∙ ap (answer d) e ∙ sym (answered d large)
 
   -- it holds with `small` alone: that changes the answer if no test before it holds
-  apart : outside (n d) 3 small ≡ true → outside (n d) 3 large ≡ false → (j : Judgement) → judge (before d) ≡ j → SameAnswers small large d ⊎ NewAnswer small large d
+  apart : outside (n d) 3 small ≡ true → outside (n d) 3 large ≡ false → (j : Judgement) → judge (before d) ≡ j → (describeUpTo small d ≡ describeUpTo large d) ⊎ NewAnswer small large d
   apart s l Fine e =
       let within = outside-past (n d) 3 large l in
       inr
@@ -113,35 +97,35 @@ module _ (small large : ℕ) (d : List ℕ) where
         most = within .1;
         other = λ f. answer-not-4 d e (sym (answered d large ∙ ap (answer d) l) ∙ f);
       })
-  apart s l (Refused x) e = inl (by-description small large d (answered d small ∙ answer-before d x e _ ∙ sym (answered d large ∙ answer-before d x e _)))
+  apart s l (Refused x) e = inl (answered d small ∙ answer-before d x e _ ∙ sym (answered d large ∙ answer-before d x e _))
 
-  pub answers : small ≤ large → SameAnswers small large d ⊎ NewAnswer small large d
+  pub answers : small ≤ large → (describeUpTo small d ≡ describeUpTo large d) ⊎ NewAnswer small large d
   answers more = go (outside (n d) 3 small) refl (outside (n d) 3 large) refl
     where
-      go : (t : Bool) → outside (n d) 3 small ≡ t → (t′ : Bool) → outside (n d) 3 large ≡ t′ → SameAnswers small large d ⊎ NewAnswer small large d
+      go : (t : Bool) → outside (n d) 3 small ≡ t → (t′ : Bool) → outside (n d) 3 large ≡ t′ → (describeUpTo small d ≡ describeUpTo large d) ⊎ NewAnswer small large d
       go true s true l = inl (alike (s ∙ sym l))
       go true s false l = apart s l (judge (before d)) refl
       go false s t′ l =
           let within = outside-past (n d) 3 small s in
           inl (alike (s ∙ sym (outside-no (n d) 3 large (within .0) (omega arith))))
 
+-- bytes that are not refused as 4 with the smaller
+same-description : (small large : ℕ) (d : List ℕ) → small ≤ large → (describeUpTo small d ≡ NoCode (Alone 4) → ⊥) → describeUpTo small d ≡ describeUpTo large d
+same-description small large d more other = ⊎-elim (λ same. same) (λ new. absurd (other (new .refused))) (answers small large d more)
+
 pub old-answers : OldAnswers
-old-answers small large d more other = ⊎-elim (λ same. same) (λ new. absurd (other (new .refused))) (answers small large d more)
+old-answers X refuse go small large d more other = ap (λ (x : Description). onDescription x refuse go) (same-description small large d more other)
 
--- an accepted description
-pub same-accepted : (small large : ℕ) (d : List ℕ) (c : Code) → small ≤ large → describeUpTo small d ≡ Accepted c → SameAnswers small large d
-same-accepted small large d c more e = old-answers small large d more (λ f. let z : _≡_ {A = ℕ} 0 1 = cc in omega arith)
-
--- the operations at their own largest n
+-- the operations at their own largest n, under an accepted description
 pub as-accepted : (largest : ℕ) (d : List ℕ) (c : Code) → largest ≤ deepest → describeUpTo largest d ≡ Accepted c → AnswersAs largest d
 unfolding encoded resumed decodedAs
 as-accepted largest d c more e =
-    let same = same-accepted largest deepest d c more e in
+    let other : describeUpTo largest d ≡ NoCode (Alone 4) → ⊥ = λ f. let z : _≡_ {A = ℕ} 0 1 = cc in omega arith in
     record {
-      description = sym (same .description);
-      encode = λ payload output. sym (same .encoding payload output);
-      resume = λ channel prefix output. sym (same .resuming channel prefix output);
-      decode = λ p restart channel output. sym (same .decoding p restart channel output);
+      description = sym (same-description largest deepest d more other);
+      encode = λ payload output. sym (old-answers _ _ _ largest deepest d more other);
+      resume = λ channel prefix output. sym (old-answers _ _ _ largest deepest d more other);
+      decode = λ p restart channel output. sym (old-answers _ _ _ largest deepest d more other);
     }
 
 -- document 01 has n up to 10

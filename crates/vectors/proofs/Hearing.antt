@@ -37,7 +37,8 @@ use Rattle.hearing.specs.Hearing.{combined}
 use Rattle.hearing_state.specs.State.{State, opened, decodedHeldWith}
 use Rattle.hearing_buffer.specs.Lent.{hearingSize, stateIn, openedIn, fullIn, restartedIn}
 use Rattle.hearing_demands.specs.Repeats.{Call, add, clear, after, acceptedIn, Holds, bufferAfter}
-use Rattle.hearing_demands.proofs.HeldAfter.{held-after}
+use Rattle.hearing_demands.specs.Claims.{Bounds}
+use Rattle.hearing_demands.proofs.HeldAfter.{held-after, held-bounds}
 use Rattle.hearing_demands.proofs.Buffer.{buffer-after}
 
 -- 9, 3, −21, 9, 13, 8, −3, −17
@@ -70,7 +71,7 @@ unfolding firstWhere judge refusedOr channelValue
 both-accepted = refl
 
 -- whatever state holds both
-module _ (s : State) (h : Holds wideD wideCode s (firstV ∷ secondV ∷ [])) where
+module _ (s : State) (h : Holds wideD wideCode s (firstV ∷ secondV ∷ [])) (b : Bounds wideCode s (firstV ∷ secondV ∷ [])) where
   abbrev held : List ℕ
   held = combined wideCode (s .hearing)
 
@@ -111,7 +112,7 @@ module _ (s : State) (h : Holds wideD wideCode s (firstV ∷ secondV ∷ [])) wh
       let well : WellFormed (single T) wideD wideCode held (byte ∷ []) = record {
         described = describes;
         fine = spelt-out (single T) wideCode held (byte ∷ []) .0
-            (record { channel-size = h .size-is; in-range = h .in-range ∙ sym (h .size-is); allowed = (least, most); output-size = refl });
+            (record { channel-size = b .size-is; in-range = b .in-range ∙ sym (b .size-is); allowed = (least, most); output-size = refl });
       } in
       let x = noiseless-decoding wideD wideCode (0x80 ∷ []) held T (byte ∷ []) received well in
       (h .decoded-is Root T (byte ∷ []) ∙ x .0, h .decoded-is After T (byte ∷ []) ∙ x .1)
@@ -123,12 +124,15 @@ heardTwice = after (opened wideD .1) calls
 holds-both : Holds wideD wideCode heardTwice (firstV ∷ secondV ∷ [])
 holds-both = subst (Holds wideD wideCode heardTwice) both-accepted (held-after wideD wideCode calls describes)
 
+in-bounds : Bounds wideCode heardTwice (firstV ∷ secondV ∷ [])
+in-bounds = subst (Bounds wideCode heardTwice) both-accepted (held-bounds wideD wideCode calls describes)
+
 pub twice-counted : heardTwice .hearing .count ≡ 2
 twice-counted = holds-both .count-is
 
 pub twice-decodes : (T byte : ℕ) → 1 ≤ T → T ≤ 5
     → (decodedHeldWith Root heardTwice T (byte ∷ []) ≡ (Accepted 1 24, 0x80 ∷ [])) × (decodedHeldWith After heardTwice T (byte ∷ []) ≡ (Accepted 1 24, 0x80 ∷ []))
-twice-decodes = both-decode heardTwice holds-both
+twice-decodes = both-decode heardTwice holds-both in-bounds
 
 -- and in any buffer of the right size; a buffer of that size exists
 module _ (b : List ℕ) (size : length b ≡ hearingSize) where
@@ -138,8 +142,9 @@ module _ (b : List ℕ) (size : length b ≡ hearingSize) where
   pub buffer-decodes : (T byte : ℕ) → 1 ≤ T → T ≤ 5
       → (fullIn buffer T (byte ∷ []) ≡ (Accepted 1 24, 0x80 ∷ [])) × (restartedIn buffer T (byte ∷ []) ≡ (Accepted 1 24, 0x80 ∷ []))
   buffer-decodes =
-      both-decode (stateIn buffer)
-      (subst (λ (s : State). Holds wideD wideCode s (firstV ∷ secondV ∷ [])) (sym (buffer-after wideD b wideCode calls describes size)) holds-both)
+      let same = sym (buffer-after wideD b wideCode calls describes size) in
+      both-decode (stateIn buffer) (subst (λ (s : State). Holds wideD wideCode s (firstV ∷ secondV ∷ [])) same holds-both)
+      (subst (λ (s : State). Bounds wideCode s (firstV ∷ secondV ∷ [])) same in-bounds)
 
 pub a-buffer : length (replicate {A = ℕ} hearingSize 0) ≡ hearingSize
 a-buffer = length-replicate {A = ℕ} hearingSize 0

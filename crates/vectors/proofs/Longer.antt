@@ -1,5 +1,5 @@
 -- Document 02, request 2.3, at descriptions with n = 3, and on both sides of 10 and of 12.
-use mathlib.Core.Path.{_≡_, refl, ap}
+use mathlib.Core.Path.{_≡_, refl, sym, ap, _∙_}
 use mathlib.Core.List.{List, [], _∷_}
 use Prim.Native.Nat.{ℕ, _+_, _-_, _/_, _%_, _^_, _≤_}
 use native.Mathlib.Omega.{arith}
@@ -8,20 +8,21 @@ use lib.IntN.{pos, natAbs}
 use lib.ListN.{length, getD, replicate, length-replicate, getD-replicate}
 use Rattle.laws.specs.Table.{table}
 use Rattle.laws.proofs.First.{first-is}
+use Rattle.refusal.specs.declared.Refusal.{Refusal}
 use Rattle.refusal.specs.declared.Refusal.the-variants.{Alone}
 use Rattle.refusal.specs.Judge.{judge, refusedOr}
 use Rattle.arrays.specs.Sizes.{deepest}
 use Rattle.arrays.specs.Claims.{longest}
 use Rattle.bits.specs.Mask.{onesBelow}
 use Rattle.code.specs.declared.Code.{Code}
+use Rattle.code.specs.declared.Description.{Description}
 use Rattle.code.specs.declared.Description.the-variants.{Accepted, Refused}
-use Rattle.code.specs.Description.{maskOf, describeUpTo, describe}
+use Rattle.code.specs.Description.{maskOf, describeUpTo, describe, onDescription}
 use Rattle.transform.specs.Transform.{covers, parity, transformed, xors}
 use Rattle.values.specs.Values.{f, g, leftValues, rightValues, Rule}
 use Rattle.channel.specs.Channel.{channelValue, channelValues, firstOutside}
 use Rattle.pass_tree.specs.Node.{node}
 use Rattle.flip_trial.specs.Trial.{firstTrial}
-use Rattle.theorems_largest.specs.Longer.{SameAnswers}
 use Rattle.theorems_largest.specs.Claims.{NewAnswer, AnswersAs}
 use Rattle.theorems_largest.proofs.Longer.{old-answers, as-10}
 use Rattle.theorems_largest.proofs.Inner.{inner-bound}
@@ -37,7 +38,7 @@ long n =
 abbrev longCode : ℕ → Code
 longCode n = record { n = n; r = 1; polynomial = 1; start = 0; k = 2 ^ n / 2 - 1 }
 
--- n = 3 is D's. Where n is at most 10, 10 is accepted, and 11, 12 and 13 are refused as 4; of these 11 and 12 are accepted with `deepest`.
+-- n = 3 is D's. If n may be at most 10, 10 is accepted, and 11, 12 and 13 are refused as 4; of these 11 and 12 are accepted with `deepest`.
 pub long-rows :
     (long 3 ≡ D)
     × (describeUpTo 10 D ≡ Accepted (longCode 3))
@@ -66,8 +67,9 @@ wide-refused : describeUpTo 10 wide ≡ Refused (Alone 6)
 unfolding describeUpTo judge refusedOr
 wide-refused = refl
 
-pub wide-stays : SameAnswers 10 deepest wide
-wide-stays = old-answers 10 deepest wide (omega arith) (λ e. let six : describeUpTo 10 wide ≡ Refused (Alone 6) = wide-refused in let z : _≡_ {A = ℕ} 4 6 = cc in omega arith)
+pub wide-stays : (refuse : Refusal → ℕ) (go : Code → ℕ) → onDescription (describeUpTo deepest wide) refuse go ≡ refuse (Alone 6)
+wide-stays refuse go = sym (old-answers ℕ refuse go 10 deepest wide (omega arith) (λ e. let six : describeUpTo 10 wide ≡ Refused (Alone 6) = wide-refused in let z : _≡_ {A = ℕ} 4 6 = cc in omega arith))
+    ∙ ap (λ (x : Description). onDescription x refuse go) wide-refused
 
 -- at n = 12 the description has another answer
 pub new-12 : NewAnswer 10 deepest (long 12)

@@ -16,6 +16,8 @@ use Rattle.hearing.specs.Hearing.{addRefusals}
 use Rattle.hearing_state.specs.State.{State, opened, added}
 use Rattle.hearing_buffer.specs.Lent.{hearingSize, openedIn}
 use Rattle.hearing_demands.specs.Repeats.{Call, add, clear, after, acceptedIn, bufferAfter}
+use Rattle.hearing_demands.specs.Claims.{Bounds}
+use Rattle.hearing_demands.proofs.HeldAfter.{held-bounds}
 use Rattle.hearing_preview.specs.Preview.{previewedIn}
 use Rattle.hearing_preview.specs.Claims.{previewed, Previews}
 use Rattle.hearing_preview.proofs.After.{preview-after, preview-in-after}
@@ -40,12 +42,22 @@ second-fine : judge (addRefusals wideCode 1 secondV) ≡ Fine
 unfolding firstWhere judge channelValue
 second-fine = refl
 
+-- with it two vectors are held
+both-accepted : acceptedIn wideCode [] (add vector ∷ clear ∷ add firstV ∷ add secondV ∷ []) ≡ firstV ∷ secondV ∷ []
+unfolding firstWhere judge refusedOr channelValue
+both-accepted = refl
+
+in-bounds : Bounds wideCode (added heardOnce secondV .1) (firstV ∷ secondV ∷ [])
+in-bounds =
+    subst (Bounds wideCode (added heardOnce secondV .1)) both-accepted
+    (held-bounds wideD wideCode (add vector ∷ clear ∷ add firstV ∷ add secondV ∷ []) describes)
+
 -- the second hearing would settle the frame: for every T that 14 allows, whatever byte the output held; `neither-decodes` has what each alone gives
 pub second-settles : (T byte : ℕ) → 1 ≤ T → T ≤ 5 → previewed heardOnce secondV T (byte ∷ []) ≡ (Accepted 1 24, 0x80 ∷ [])
 second-settles T byte least most =
     let held = previews secondV .sums second-fine in
     previews secondV .decoded second-fine T (byte ∷ []) ∙ sym (held .decoded-is After T (byte ∷ []))
-    ∙ both-decode (added heardOnce secondV .1) held T byte least most .1
+    ∙ both-decode (added heardOnce secondV .1) held in-bounds T byte least most .1
 
 -- a vector that is too short, and one with a value out of range: nothing is decoded
 pub short-refused : (T : ℕ) (output : List ℕ) → previewed heardOnce (0x01 ∷ []) T output ≡ (Refused (Alone 12), output)

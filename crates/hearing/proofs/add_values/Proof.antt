@@ -8,7 +8,7 @@ use lib.IntN.{natAbs}
 use lib.ListN.{length, getD}
 use Rattle.laws.proofs.Filling.{Filling, filling-none, filling-more, filling-past, filling-done}
 use Rattle.channel.specs.Channel.{channelValue}
-use Rattle.hearing.specs.Hearing.{clippedSum}
+use Rattle.hearing.specs.Contracts.{clippedSum}
 use Rattle.hearing.proofs.add_values.Statement.{statement}
 use Rattle.hearing.proofs.add_values.Tie as tie
 

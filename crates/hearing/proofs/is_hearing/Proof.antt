@@ -13,8 +13,8 @@ use Rattle.laws.proofs.Powers.{one-shl}
 use Rattle.arrays.specs.Padded.{allZero}
 use Rattle.arrays.proofs.Sizes.{fits}
 use Rattle.channel.specs.Channel.{firstOutside}
-use Rattle.hearing.specs.Hearing.{zeroFrom, isHearing}
-use Rattle.hearing.specs.Contracts.{hearingBy}
+use Rattle.hearing.specs.Hearing.{isHearing}
+use Rattle.hearing.specs.Contracts.{zeroFrom, hearingBy}
 use Rattle.hearing.proofs.Adding.{from-most}
 use Rattle.hearing.proofs.is_hearing.Statement.{statement}
 use Rattle.hearing.proofs.is_hearing.Tie as tie

@@ -7,7 +7,8 @@ use denote.Ref.{now}
 use Rattle.refusal.specs.Judge.{refusedOr}
 use Rattle.code.specs.declared.Description.{Description}
 use Rattle.code.specs.Description.{onDescription}
-use Rattle.hearing_state.specs.State.{refusedIn, addedUnder}
+use Rattle.hearing_state.specs.State.{refusedIn}
+use Rattle.hearing_state.specs.Contracts.{addedUnder}
 use Rattle.hearing_buffer.specs.declared.Kept.{Kept}
 use Rattle.hearing_buffer.specs.Lent.{stateIn, answerIn}
 use Rattle.hearing_buffer.proofs.add.Statement.{statement}

@@ -15,7 +15,8 @@ use Rattle.code.specs.Code.{longestDescription}
 use Rattle.hearing.specs.Hearing.{Hearing, addedTo, addRefusals, isHearing}
 use Rattle.hearing.specs.Contracts.{hearingBy}
 use Rattle.hearing.proofs.Adding.{count-most, not-full, add-pre, sums-are}
-use Rattle.hearing_state.specs.State.{State, stateBy, codeOfState, refusedIn, withHearing}
+use Rattle.hearing_state.specs.State.{State, codeOfState, refusedIn, withHearing}
+use Rattle.hearing_state.specs.Contracts.{stateBy}
 use Rattle.hearing_state.proofs.States.{code-most, is-hearing}
 use Rattle.hearing_buffer.specs.declared.Kept.{Kept}
 use Rattle.hearing_buffer.specs.declared.Kept.the-variants.{Done}

@@ -6,7 +6,7 @@ use borrow.Author.Tests.{ne-eqb}
 use denote.Ref.{now}
 use Rattle.hearing_state.specs.State.{noState, codeOfState}
 use Rattle.hearing_state.proofs.States.{no-code}
-use Rattle.hearing_buffer.specs.Lent.{stateAt}
+use Rattle.hearing_buffer.specs.Contracts.{stateAt}
 use Rattle.hearing_buffer.proofs.InPlace.{parts, state-parts}
 use Rattle.hearing_buffer.proofs.code_in.Statement.{statement}
 use Rattle.hearing_buffer.proofs.code_in.Tie as tie

@@ -13,7 +13,8 @@ use Rattle.code.specs.Code.{longestDescription}
 use Rattle.code.proofs.Facts.{described}
 use Rattle.decoder.specs.Decoder.{single, decodedAs}
 use Rattle.hearing.specs.Hearing.{combined}
-use Rattle.hearing_state.specs.State.{State, stateBy, descriptionOf, codeOfState}
+use Rattle.hearing_state.specs.State.{State, descriptionOf, codeOfState}
+use Rattle.hearing_state.specs.Contracts.{stateBy}
 use Rattle.hearing_state.proofs.States.{state-is}
 use Rattle.hearing_buffer.specs.Lent.{hearingSize}
 use Rattle.hearing_buffer.proofs.InPlace.{code-size, part, parts, state-parts}

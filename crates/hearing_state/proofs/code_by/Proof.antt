@@ -7,7 +7,8 @@ use Rattle.code.specs.declared.Code.{Code}
 use Rattle.code.specs.declared.Description.the-variants.{Accepted}
 use Rattle.code.specs.Description.{describe}
 use Rattle.code.proofs.Facts.{described}
-use Rattle.hearing_state.specs.State.{State, stateBy, descriptionOf}
+use Rattle.hearing_state.specs.State.{State, descriptionOf}
+use Rattle.hearing_state.specs.Contracts.{stateBy}
 use Rattle.hearing_state.proofs.States.{codeBy, code-by}
 use Rattle.hearing_state.proofs.code_by.Statement.{statement}
 use Rattle.hearing_state.proofs.code_by.Tie as tie

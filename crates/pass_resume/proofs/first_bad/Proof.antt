@@ -10,7 +10,7 @@ use denote.Ref.{now}
 use lib.ListN.{length, getD}
 use Rattle.laws.proofs.First.{first-is}
 use Rattle.bits.specs.Mask.{maskBit}
-use Rattle.pass_resume.specs.Resume.{badBit}
+use Rattle.pass_resume.specs.Contracts.{badBit}
 use Rattle.pass_resume.proofs.first_bad.Statement.{statement}
 use Rattle.pass_resume.proofs.first_bad.Tie as tie
 

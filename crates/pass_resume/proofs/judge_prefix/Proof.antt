@@ -14,7 +14,8 @@ use Rattle.refusal.specs.declared.Refusal.the-variants.{At}
 use Rattle.refusal.specs.Judge.{judge}
 use Rattle.refusal.proofs.Judge.{judge-none, judge-yes, judge-no}
 use Rattle.code.specs.Code.{codeLength}
-use Rattle.pass_resume.specs.Resume.{firstBad, prefixRefusals}
+use Rattle.pass_resume.specs.Resume.{firstBad}
+use Rattle.pass_resume.specs.Contracts.{prefixRefusals}
 use Rattle.pass_resume.proofs.judge_prefix.Statement.{statement}
 use Rattle.pass_resume.proofs.judge_prefix.Tie as tie
 

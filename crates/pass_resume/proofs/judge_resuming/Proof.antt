@@ -7,7 +7,7 @@ use denote.Ref.{now}
 use Rattle.refusal.specs.declared.Refusal.{Refusal}
 use Rattle.refusal.proofs.Judge.{append-fine, append-refused}
 use Rattle.channel.specs.Channel.{channelRefusals}
-use Rattle.pass_resume.specs.Resume.{prefixRefusals}
+use Rattle.pass_resume.specs.Contracts.{prefixRefusals}
 use Rattle.pass_resume.proofs.judge_resuming.Statement.{statement}
 use Rattle.pass_resume.proofs.judge_resuming.Tie as tie
 

@@ -8,7 +8,8 @@ use Rattle.refusal.proofs.Judge.{refused-by}
 use Rattle.pass_tree.specs.declared.Work.{Work}
 use Rattle.pass_tree.specs.Node.{Out}
 use Rattle.pass_resume.specs.declared.Resumed.the-variants.{Done, Refused}
-use Rattle.pass_resume.specs.Resume.{resumePass, resumedBy}
+use Rattle.pass_resume.specs.Resume.{resumedBy}
+use Rattle.pass_resume.specs.Contracts.{resumePass}
 use Rattle.pass_resume.specs.Claims.{WellFormed}
 use Rattle.pass_resume.proofs.WellFormed.{fine-well-formed, well-formed-answer}
 use Rattle.pass_resume.proofs.resume_by.Statement.{statement}

@@ -5,8 +5,8 @@ use borrow.Author.Needs.{needs}
 use denote.Ref.{now}
 use lib.ListN.{length, set, length-set}
 use Rattle.receive_lines.specs.Text.{text}
-use Rattle.receive_lines.specs.Line.{decimal, spaced}
-use Rattle.receive_lines.specs.Contracts.{PutPost}
+use Rattle.receive_lines.specs.Line.{decimal}
+use Rattle.receive_lines.specs.Contracts.{spaced, PutPost}
 use Rattle.receive_lines.proofs.Decimal.{length-decimal}
 use Rattle.receive_lines.proofs.Putting.{put-more, put-byte, length-put}
 use Rattle.receive_lines.proofs.put_number.Statement.{statement}
