@@ -21,10 +21,10 @@ use report::Row;
 use task::Task;
 use timing::Times;
 
-use crate::reference::sizes::DEEPEST;
+use crate::reference::sizes::LARGEST_N;
 
 /// The code lengths, as n.
-const DEPTHS: [usize; 4] = [5, 7, 10, DEEPEST];
+const DEPTHS: [usize; 4] = [5, 7, 10, LARGEST_N];
 
 /// Over how many processes the rounds of a row are spread.
 const PROCESSES: usize = 5;

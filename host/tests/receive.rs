@@ -13,7 +13,7 @@ use std::time::Duration;
 use host::reference::description::record;
 use host::reference::receive::receive;
 use host::reference::sizes::{
-    DEEPEST, LAYERS, LONGEST, LONGEST_BYTES, LONGEST_RECORD, MOST_STEPS, MOST_TRIALS,
+    LARGEST_N, LAYERS, LONGEST, LONGEST_BYTES, LONGEST_RECORD, MOST_STEPS, MOST_TRIALS,
 };
 use host::testing::files::{repository, text};
 use host::testing::paper::{D, D_WITH_START, V};
@@ -160,7 +160,7 @@ fn random_streams() {
 /// Among their lines are all that a frame may get but for 23.
 #[test]
 fn random_streams_of_long_codes() {
-    let printed = check_random(72, 40, 11..=DEEPEST);
+    let printed = check_random(72, 40, 11..=LARGEST_N);
     let least = outcomes(&printed).into_iter().min();
     assert!(least >= Some(5), "{:?}", outcomes(&printed));
     for line in ["no 12", "no 13", "no 14", "no 24"] {
@@ -172,7 +172,7 @@ fn random_streams_of_long_codes() {
 #[test]
 fn limits_of_the_longest_code() {
     let mut random = Random::new(73);
-    let d = record(DEEPEST, 1, 1, &[true; LONGEST]);
+    let d = record(LARGEST_N, 1, 1, &[true; LONGEST]);
     let most = MOST_TRIALS as u16;
     let frames =
         [0, 1, most, most + 1, u16::MAX].map(|limit| streams::clear(&mut random, &d, limit));

@@ -7,7 +7,7 @@ use host::reference::number::resume_number;
 use host::reference::pass::skipped_steps;
 use host::reference::refusal::refusal_number;
 use host::reference::resume::resume;
-use host::reference::sizes::{DEEPEST, LAYERS, LONGEST};
+use host::reference::sizes::{LARGEST_N, LAYERS, LONGEST};
 use host::reference::transform::transform;
 use host::testing::guard::lend_reference;
 use host::testing::lent::resume as run;
@@ -113,7 +113,7 @@ fn check_prefix(channels: &[Vec<u8>], prefix: &[u8], refusal: usize) {
 
 #[test]
 fn any_prefix_length_of_large_codes() {
-    for_descriptions(3, 8..=DEEPEST, 150, |random, d, code| {
+    for_descriptions(3, 8..=LARGEST_N, 150, |random, d, code| {
         let size = code.size();
         let half = size / 2;
         let edges = [0, 1, half - 1, half, half + 1, size - 1, size];

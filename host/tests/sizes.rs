@@ -3,7 +3,7 @@
 
 use host::reference::description::{record, LONGEST_DESCRIPTION};
 use host::reference::sizes::{
-    DEEPEST, HEARING_SIZE, LAYERS, LONGEST, LONGEST_BYTES, MOST_STEPS, MOST_TRIALS,
+    LARGEST_N, HEARING_SIZE, LAYERS, LONGEST, LONGEST_BYTES, MOST_STEPS, MOST_TRIALS,
 };
 use host::testing::files::{below, text};
 
@@ -13,7 +13,7 @@ fn spellings() -> Vec<String> {
     let least = LAYERS.start();
     let sizes = [
         LONGEST_BYTES,
-        record(DEEPEST, 1, 1, &[true; LONGEST]).len(),
+        record(LARGEST_N, 1, 1, &[true; LONGEST]).len(),
         LONGEST_DESCRIPTION,
         LONGEST - 1,
         LONGEST,
@@ -24,13 +24,13 @@ fn spellings() -> Vec<String> {
     ];
     let mut spellings: Vec<String> = sizes.iter().map(usize::to_string).collect();
     spellings.extend([
-        format!("{least} {DEEPEST}"),
-        format!("{least}, {DEEPEST}"),
-        format!("≤ {DEEPEST}"),
-        format!("..={DEEPEST}"),
-        format!("{DEEPEST} * 2 ^"),
-        format!("2 ^ {DEEPEST}"),
-        format!("2 ^ {}", DEEPEST - 1),
+        format!("{least} {LARGEST_N}"),
+        format!("{least}, {LARGEST_N}"),
+        format!("≤ {LARGEST_N}"),
+        format!("..={LARGEST_N}"),
+        format!("{LARGEST_N} * 2 ^"),
+        format!("2 ^ {LARGEST_N}"),
+        format!("2 ^ {}", LARGEST_N - 1),
     ]);
     spellings
 }
@@ -135,24 +135,24 @@ fn the_largest_n_is_the_same_everywhere() {
     let said = [
         (
             "crates/arrays/src/lib.rt",
-            format!("DEEPEST: u32 = {DEEPEST};"),
+            format!("LARGEST_N: u32 = {LARGEST_N};"),
         ),
         (
             "crates/arrays/specs/Sizes.antt",
-            format!("deepest = {DEEPEST}\n"),
+            format!("largestN = {LARGEST_N}\n"),
         ),
-        ("host/plain/src/lib.rs", format!("DEEPEST: u8 = {DEEPEST};")),
+        ("host/plain/src/lib.rs", format!("LARGEST_N: u8 = {LARGEST_N};")),
         (
             "host/bench/plain/code.h",
-            format!("#define DEEPEST {DEEPEST}\n"),
+            format!("#define LARGEST_N {LARGEST_N}\n"),
         ),
-        ("include/polar.h", format!("n outside {least}..{DEEPEST}\n")),
+        ("include/polar.h", format!("n outside {least}..{LARGEST_N}\n")),
         ("include/polar.h", format!("at most {with_comma};")),
         (
             "include/polar.h",
             format!("at most {LONGEST_DESCRIPTION} bytes"),
         ),
-        ("README.md", format!("n lies outside {least}..{DEEPEST} ")),
+        ("README.md", format!("n lies outside {least}..{LARGEST_N} ")),
     ];
     for (path, words) in said {
         assert!(text(path).contains(&words), "{path} does not say `{words}`");
@@ -168,17 +168,17 @@ fn what_is_spelt_is_found() {
         format!("length mask ≤ {LONGEST_BYTES}"),
         format!("[0; {marked}]"),
         format!("at most {} bits", with_mark(LONGEST, ',')),
-        format!("inside n {} {DEEPEST}", LAYERS.start()),
-        format!("n ≤ {DEEPEST}"),
+        format!("inside n {} {LARGEST_N}", LAYERS.start()),
+        format!("n ≤ {LARGEST_N}"),
     ] {
         assert!(found(proof, &line), "{line}");
         assert!(!found("crates/arrays/src/lib.rt", &line), "{line}");
     }
     for line in [
-        format!("≤ {}2", DEEPEST),
+        format!("≤ {}2", LARGEST_N),
         format!("{LONGEST}.0"),
         format!("x{LONGEST}"),
-        format!("1{} {DEEPEST}", LAYERS.start()),
+        format!("1{} {LARGEST_N}", LAYERS.start()),
     ] {
         assert!(!found(proof, &line), "{line}");
     }

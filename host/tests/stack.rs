@@ -3,7 +3,7 @@
 use host::reference::description::{describe, record, with_start};
 use host::reference::packing::packed_length;
 use host::reference::sets::{limits, MOST_FLIPS};
-use host::reference::sizes::{DEEPEST, HEARING_SIZE, LONGEST, LONGEST_BYTES};
+use host::reference::sizes::{LARGEST_N, HEARING_SIZE, LONGEST, LONGEST_BYTES};
 use host::testing::files::text;
 use host::testing::library;
 use host::testing::random::Random;
@@ -33,7 +33,7 @@ fn keeps_to(limit: usize, name: &str, mut call: impl FnMut() + Send) {
 fn descriptions() -> Vec<Vec<u8>> {
     let masks = [17, LONGEST / 2, LONGEST].map(|ones| samples::useful_mask(LONGEST, ones));
     let of = |mask: &Vec<bool>| {
-        let d = record(DEEPEST, 16, 0x8005, mask);
+        let d = record(LARGEST_N, 16, 0x8005, mask);
         [with_start(&d, 0xFFFF), d]
     };
     masks.iter().flat_map(of).collect()

@@ -2,5 +2,5 @@
 use Prim.Native.Nat.{ℕ}
 
 -- the largest n
-abbrev pub deepest : ℕ
-deepest = 12
+abbrev pub largestN : ℕ
+largestN = 12

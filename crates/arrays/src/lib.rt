@@ -6,10 +6,10 @@ ghost use Rattle.laws.specs.Contracts.{splice, segment};
 ghost use Rattle.arrays.specs.Padded.{allZero};
 
 // The largest n: a code has at most 2^n bits.
-pub const DEEPEST: u32 = 12;
+pub const LARGEST_N: u32 = 12;
 
 // As many bits as the longest code has.
-pub const SIZE: usize = 1 << DEEPEST;
+pub const SIZE: usize = 1 << LARGEST_N;
 
 // As many bytes as they take, packed.
 pub const BYTES: usize = SIZE / 8;

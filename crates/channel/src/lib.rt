@@ -9,7 +9,7 @@ ghost use lib.Dec.{ltb, eqb};
 ghost use lib.IntN.{natAbs};
 ghost use lib.ListN.{length};
 ghost use Rattle.refusal.specs.Judge.{judge};
-ghost use Rattle.arrays.specs.Sizes.{deepest};
+ghost use Rattle.arrays.specs.Sizes.{largestN};
 ghost use Rattle.channel.specs.Channel.{channelValue, firstOutside, channelRefusals};
 
 // A channel byte in two's complement.
@@ -67,7 +67,7 @@ fn first_outside(channel: &[u8]) -> usize
 
 // Judges a channel: refusals 12 and 13.
 pub fn judge_channel(code: Code, channel: &[u8]) -> Judgement
-    requires { ⌜ code .n ≤ deepest ⌝ }
+    requires { ⌜ code .n ≤ largestN ⌝ }
     ensures { λ j. ⌜ j ≡ judge (channelRefusals code (now (channel .entry))) ⌝ }
 {
     if channel.len() != 1usize << code.n {

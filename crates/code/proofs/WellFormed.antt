@@ -15,7 +15,7 @@ use Rattle.refusal.specs.declared.Refusal.{Refusal}
 use Rattle.refusal.specs.Judge.{judge}
 use Rattle.refusal.proofs.Judge.{judge-none, judge-no, judge-past, append-fine, append-past, accepts-exactly}
 use Rattle.refusal.proofs.Tests.{differs-past, outside-past, differs-no, outside-no}
-use Rattle.arrays.specs.Sizes.{deepest}
+use Rattle.arrays.specs.Sizes.{largestN}
 use Rattle.bits.specs.Bit.{bit}
 use Rattle.bits.specs.Mask.{onesIn}
 use Rattle.bits.proofs.Bitwise.{bit-lt}
@@ -61,7 +61,7 @@ module _ (d : List ℕ) where
       judge-no _ _ _ (le-ltb (length d) (maskAt (word d 2)) (w .header))
       ∙ judge-no _ _ _ (differs-no (word d 0) (length d) (w .length-field))
       ∙ judge-no _ _ _ (ap not (w .kind-field))
-      ∙ judge-no _ _ _ (outside-no n 3 deepest (w .n-least) (w .n-most))
+      ∙ judge-no _ _ _ (outside-no n 3 largestN (w .n-least) (w .n-most))
       ∙ judge-no _ _ _ (differs-no (length d) (maskAt (word d 2) + 2 ^ n / 8) (w .size))
       ∙ judge-none
 
@@ -72,7 +72,7 @@ module _ (d : List ℕ) where
       let s3 = judge-past _ _ _ (s2 .1) in
       let s4 = judge-past _ _ _ (s3 .1) in
       let s5 = judge-past _ _ _ (s4 .1) in
-      let n-in = outside-past n 3 deepest (s4 .0) in
+      let n-in = outside-past n 3 largestN (s4 .0) in
       record {
         header = ltb-false (length d) (maskAt (word d 2)) (s1 .0);
         length-field = differs-past (word d 0) (length d) (s2 .0);

@@ -8,7 +8,7 @@ use lib.ListN.{length, getD, drop}
 use Rattle.refusal.specs.declared.Refusal.{Refusal}
 use Rattle.refusal.specs.declared.Refusal.the-variants.{Alone}
 use Rattle.refusal.specs.Judge.{differs, outside, judge, refusedOr}
-use Rattle.arrays.specs.Sizes.{deepest}
+use Rattle.arrays.specs.Sizes.{largestN}
 use Rattle.bits.specs.Bit.{bit}
 use Rattle.bits.specs.Mask.{onesIn}
 use Rattle.code.specs.declared.Code.{Code}
@@ -23,7 +23,7 @@ pub record Laid (d : List ℕ) : Type 0 where
   pub length-field : word d 0 ≡ length d
   pub kind-field : isDescription (word d 2) ≡ true
   pub n-least : 3 ≤ getD d 4 0
-  pub n-most : getD d 4 0 ≤ deepest
+  pub n-most : getD d 4 0 ≤ largestN
   pub size : length d ≡ maskAt (word d 2) + 2 ^ getD d 4 0 / 8
 
 -- refusals 1 to 7, 25 and 8 in turn do not apply. `well-formed-exactly` of proofs/WellFormed.antt: a description is accepted exactly if it is
@@ -52,7 +52,7 @@ pub record WellFormedUnder (d : List ℕ) (W : Code → Type 0) : Type 0 where
 -- a code under a mask
 pub record Coded (mask : List ℕ) (c : Code) : Type 0 where
   pub n-least : 3 ≤ c .n
-  pub n-most : c .n ≤ deepest
+  pub n-most : c .n ≤ largestN
   pub r-least : 1 ≤ c .r
   pub r-most : c .r ≤ 16
   pub start-fits : c .start < 2 ^ c .r
@@ -78,7 +78,7 @@ refusalsAt kind at own d =
     (ltb (length d) at, Alone 1)
     ∷ (differs (word d 0) (length d), Alone 2)
     ∷ (differs (word d 2) kind, Alone 3)
-    ∷ (outside n 3 deepest, Alone 4)
+    ∷ (outside n 3 largestN, Alone 4)
     ∷ (differs (length d) (at + 2 ^ n / 8), Alone 5)
     ∷ (outside r 1 16, Alone 6)
     ∷ (badPolynomial (word d 6) r, Alone 7)

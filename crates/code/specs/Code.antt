@@ -1,7 +1,7 @@
 -- Document 01, "Code description": the numbers of a code. Its n, r, polynomial, start and k are fields of `Code`.
 use mathlib.Core.List.{List}
 use Prim.Native.Nat.{ℕ, _+_, _/_, _^_}
-use Rattle.arrays.specs.Sizes.{deepest}
+use Rattle.arrays.specs.Sizes.{largestN}
 use Rattle.bits.specs.Bit.{bitsOf}
 use Rattle.code.specs.declared.Code.{Code}
 use Rattle.code.specs.Description.{maskAt}
@@ -24,4 +24,4 @@ startBits c = bitsOf (c .r) (c .start)
 
 -- the bytes of the longest description: the fields of kind 4, and N/8 of mask
 abbrev pub longestDescription : ℕ
-longestDescription = maskAt 4 + 2 ^ deepest / 8
+longestDescription = maskAt 4 + 2 ^ largestN / 8

@@ -8,7 +8,7 @@ use lib.ListN.{length, getD, drop}
 use Rattle.refusal.specs.declared.Refusal.{Refusal}
 use Rattle.refusal.specs.declared.Refusal.the-variants.{Alone}
 use Rattle.refusal.specs.Judge.{differs, outside, judge, refusedOr}
-use Rattle.arrays.specs.Sizes.{deepest}
+use Rattle.arrays.specs.Sizes.{largestN}
 use Rattle.bits.specs.Bit.{bit}
 use Rattle.bits.specs.Mask.{onesIn}
 use Rattle.code.specs.declared.Code.{Code}
@@ -73,9 +73,9 @@ codeOf d = record { n = getD d 4 0; r = getD d 5 0; polynomial = word d 6; start
 unfoldable pub describeUpTo : ℕ → List ℕ → Description
 describeUpTo largest d = refusedOr (judge (refusalsUpTo largest d)) Refused (Accepted (codeOf d))
 
--- the answer, with `deepest` as the largest n
+-- the answer, with `largestN` as the largest n
 abbrev pub describe : List ℕ → Description
-describe d = describeUpTo deepest d
+describe d = describeUpTo largestN d
 
 -- Operations that take a description apply its refusals first: `refuse` is their answer to a refusal, `go` their answer under a code.
 abbrev pub onDescription : {X : Type 0} → Description → (Refusal → X) → (Code → X) → X

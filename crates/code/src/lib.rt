@@ -1,6 +1,6 @@
 // Code descriptions: records of kinds 1 and 4.
 use arrays::BYTES;
-use arrays::DEEPEST;
+use arrays::LARGEST_N;
 use refusal::Judgement;
 use refusal::Refusal;
 ghost use mathlib.Core.Path.{_≡_};
@@ -148,7 +148,7 @@ fn judge_layout(d: &[u8]) -> Judgement
         return Judgement::Refused(Refusal::Alone(3));
     }
     let n = d[4] as u32;
-    if refusal::is_outside(n as usize, 3, DEEPEST as usize) {
+    if refusal::is_outside(n as usize, 3, LARGEST_N as usize) {
         return Judgement::Refused(Refusal::Alone(4));
     }
     if d.len() != mask_at(kind) + (1usize << n) / 8 {

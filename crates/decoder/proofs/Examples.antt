@@ -20,10 +20,10 @@ use Rattle.placing.specs.Place.{taken}
 use Rattle.values.specs.Values.{f, g, leftValues, rightValues}
 use Rattle.channel.specs.Channel.{channelValue, channelValues}
 use Rattle.pass_tree.specs.Node.{node}
-use Rattle.flip_order.specs.Order.{magnitude, information}
-use Rattle.flip_trial.specs.declared.Restart.the-variants.{Root, After}
+use Rattle.flip_order.specs.Order.{magnitudeAt, information}
+use Rattle.flip_trial.specs.declared.Restart.the-variants.{Root, AfterFlip}
 use Rattle.flip_trial.specs.Trial.{firstTrial, laterTrial}
-use Rattle.flip_run.specs.declared.Decoded.the-variants.{Accepted, Failed, Refused}
+use Rattle.flip_run.specs.declared.Decoded.the-variants.{Accepted, Refused16, Refused}
 use Rattle.flip_run.specs.Trials.{flipOrder, run}
 use Rattle.decoder.specs.Candidate.{metricOf, doubtful, extensions, insertEach}
 use Rattle.decoder.specs.Tried.{tried, flipSets}
@@ -75,7 +75,7 @@ setsOn channel w T = flipSets w T (maskOf wideD) wideCode (channelValues channel
 -- the bits of the trial that flips `is`, under wideD, and its leaf values; of trial 1 if `is` is empty
 abbrev pub bitsOn : List ℕ → List ℕ → List ℕ
 bitsOn channel [] = firstTrial (maskOf wideD) wideCode (channelValues channel) .bits
-bitsOn channel (i ∷ is) = laterTrial After (maskOf wideD) wideCode (channelValues channel) (i ∷ is) .bits
+bitsOn channel (i ∷ is) = laterTrial AfterFlip (maskOf wideD) wideCode (channelValues channel) (i ∷ is) .bits
 
 abbrev pub leavesOn : List ℕ → List ℕ → List ℤ
 leavesOn channel is = laterTrial Root (maskOf wideD) wideCode (channelValues channel) is .leaves
@@ -100,7 +100,7 @@ pub record SetExamples (byte : ℕ) : Type 0 where
       × (decodedFull wideD vector 5 (byte ∷ []) ≡ (Accepted 2 48, 0x00 ∷ []))
       × (decodedHalf wideD vector 5 (byte ∷ []) ≡ (Accepted 2 36, 0x00 ∷ []))
       × (decodedRestarted wideD vector 5 (byte ∷ []) ≡ (Accepted 2 32, 0x00 ∷ []))
-      × (decodedFull wideD vector 1 (byte ∷ []) ≡ (Failed 1 24, byte ∷ []))
+      × (decodedFull wideD vector 1 (byte ∷ []) ≡ (Refused16 1 24, byte ∷ []))
       × (decodedFull wideD vector 6 (byte ∷ []) ≡ (Refused (Alone 14), byte ∷ []))
       × (decodedRestarted wideD vector 2 (byte ∷ []) ≡ (Accepted 2 32, 0x00 ∷ []))
   -- w = 1: the sixes reorder single flips. On V the magnitudes at 3, 5, 6 and 7 are 3, 2, 3 and 11, so the old decoder flips 5 first. The
@@ -124,7 +124,7 @@ pub record SetExamples (byte : ℕ) : Type 0 where
       × (bitsOn pairV (3 ∷ 5 ∷ []) ≡ 0 ∷ 0 ∷ 0 ∷ 1 ∷ 0 ∷ 0 ∷ 1 ∷ 1 ∷ [])
       × (setsFull wideD pairV 2 4 (byte ∷ []) ≡ (Accepted 3 72, 0x80 ∷ []))
       × (setsRestarted wideD pairV 2 4 (byte ∷ []) ≡ (Accepted 3 46, 0x80 ∷ []))
-      × (setsRestarted wideD pairV 1 5 (byte ∷ []) ≡ (Failed 5 50, byte ∷ []))
+      × (setsRestarted wideD pairV 1 5 (byte ∷ []) ≡ (Refused16 5 50, byte ∷ []))
   -- Of equal metrics, 1 + 0 + 18 and 7 + 12, [3, 6] comes before [5]: lists are compared from their first entry. It is accepted on trial 3.
   pub by-first-entry :
       (metricOn equalV (3 ∷ []) (3 ∷ 6 ∷ []) ≡ 19)
@@ -154,7 +154,7 @@ pub record SetExamples (byte : ℕ) : Type 0 where
       × (setsRestarted wideD threeV 3 5 (byte ∷ []) ≡ (Accepted 5 65, 0x80 ∷ []))
   -- A magnitude of 20 has its six: [5] has 20 + 12, and comes after [3, 5] with 27. With 20 + 6 it would come before it.
   pub at-20 :
-      (magnitude (leavesOn twentyV []) 5 ≡ 20)
+      (magnitudeAt (leavesOn twentyV []) 5 ≡ 20)
       × (metricOn twentyV [] (5 ∷ []) ≡ 32)
       × (metricOn twentyV (3 ∷ []) (3 ∷ 5 ∷ []) ≡ 27)
       × (setsOn twentyV 2 4 ≡ (3 ∷ []) ∷ (3 ∷ 5 ∷ []) ∷ (5 ∷ []) ∷ [])
@@ -162,12 +162,12 @@ pub record SetExamples (byte : ℕ) : Type 0 where
       × (setsRestarted wideD twentyV 2 4 (byte ∷ []) ≡ (Accepted 3 46, 0x00 ∷ []))
   -- All ten sets are used up before T: 16 carries the 11 trials made. A magnitude of 21 has no six: [7] has 21 + 18.
   pub used-up :
-      (magnitude (leavesOn usedUpV []) 7 ≡ 21)
+      (magnitudeAt (leavesOn usedUpV []) 7 ≡ 21)
       × (metricOn usedUpV [] (7 ∷ []) ≡ 39)
       × (setsOn usedUpV 2 512 ≡ ten)
-      × (setsRestarted wideD usedUpV 2 12 (byte ∷ []) ≡ (Failed 11 106, byte ∷ []))
-      × (setsFull wideD usedUpV 2 512 (byte ∷ []) ≡ (Failed 11 264, byte ∷ []))
-      × (setsRestarted wideD usedUpV 2 512 (byte ∷ []) ≡ (Failed 11 106, byte ∷ []))
+      × (setsRestarted wideD usedUpV 2 12 (byte ∷ []) ≡ (Refused16 11 106, byte ∷ []))
+      × (setsFull wideD usedUpV 2 512 (byte ∷ []) ≡ (Refused16 11 264, byte ∷ []))
+      × (setsRestarted wideD usedUpV 2 512 (byte ∷ []) ≡ (Refused16 11 106, byte ∷ []))
   -- 26 comes after 13 and before 14. T is at most K + 1 = 5 for w = 1, and at most 512 above.
   pub refusals :
       (setsRestarted wideD pairV 0 0 (byte ∷ []) ≡ (Refused (Alone 26), byte ∷ []))

@@ -8,7 +8,7 @@ use lib.IntN.{ℤ}
 use lib.ListN.{take}
 use Rattle.laws.specs.Insert.{insertBy, earlier}
 use Rattle.bits.specs.Mask.{maskBit}
-use Rattle.flip_order.specs.Order.{magnitude}
+use Rattle.flip_order.specs.Order.{magnitudeAt}
 
 -- one past the largest index of a set, 0 if it is empty
 abbrev pub pastLargest : List ℕ → ℕ
@@ -19,12 +19,12 @@ pastLargest (i ∷ j ∷ is) = pastLargest (j ∷ is)
 -- the sum of a set's leaf magnitudes
 abbrev pub magnitudes : List ℤ → List ℕ → ℕ
 magnitudes leaves [] = 0
-magnitudes leaves (i ∷ is) = magnitude leaves i + magnitudes leaves is
+magnitudes leaves (i ∷ is) = magnitudeAt leaves i + magnitudes leaves is
 
 -- how many information indices below n have a magnitude of at most 20
 unfoldable pub doubtful : List ℕ → List ℤ → ℕ → ℕ
 doubtful mask leaves zero = 0
-doubtful mask leaves (suc n) = doubtful mask leaves n + cond (eqb (maskBit mask n) 1 && leb (magnitude leaves n) 20) 1 0
+doubtful mask leaves (suc n) = doubtful mask leaves n + cond (eqb (maskBit mask n) 1 && leb (magnitudeAt leaves n) 20) 1 0
 
 -- a set's metric: the sum of its leaf magnitudes, and 6 for each information index up to and including its largest whose magnitude is at
 -- most 20
@@ -51,10 +51,10 @@ extensions mask leaves is (suc n) =
     ++ cond (eqb (maskBit mask n) 1 && leb (pastLargest is) n) (candidate mask leaves (is ++ (n ∷ [])) ∷ []) []
 
 -- whether x comes before y: order is metric, then the list of indices
-abbrev pub before : Candidate → Candidate → Bool
-before x y = ltb (x .metric) (y .metric) || (eqb (x .metric) (y .metric) && earlier (x .flips) (y .flips))
+abbrev pub precedes : Candidate → Candidate → Bool
+precedes x y = ltb (x .metric) (y .metric) || (eqb (x .metric) (y .metric) && earlier (x .flips) (y .flips))
 
 -- each of some candidates in its place among untried sets that are in order: after every insertion only the first m sets are kept
 unfoldable pub insertEach : ℕ → List Candidate → List Candidate → List Candidate
 insertEach m [] untried = untried
-insertEach m (x ∷ xs) untried = insertEach m xs (take m (insertBy before x untried))
+insertEach m (x ∷ xs) untried = insertEach m xs (take m (insertBy precedes x untried))

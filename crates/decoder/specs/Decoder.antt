@@ -19,7 +19,7 @@ use Rattle.code.specs.Description.{maskOf, describe, onDescription}
 use Rattle.channel.specs.Channel.{channelValues, channelRefusals}
 use Rattle.pass_tree.specs.Node.{Out}
 use Rattle.flip_trial.specs.declared.Restart.{Restart}
-use Rattle.flip_trial.specs.declared.Restart.the-variants.{Root, Half, After}
+use Rattle.flip_trial.specs.declared.Restart.the-variants.{Root, Half, AfterFlip}
 use Rattle.flip_trial.specs.Trial.{firstTrial, laterTrial, trialPasses}
 use Rattle.flip_run.specs.declared.Decoded.{Decoded}
 use Rattle.flip_run.specs.declared.Decoded.the-variants.{Refused}
@@ -82,7 +82,7 @@ decodedHalf d channel limit output = decodedAs (single limit) Half d channel out
 
 -- restarted decoding resumes at the first information index after the lowest flipped one, or at N if there is none
 abbrev pub decodedRestarted : List ℕ → List ℕ → ℕ → List ℕ → Decoded × List ℕ
-decodedRestarted d channel limit output = decodedAs (single limit) After d channel output
+decodedRestarted d channel limit output = decodedAs (single limit) AfterFlip d channel output
 
 -- full decoding by sets
 abbrev pub setsFull : List ℕ → List ℕ → ℕ → ℕ → List ℕ → Decoded × List ℕ
@@ -94,4 +94,4 @@ setsHalf d channel w limit output = decodedAs (sets w limit) Half d channel outp
 
 -- restarted decoding by sets
 abbrev pub setsRestarted : List ℕ → List ℕ → ℕ → ℕ → List ℕ → Decoded × List ℕ
-setsRestarted d channel w limit output = decodedAs (sets w limit) After d channel output
+setsRestarted d channel w limit output = decodedAs (sets w limit) AfterFlip d channel output

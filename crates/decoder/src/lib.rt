@@ -6,7 +6,7 @@ use refusal::Refusal;
 ghost use mathlib.Core.Path.{_≡_};
 ghost use Prim.Native.Nat.{_≤_};
 ghost use Rattle.refusal.specs.Judge.{judge};
-ghost use Rattle.arrays.specs.Sizes.{deepest};
+ghost use Rattle.arrays.specs.Sizes.{largestN};
 ghost use Rattle.decoder.specs.Contracts.{outputRefusals, JudgesRest, JudgesCall};
 
 // How to search for the set of a trial that passes.
@@ -41,7 +41,7 @@ fn judge_rest(own: Judgement, code: Code, output: &[u8]) -> Judgement
 
 // Refusals 12 and 13, those of a decoder, which are `own`, and then 15.
 pub fn judge_call(own: Judgement, code: Code, channel: &[u8], output: &[u8]) -> Judgement
-    requires { ⌜ code .n ≤ deepest ⌝ }
+    requires { ⌜ code .n ≤ largestN ⌝ }
     ensures { λ j. ⌜ JudgesCall own code (now (channel .entry)) (now (output .entry)) j ⌝ }
 {
     match channel::judge_channel(code, channel) {

@@ -20,7 +20,7 @@ use Rattle.code.specs.Claims.{Coded}
 use Rattle.code.proofs.Facts.{described}
 use Rattle.channel.specs.Channel.{channelValues, channelRefusals}
 use Rattle.pass_tree.proofs.Steps.{skipped-none}
-use Rattle.flip_trial.specs.declared.Restart.the-variants.{Root, Half, After}
+use Rattle.flip_trial.specs.declared.Restart.the-variants.{Root, Half, AfterFlip}
 use Rattle.flip_trial.specs.Trial.{lowest}
 use Rattle.decoder.specs.Decoder.{Decoder, ownRefusals, refusalsOf, WellFormed, flipsOf, decodedAs}
 use Rattle.decoder.specs.Claims.{Allowed}
@@ -74,7 +74,7 @@ module _ (p : Decoder) (d : List ℕ) (c : Code) (channel : List ℕ) (size : �
             ⊎-elim inl (λ a. inr (a .0, ⊎-elim (λ e. inl (a .0 ∙ e)) inr (flips-all mask c v coded p allowed), a .1)) (x .answers);
         full-steps = all;
         exceeds = λ r. omega (arith, all, x .counted r, skipped-by r mask c is);
-        restarted-least = omega (arith, half-saves-less mask c above is, x .counted Half, x .counted After);
+        restarted-least = omega (arith, half-saves-less mask c above is, x .counted Half, x .counted AfterFlip);
         full-most = omega (arith, all, x .counted Half);
       }
 

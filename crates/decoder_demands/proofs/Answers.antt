@@ -10,7 +10,7 @@ use Rattle.code.specs.declared.Code.{Code}
 use Rattle.pass_tree.specs.Node.{Out}
 use Rattle.flip_trial.specs.Trial.{messageIn, trialPasses}
 use Rattle.flip_run.specs.declared.Decoded.{Decoded}
-use Rattle.flip_run.specs.declared.Decoded.the-variants.{Accepted, Failed}
+use Rattle.flip_run.specs.declared.Decoded.the-variants.{Accepted, Refused16}
 use Rattle.flip_run.specs.Trials.{Verdict, passed, failed, run, answerOf}
 use Rattle.decoder_demands.specs.Claims.{PassedAt, AllFailed, Ends}
 use Rattle.decoder_demands.proofs.Run.{run-ends, run-more}
@@ -22,18 +22,18 @@ module _ (mask : List ℕ) (c : Code) (output : List ℕ) where
       let a : Accepted t s ≡ Accepted trial steps = ap (λ (z : Decoded × List ℕ). z .0) q in
       (bits, (cc), sym (ap (λ (z : Decoded × List ℕ). z .1) q))
   accepted-by (failed t s) trial steps bytes q =
-      let a : Failed t s ≡ Accepted trial steps = ap (λ (z : Decoded × List ℕ). z .0) q in
+      let a : Refused16 t s ≡ Accepted trial steps = ap (λ (z : Decoded × List ℕ). z .0) q in
       let z : _≡_ {A = ℕ} 0 1 = cc in
       absurd (omega arith)
 
   -- and by refusal 16
-  failed-by : (x : Verdict) (made steps : ℕ) (bytes : List ℕ) → answerOf mask c output x ≡ (Failed made steps, bytes) → (x ≡ failed made steps) × (bytes ≡ output)
+  failed-by : (x : Verdict) (made steps : ℕ) (bytes : List ℕ) → answerOf mask c output x ≡ (Refused16 made steps, bytes) → (x ≡ failed made steps) × (bytes ≡ output)
   failed-by (passed t s bits) made steps bytes q =
-      let a : Accepted t s ≡ Failed made steps = ap (λ (z : Decoded × List ℕ). z .0) q in
+      let a : Accepted t s ≡ Refused16 made steps = ap (λ (z : Decoded × List ℕ). z .0) q in
       let z : _≡_ {A = ℕ} 0 1 = cc in
       absurd (omega arith)
   failed-by (failed t s) made steps bytes q =
-      let a : Failed t s ≡ Failed made steps = ap (λ (z : Decoded × List ℕ). z .0) q in
+      let a : Refused16 t s ≡ Refused16 made steps = ap (λ (z : Decoded × List ℕ). z .0) q in
       ((cc), sym (ap (λ (z : Decoded × List ℕ). z .1) q))
 
   abbrev ok : List ℕ → Bool
@@ -46,7 +46,7 @@ module _ (mask : List ℕ) (c : Code) (output : List ℕ) where
       (x .0, subst (Ends ok os) (x .1) (run-ends ok os), x .2)
 
   -- a run that accepts none
-  pub run-fails : (os : List Out) (made steps : ℕ) (bytes : List ℕ) → answerOf mask c output (run ok 0 0 os) ≡ (Failed made steps, bytes) → AllFailed ok os made steps × (bytes ≡ output)
+  pub run-fails : (os : List Out) (made steps : ℕ) (bytes : List ℕ) → answerOf mask c output (run ok 0 0 os) ≡ (Refused16 made steps, bytes) → AllFailed ok os made steps × (bytes ≡ output)
   run-fails os made steps bytes e =
       let x = failed-by (run ok 0 0 os) made steps bytes e in
       (subst (Ends ok os) (x .0) (run-ends ok os), x .1)

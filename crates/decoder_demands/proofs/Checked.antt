@@ -19,7 +19,7 @@ use Rattle.encoder.specs.Encode.{encoded}
 use Rattle.flip_trial.specs.declared.Restart.{Restart}
 use Rattle.flip_trial.specs.Trial.{firstTrial, lowest, restartAt, laterTrial, messageIn, trialPasses}
 use Rattle.flip_trial.proofs.Bounds.{first-bits, later-bits}
-use Rattle.flip_run.specs.declared.Decoded.the-variants.{Accepted, Failed}
+use Rattle.flip_run.specs.declared.Decoded.the-variants.{Accepted, Refused16}
 use Rattle.decoder.specs.Decoder.{Decoder, flipsOf, trialsOf, decodedAs}
 use Rattle.decoder.proofs.Decoder.{answer-fine, under-code}
 use Rattle.decoder_demands.specs.Checked.{bitsOf, OnlyChecked, AfterAll}
@@ -90,5 +90,5 @@ pub after-all : AfterAll
 after-all p restart d c channel output made steps bytes code e =
     let os : List Out = trialsOf p restart (maskOf d) c (channelValues channel) in
     let x = run-fails (maskOf d) c output os made steps bytes
-    (answer-fine p restart (maskOf d) c channel output (Failed made steps, bytes) refl (sym (under-code p restart d channel output c code) ∙ e) .1) in
+    (answer-fine p restart (maskOf d) c channel output (Refused16 made steps, bytes) refl (sym (under-code p restart d channel output c code) ∙ e) .1) in
     (x .0 .all, λ t l m. sym (ap (trialPasses (maskOf d) c) (from-one os t l)) ∙ x .0 .each t l (omega (arith, x .0 .all)))

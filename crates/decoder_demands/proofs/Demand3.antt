@@ -12,7 +12,7 @@ use Rattle.code.specs.Code.{codeLength}
 use Rattle.code.specs.Description.{maskOf}
 use Rattle.code.proofs.Facts.{described}
 use Rattle.channel.specs.Channel.{channelValues}
-use Rattle.flip_trial.specs.declared.Restart.the-variants.{Root, After}
+use Rattle.flip_trial.specs.declared.Restart.the-variants.{Root, AfterFlip}
 use Rattle.flip_trial.specs.Trial.{lowest, resumeAt}
 use Rattle.flip_trial.specs.FirstAfter.{FirstAfter}
 use Rattle.flip_trial.proofs.Flips.{lowest-below}
@@ -52,15 +52,15 @@ demand-3 d c channel limit output output′ w w′ =
     record {
       made = x .made;
       full = x .steps Root;
-      restarted = x .steps After;
+      restarted = x .steps AfterFlip;
       most = x .most;
       answers =
-          ⊎-elim (λ a. inl (a .0, a .1 Root output refl, a .1 After output′ size))
-          (λ a. inr (a .0 ∙ length-singles mask c v (described d c (w .described) .coded) limit (on .allowed .0) (on .allowed .1), a .2 Root output refl, a .2 After output′ size)) (x .answers);
+          ⊎-elim (λ a. inl (a .0, a .1 Root output refl, a .1 AfterFlip output′ size))
+          (λ a. inr (a .0 ∙ length-singles mask c v (described d c (w .described) .coded) limit (on .allowed .0) (on .allowed .1), a .2 Root output refl, a .2 AfterFlip output′ size)) (x .answers);
       full-steps = x .full-steps;
       qs = map (resumeAt mask (codeLength c)) is;
       each = omega (arith, x .each, length-map is (resumeAt mask (codeLength c)));
-      exceeds = x .exceeds After;
+      exceeds = x .exceeds AfterFlip;
       q-is = subst (λ (js : List ℕ). Forall₂ (FirstAfter mask (codeLength c)) js (map (resumeAt mask (codeLength c)) is)) (flipped-are mask c v (x .made) limit (x .most))
           (first-after mask c sets (flips-take mask c (x .made - 1) (flipsOf (single limit) mask c v) (flips-each mask c v (single limit))));
     }

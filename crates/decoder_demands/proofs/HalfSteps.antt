@@ -13,7 +13,7 @@ use Rattle.code.specs.Description.{maskOf}
 use Rattle.pass_tree.specs.Skipped.{skipped}
 use Rattle.pass_tree.proofs.Steps.{skipped-none, skipped-half, skipped-grows}
 use Rattle.flip_trial.specs.declared.Restart.{Restart}
-use Rattle.flip_trial.specs.declared.Restart.the-variants.{Root, Half, After}
+use Rattle.flip_trial.specs.declared.Restart.the-variants.{Root, Half, AfterFlip}
 use Rattle.flip_trial.specs.Trial.{resumeAt, restartAt}
 use Rattle.flip_trial.specs.Claims.{halfAt}
 use Rattle.flip_trial.proofs.Restartable.{half-at-most}
@@ -45,7 +45,7 @@ module _ (mask : List ℕ) (c : Code) where
       let past : halfAt N i ≤ resumeAt mask N i = omega (arith, half-at-most N i) in
       omega (arith, half-at-most N i, skipped-grows s past)
 
-  pub half-saves-less : 1 ≤ c .n → (is : List ℕ) → skippedBy Half mask c is + length is ≤ skippedBy After mask c is
+  pub half-saves-less : 1 ≤ c .n → (is : List ℕ) → skippedBy Half mask c is + length is ≤ skippedBy AfterFlip mask c is
   half-saves-less l [] = omega arith
   half-saves-less l (i ∷ is) =
       let n-is : c .n ≡ suc (c .n - 1) = omega arith in
@@ -68,4 +68,4 @@ half-steps p d c channel size x =
 
 pub restarted-fewer : RestartedFewer
 restarted-fewer p d c channel size x above =
-    omega (arith, saved p d c channel size x Half, saved p d c channel size x After, half-saves-less (maskOf d) c above (is p d c channel size x), x .each)
+    omega (arith, saved p d c channel size x Half, saved p d c channel size x AfterFlip, half-saves-less (maskOf d) c above (is p d c channel size x), x .each)

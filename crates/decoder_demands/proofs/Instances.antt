@@ -33,12 +33,12 @@ use Rattle.encoder.specs.declared.Encoded.the-variants.{Done}
 use Rattle.encoder.specs.Encode.{codeword, encodedBy, encoded}
 use Rattle.pass_tree.specs.Skipped.{skipped}
 use Rattle.flip_trial.specs.declared.Restart.{Restart}
-use Rattle.flip_trial.specs.declared.Restart.the-variants.{Root, Half, After}
+use Rattle.flip_trial.specs.declared.Restart.the-variants.{Root, Half, AfterFlip}
 use Rattle.flip_trial.specs.Trial.{firstTrial, lowest, restartAt, laterTrial, trialPasses}
 use Rattle.flip_trial.specs.Flips.{Flips}
 use Rattle.flip_trial.specs.FirstAfter.{FirstAfter}
 use Rattle.flip_run.specs.declared.Decoded.{Decoded}
-use Rattle.flip_run.specs.declared.Decoded.the-variants.{Accepted, Failed, Refused}
+use Rattle.flip_run.specs.declared.Decoded.the-variants.{Accepted, Refused16, Refused}
 use Rattle.flip_run.specs.Trials.{flipOrder}
 use Rattle.decoder.specs.Decoder.{Decoder, single, sets, mostLimit, WellFormed, flipsOf, decodedAs, decodedFull, decodedHalf, decodedRestarted, setsFull, setsHalf, setsRestarted}
 use Rattle.decoder.specs.Claims.{Allowed}
@@ -63,7 +63,7 @@ same-code {c} e = let same : Coding c ≡ Coding wideCode = sym e ∙ describes 
 -- the kind of an answer
 abbrev kindOf : Decoded × List ℕ → ℕ
 kindOf (Accepted trial steps, bytes) = 0
-kindOf (Failed made steps, bytes) = 1
+kindOf (Refused16 made steps, bytes) = 1
 kindOf (Refused r, bytes) = 2
 
 -- an answer is of one kind
@@ -117,8 +117,8 @@ module _ where
   pub single-restarted : (byte : ℕ) → decodedRestarted wideD vector 5 (byte ∷ []) ≡ (Accepted 2 32, 0x00 ∷ [])
   unfolding firstWhere skipped
   single-restarted byte =
-      let steps : single-run .steps After ≡ 32 = omega (arith, single-full, single-run .exceeds After, ap (λ (is : List ℕ). skippedOver 3 (map (restartAt After (maskOf wideD) 8) is)) single-lowest) in
-      single-answers .1 After byte ∙ ap (λ (s : ℕ). (Accepted 2 s, 0x00 ∷ [])) steps
+      let steps : single-run .steps AfterFlip ≡ 32 = omega (arith, single-full, single-run .exceeds AfterFlip, ap (λ (is : List ℕ). skippedOver 3 (map (restartAt AfterFlip (maskOf wideD) 8) is)) single-lowest) in
+      single-answers .1 AfterFlip byte ∙ ap (λ (s : ℕ). (Accepted 2 s, 0x00 ∷ [])) steps
 
   -- it resumes at 4, and saves 4 + 4 + 4 steps
   pub single-half : (byte : ℕ) → decodedHalf wideD vector 5 (byte ∷ []) ≡ (Accepted 2 36, 0x00 ∷ [])
@@ -130,8 +130,8 @@ module _ where
   -- what restarted decoding is computed to take bounds half restart from below, and what full decoding is computed to take from above
   pub half-between : (32 ≤ single-run .steps Half) × (single-run .steps Half ≤ 48)
   half-between =
-      let answer : Accepted 2 32 ≡ Accepted 2 (single-run .steps After) = ap (λ (z : Decoded × List ℕ). z .0) (sym (set-examples 0 .by-single-flips .3) ∙ single-answers .1 After 0) in
-      let restarted : single-run .steps After ≡ 32 = cc in
+      let answer : Accepted 2 32 ≡ Accepted 2 (single-run .steps AfterFlip) = ap (λ (z : Decoded × List ℕ). z .0) (sym (set-examples 0 .by-single-flips .3) ∙ single-answers .1 AfterFlip 0) in
+      let restarted : single-run .steps AfterFlip ≡ 32 = cc in
       (omega (arith, single-run .restarted-least, restarted), omega (arith, single-run .full-most, single-full))
 
 -- with T = 1 no later trial is made, and with T = 6 every restart refuses as 14
@@ -158,8 +158,8 @@ pair-restarted byte =
     let e = accepted-run x (set-examples 0 .by-own-trial .7) in
     let is : lowestOfEach (sets 2 4) wideD wideCode pairV (x .made) ≡ 3 ∷ 3 ∷ [] =
     ap₂ (λ (m : ℕ) (js : List (List ℕ)). map lowest (take (m - 1) js)) (e .0) (set-examples 0 .by-own-trial .3) in
-    let steps : x .steps After ≡ 46 = omega (arith, x .full-steps, e .0, x .exceeds After, ap (λ (is : List ℕ). skippedOver 3 (map (restartAt After (maskOf wideD) 8) is)) is) in
-    e .1 After byte ∙ ap (λ (s : ℕ). (Accepted 3 s, 0x80 ∷ [])) steps
+    let steps : x .steps AfterFlip ≡ 46 = omega (arith, x .full-steps, e .0, x .exceeds AfterFlip, ap (λ (is : List ℕ). skippedOver 3 (map (restartAt AfterFlip (maskOf wideD) 8) is)) is) in
+    e .1 AfterFlip byte ∙ ap (λ (s : ℕ). (Accepted 3 s, 0x80 ∷ [])) steps
 
 -- sets that are used up: 16 carries 11 trials of at most 512, so every set of one or two information indices is among the ten
 module _ where
@@ -217,14 +217,14 @@ module _ (byte byte′ : ℕ) where
   abbrev flipped : ℕ → List ℕ
   flipped t = take (t - 1) (flipOrder (maskOf wideD) wideCode (channelValues vector))
 
-  pub restarted-refuses : decodedRestarted wideD vector 1 (byte′ ∷ []) ≡ (Failed 1 24, byte′ ∷ [])
+  pub restarted-refuses : decodedRestarted wideD vector 1 (byte′ ∷ []) ≡ (Refused16 1 24, byte′ ∷ [])
   restarted-refuses =
       let both = both-decode 1 byte byte′ (omega arith) (omega arith) in
       ⊎-elim (λ x. absurd (omega (arith, one-kind (set-examples byte .by-single-flips .4) (x .1))))
       (λ x.
       let none = skipped-over-none (subst (λ (is : List ℕ). Each is (both .qs)) (ap flipped (x .0)) (both .q-is)) in
       let steps : both .restarted ≡ 24 = omega (arith, both .full-steps, both .exceeds, x .0, none) in
-      x .2 ∙ ap₂ (λ (t s : ℕ). (Failed t s, byte′ ∷ [])) (x .0) steps)
+      x .2 ∙ ap₂ (λ (t s : ℕ). (Refused16 t s, byte′ ∷ [])) (x .0) steps)
       (both .answers)
 
   pub restarted-accepts : decodedRestarted wideD vector 5 (byte′ ∷ []) ≡ (Accepted 2 32, 0x00 ∷ [])
@@ -299,27 +299,27 @@ sets-decode-80 r w T byte w-least w-most least most =
 abbrev bitsBy : List ℕ → ℕ → List (List ℕ) → List ℕ
 bitsBy channel t flips =
     let v : List ℤ = channelValues channel in
-    getD (map (λ o. o .bits) (firstTrial (maskOf wideD) wideCode v ∷ map (laterTrial After (maskOf wideD) wideCode v) flips)) (t - 1) []
+    getD (map (λ o. o .bits) (firstTrial (maskOf wideD) wideCode v ∷ map (laterTrial AfterFlip (maskOf wideD) wideCode v) flips)) (t - 1) []
 
 -- the trial of [3, 5] passes, and what is written is encoded as the transform of its bits
 pub pair-passes : trialPasses (maskOf wideD) wideCode (bitsOn pairV (3 ∷ 5 ∷ [])) ≡ true
 pair-passes =
     subst (λ (flips : List (List ℕ)). trialPasses (maskOf wideD) wideCode (bitsBy pairV 3 flips) ≡ true) (set-examples 0 .by-own-trial .3)
-    (only-checked (sets 2 4) After wideD wideCode pairV (0 ∷ []) 3 46 (0x80 ∷ []) describes (set-examples 0 .by-own-trial .8) .0)
+    (only-checked (sets 2 4) AfterFlip wideD wideCode pairV (0 ∷ []) 3 46 (0x80 ∷ []) describes (set-examples 0 .by-own-trial .8) .0)
 
 pub pair-codeword : packed (transformed 3 (bitsOn pairV (3 ∷ 5 ∷ []))) ≡ 0xA5 ∷ []
 pair-codeword =
-    let e = only-checked (sets 2 4) After wideD wideCode pairV (0 ∷ []) 3 46 (0x80 ∷ []) describes (set-examples 0 .by-own-trial .8) .1 (0 ∷ []) refl in
+    let e = only-checked (sets 2 4) AfterFlip wideD wideCode pairV (0 ∷ []) 3 46 (0x80 ∷ []) describes (set-examples 0 .by-own-trial .8) .1 (0 ∷ []) refl in
     sym (ap (λ (flips : List (List ℕ)). packed (transformed 3 (bitsBy pairV 3 flips))) (set-examples 0 .by-own-trial .3))
     ∙ sym (ap (λ (z : Encoded × List ℕ). z .1) e) ∙ ap (λ (z : Encoded × List ℕ). z .1) encodes-80
 
 -- the trial of [3, 5] fails on `usedUpV`, and eleven are made
 pub used-up-fails : (trialPasses (maskOf wideD) wideCode (bitsOn usedUpV (3 ∷ 5 ∷ [])) ≡ false) × (length ten + 1 ≡ 11)
 used-up-fails =
-    let x = after-all (sets 2 512) After wideD wideCode usedUpV (0 ∷ []) 11 106 (0 ∷ []) describes (set-examples 0 .used-up .5) in (
+    let x = after-all (sets 2 512) AfterFlip wideD wideCode usedUpV (0 ∷ []) 11 106 (0 ∷ []) describes (set-examples 0 .used-up .5) in (
       subst (λ (flips : List (List ℕ)). trialPasses (maskOf wideD) wideCode (bitsBy usedUpV 3 flips) ≡ false) (set-examples 0 .used-up .2) (x .1 3 (omega arith) (omega arith)),
       subst (λ (flips : List (List ℕ)). length flips + 1 ≡ 11) (set-examples 0 .used-up .2)
-          (omega (arith, x .0, length-map (flipsOf (sets 2 512) (maskOf wideD) wideCode (channelValues usedUpV)) (laterTrial After (maskOf wideD) wideCode (channelValues usedUpV)))),
+          (omega (arith, x .0, length-map (flipsOf (sets 2 512) (maskOf wideD) wideCode (channelValues usedUpV)) (laterTrial AfterFlip (maskOf wideD) wideCode (channelValues usedUpV)))),
     )
 
 -- ---- a larger trial limit: what T = 2 accepts by single flips, T up to 5 does; by sets what T = 4 accepts, every larger T does
@@ -329,7 +329,7 @@ accepts-at-2 byte = set-examples byte .by-single-flips .6
 
 pub stays-for-larger : (T byte : ℕ) → 2 ≤ T → T ≤ 5 → decodedRestarted wideD vector T (byte ∷ []) ≡ (Accepted 2 32, 0x00 ∷ [])
 stays-for-larger T byte least most =
-    stays-accepted (single 2) (single T) After wideD wideCode vector (0 ∷ []) (byte ∷ []) 2 32 (0x00 ∷ []) describes (single-more least)
+    stays-accepted (single 2) (single T) AfterFlip wideD wideCode vector (0 ∷ []) (byte ∷ []) 2 32 (0x00 ∷ []) describes (single-more least)
     (judge-no _ _ _ (outside-no T 1 5 (omega arith) most) ∙ judge-none) refl (accepts-at-2 0)
 
 pub stays-for-larger-sets : (T byte : ℕ) → 4 ≤ T → T ≤ 512 → setsFull wideD pairV 2 T (byte ∷ []) ≡ (Accepted 3 72, 0x80 ∷ [])

@@ -36,7 +36,7 @@ use Rattle.encoder.proofs.Codeword.{unpacked-codeword, EncodedFrom, encoded-fro
 use Rattle.pass_tree.specs.Node.{Out}
 use Rattle.pass_tree.proofs.Steps.{steps-whole}
 use Rattle.pass_tree.proofs.Noiseless.{Signs, Carries, noiseless as pass-recovers}
-use Rattle.flip_trial.specs.declared.Restart.the-variants.{Root, After}
+use Rattle.flip_trial.specs.declared.Restart.the-variants.{Root, AfterFlip}
 use Rattle.flip_trial.specs.Trial.{firstTrial, messageIn, trialPasses}
 use Rattle.flip_run.specs.declared.Decoded.the-variants.{Accepted}
 use Rattle.flip_run.specs.Trials.{run, answerOf}
@@ -122,4 +122,4 @@ noiseless p restart d c payload channel output r w =
 -- full and restarted decoding
 pub noiseless-decoding : NoiselessDecoding
 noiseless-decoding d c payload channel limit output r w =
-    (noiseless (single limit) Root d c payload channel output r w, noiseless (single limit) After d c payload channel output r w)
+    (noiseless (single limit) Root d c payload channel output r w, noiseless (single limit) AfterFlip d c payload channel output r w)

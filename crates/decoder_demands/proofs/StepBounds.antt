@@ -15,7 +15,7 @@ use Rattle.code.proofs.Facts.{described}
 use Rattle.flip_trial.specs.declared.Restart.{Restart}
 use Rattle.flip_trial.specs.declared.Restart.the-variants.{Root}
 use Rattle.flip_run.specs.declared.Decoded.{Decoded}
-use Rattle.flip_run.specs.declared.Decoded.the-variants.{Accepted, Failed, Refused}
+use Rattle.flip_run.specs.declared.Decoded.the-variants.{Accepted, Refused16, Refused}
 use Rattle.flip_run.specs.Claims.{ofRun}
 use Rattle.decoder.specs.Decoder.{Decoder, single, sets, decodedAs}
 use Rattle.decoder.specs.Claims.{Allowed}
@@ -27,13 +27,13 @@ use Rattle.decoder_demands.proofs.Agreement.{run-of}
 -- the trials and steps of an answer
 abbrev pub Bounded : Decoded × List ℕ → Type 0
 Bounded (Accepted trial steps, bytes) = (trial ≤ mostTrials) × (steps ≤ mostTrials * mostSteps)
-Bounded (Failed made steps, bytes) = (made ≤ mostTrials) × (steps ≤ mostTrials * mostSteps)
+Bounded (Refused16 made steps, bytes) = (made ≤ mostTrials) × (steps ≤ mostTrials * mostSteps)
 Bounded (Refused x, bytes) = Unit
 
 -- a refusal before 16 has none
 run-bounded : (z : Decoded × List ℕ) → (ofRun (z .0) ≡ true → Bounded z) → Bounded z
 run-bounded (Accepted trial steps, bytes) p = p refl
-run-bounded (Failed made steps, bytes) p = p refl
+run-bounded (Refused16 made steps, bytes) p = p refl
 run-bounded (Refused x, bytes) p = tt
 
 -- limits that are allowed are few enough

@@ -14,11 +14,11 @@ use Rattle.code.specs.Description.{maskOf, describe}
 use Rattle.channel.specs.Channel.{channelValues}
 use Rattle.pass_tree.specs.Skipped.{skipped}
 use Rattle.flip_trial.specs.declared.Restart.{Restart}
-use Rattle.flip_trial.specs.declared.Restart.the-variants.{Root, Half, After}
+use Rattle.flip_trial.specs.declared.Restart.the-variants.{Root, Half, AfterFlip}
 use Rattle.flip_trial.specs.Trial.{lowest, restartAt}
 use Rattle.flip_trial.specs.Flips.{Flips}
 use Rattle.flip_run.specs.declared.Decoded.{Decoded}
-use Rattle.flip_run.specs.declared.Decoded.the-variants.{Accepted, Failed, Refused}
+use Rattle.flip_run.specs.declared.Decoded.the-variants.{Accepted, Refused16, Refused}
 use Rattle.decoder.specs.Tried.{flipSets}
 use Rattle.decoder.specs.Decoder.{Decoder, single, sets, flipsOf, decodedAs}
 
@@ -61,16 +61,15 @@ pub record SameRun (p : Decoder) (d : List ℕ) (c : Code) (channel : List ℕ) 
       ((payload : List ℕ) × Answers p d channel size (λ restart output. (Accepted made (steps restart), payload)))
       ⊎ ((made ≡ length (flipsOf p (maskOf d) c (channelValues channel)) + 1)
       × ((made ≡ limitOf p) ⊎ AllTried p (maskOf d) c (channelValues channel))
-      × Answers p d channel size (λ restart output. (Failed made (steps restart), output)))
+      × Answers p d channel size (λ restart output. (Refused16 made (steps restart), output)))
   -- full decoding reports trials made × n × N steps
   pub full-steps : steps Root ≡ made * c .n * codeLength c
   -- that exceeds the report at each restart by the sum, over every trial made after the first, of q − (q mod 2^j) for every j from 0 to n − 1, if q is
   -- the index at which the trial resumes
-  pub exceeds :
-      (restart : Restart)
+  pub exceeds : (restart : Restart)
       → steps Root ≡ steps restart + skippedOver (c .n) (map (restartAt restart (maskOf d) (codeLength c)) (lowestOfEach p d c channel made))
   -- restarted decoding reports no more steps than half restart
-  pub restarted-least : steps After ≤ steps Half
+  pub restarted-least : steps AfterFlip ≤ steps Half
   -- half restart reports no more steps than full decoding
   pub full-most : steps Half ≤ steps Root
 

@@ -17,7 +17,7 @@ use Rattle.encoder.specs.declared.Encoded.the-variants.{Done}
 use Rattle.encoder.specs.Encode.{encoded}
 use Rattle.flip_trial.specs.declared.Restart.{Restart}
 use Rattle.flip_trial.specs.Trial.{trialPasses}
-use Rattle.flip_run.specs.declared.Decoded.the-variants.{Accepted, Failed}
+use Rattle.flip_run.specs.declared.Decoded.the-variants.{Accepted, Refused16}
 use Rattle.decoder.specs.Decoder.{Decoder, trialsOf, decodedAs}
 
 -- the bits of trial t, from 1
@@ -37,6 +37,6 @@ OnlyChecked =
 abbrev pub AfterAll : Type 0
 AfterAll =
     (p : Decoder) (restart : Restart) (d : List ℕ) (c : Code) (channel output : List ℕ) (made steps : ℕ) (bytes : List ℕ)
-    → describe d ≡ Coding c → decodedAs p restart d channel output ≡ (Failed made steps, bytes)
+    → describe d ≡ Coding c → decodedAs p restart d channel output ≡ (Refused16 made steps, bytes)
     → (made ≡ length (trialsOf p restart (maskOf d) c (channelValues channel)))
     × ((t : ℕ) → 1 ≤ t → t ≤ made → trialPasses (maskOf d) c (bitsOf p restart (maskOf d) c (channelValues channel) t) ≡ false)

@@ -11,10 +11,10 @@ use Rattle.code.specs.Code.{codeLength}
 use Rattle.pass_tree.specs.Node.{Out}
 use Rattle.pass_tree.specs.Skipped.{skipped}
 use Rattle.flip_trial.specs.declared.Restart.{Restart}
-use Rattle.flip_trial.specs.declared.Restart.the-variants.{Root, Half, After}
+use Rattle.flip_trial.specs.declared.Restart.the-variants.{Root, Half, AfterFlip}
 use Rattle.flip_trial.specs.Trial.{lowest, restartAt}
 use Rattle.flip_run.specs.declared.Decoded.{Decoded}
-use Rattle.flip_run.specs.declared.Decoded.the-variants.{Accepted, Failed}
+use Rattle.flip_run.specs.declared.Decoded.the-variants.{Accepted, Refused16}
 use Rattle.flip_run.specs.Trials.{Verdict, passed, failed}
 use Rattle.decoder.specs.Decoder.{Decoder}
 use Rattle.decoder_demands.specs.Agreement.{lowestOfEach, SameRun}
@@ -81,7 +81,7 @@ pub record EveryRestart (mask : List ℕ) (c : Code) (sets : List (List ℕ)) (F
   -- one trial number with one payload; or refusal 16 after the trials of all sets, and each output as it was
   pub answers :
       ((payload : List ℕ) × ((r : Restart) (o : List ℕ) → Fitting o → answer r o ≡ (Accepted made (steps r), payload)))
-      ⊎ ((made ≡ length sets + 1) × ((r : Restart) (o : List ℕ) → Fitting o → answer r o ≡ (Failed made (steps r), o)))
+      ⊎ ((made ≡ length sets + 1) × ((r : Restart) (o : List ℕ) → Fitting o → answer r o ≡ (Refused16 made (steps r), o)))
   -- each reports trials made × n × N steps, without exactly those that its restarts skip
   pub counted : (r : Restart) → steps r + skippedBy r mask c (map lowest (take (made - 1) sets)) ≡ made * c .n * codeLength c
 
@@ -101,4 +101,4 @@ HalfSteps =
 abbrev pub RestartedFewer : Type 0
 RestartedFewer =
     (p : Decoder) (d : List ℕ) (c : Code) (channel : List ℕ) (size : ℕ) (x : SameRun p d c channel size) → 1 ≤ c .n
-    → x .steps After + (x .made - 1) ≤ x .steps Half
+    → x .steps AfterFlip + (x .made - 1) ≤ x .steps Half

@@ -10,7 +10,7 @@ use Rattle.code.specs.Code.{codeLength}
 use Rattle.code.specs.Description.{maskOf}
 use Rattle.channel.specs.Channel.{channelValues}
 use Rattle.flip_trial.specs.FirstAfter.{FirstAfter}
-use Rattle.flip_run.specs.declared.Decoded.the-variants.{Accepted, Failed}
+use Rattle.flip_run.specs.declared.Decoded.the-variants.{Accepted, Refused16}
 use Rattle.flip_run.specs.Trials.{flipOrder}
 use Rattle.decoder.specs.Decoder.{single, WellFormed, decodedFull, decodedRestarted}
 use Rattle.decoder_demands.specs.Agreement.{skippedOver}
@@ -31,8 +31,8 @@ pub record BothDecode (d : List ℕ) (c : Code) (channel : List ℕ) (limit : �
       × (decodedFull d channel limit output ≡ (Accepted made full, payload))
       × (decodedRestarted d channel limit output′ ≡ (Accepted made restarted, payload)))
       ⊎ ((made ≡ limit)
-      × (decodedFull d channel limit output ≡ (Failed made full, output))
-      × (decodedRestarted d channel limit output′ ≡ (Failed made restarted, output′)))
+      × (decodedFull d channel limit output ≡ (Refused16 made full, output))
+      × (decodedRestarted d channel limit output′ ≡ (Refused16 made restarted, output′)))
   -- full decoding reports exactly trials made × n × N steps
   pub full-steps : full ≡ made * c .n * codeLength c
   -- the q of each trial made after the first

@@ -3,7 +3,7 @@ use mathlib.Core.Path.{_≡_}
 use mathlib.Core.List.{List}
 use Prim.Native.Nat.{ℕ, _*_, _^_, _≤_, _<_}
 use lib.ListN.{length}
-use Rattle.arrays.specs.Sizes.{deepest}
+use Rattle.arrays.specs.Sizes.{largestN}
 use Rattle.bits.specs.Claims.{Bits}
 use Rattle.bits.specs.Packing.{unpacked}
 use Rattle.code.specs.declared.Code.{Code}
@@ -35,6 +35,6 @@ placedMessage mask c payload = placed mask (messageOf c (unpacked payload (c .k)
 -- 2^n packed bits, and room for them
 pub record TransformPre (size n : ℕ) (room output : List ℕ) : Type 0 where
   pub n-least : 3 ≤ n
-  pub n-most : n ≤ deepest
+  pub n-most : n ≤ largestN
   pub room-size : length room ≡ size
   pub output-size : 8 * length output ≡ 2 ^ n

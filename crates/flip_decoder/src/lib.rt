@@ -83,7 +83,7 @@ pub fn decode_restarted(
     ensures { λ a. ⌜ (a, now (output .exit)) ≡ decodedRestarted (now (description .entry)) (now (channel .entry)) limit (now (output .entry)) ⌝ }
 {
     let restarted = Terms {
-        restart: Restart::After,
+        restart: Restart::AfterFlip,
         limit,
     };
     decode(restarted, description, channel, output)

@@ -10,7 +10,7 @@ use lib.Signed.{ltZ}
 use Rattle.laws.specs.Table.{table}
 use Rattle.laws.specs.Insert.{sortBy}
 use Rattle.laws.specs.Contracts.{splice}
-use Rattle.arrays.specs.Sizes.{deepest}
+use Rattle.arrays.specs.Sizes.{largestN}
 use Rattle.arrays.specs.Claims.{longest}
 use Rattle.bits.specs.Mask.{maskBit}
 use Rattle.values.specs.Claims.{Within}
@@ -46,7 +46,7 @@ keysOf mask values = splice values 0 (table (λ i. pos (keyUnder mask (getD valu
 
 -- the largest magnitude whose keys are sure to fit
 abbrev pub mostMagnitude : ℕ
-mostMagnitude = 2 ^ (30 - deepest)
+mostMagnitude = 2 ^ (30 - largestN)
 
 -- an index of the mask, with a leaf value whose key fits
 pub record KeyPre (mask : List ℕ) (value : ℤ) (i : ℕ) : Type 0 where

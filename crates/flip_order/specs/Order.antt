@@ -14,10 +14,10 @@ information mask zero = []
 information mask (suc n) = information mask n ++ cond (eqb (maskBit mask n) 1) (n ∷ []) []
 
 -- the magnitude of the leaf value at index i
-abbrev pub magnitude : List ℤ → ℕ → ℕ
-magnitude leaves i = natAbs (getD leaves i (pos 0))
+abbrev pub magnitudeAt : List ℤ → ℕ → ℕ
+magnitudeAt leaves i = natAbs (getD leaves i (pos 0))
 
 -- whether i stands before j
 abbrev pub before : List ℤ → ℕ → ℕ → Bool
 before leaves i j =
-    ltb (magnitude leaves i) (magnitude leaves j) || (eqb (magnitude leaves i) (magnitude leaves j) && ltb i j)
+    ltb (magnitudeAt leaves i) (magnitudeAt leaves j) || (eqb (magnitudeAt leaves i) (magnitudeAt leaves j) && ltb i j)

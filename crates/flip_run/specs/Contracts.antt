@@ -65,7 +65,7 @@ PassedBits (Failed made steps) bits = Unit {0}
 -- the answer to a run that ended so, with the message of the trial that passed
 abbrev pub answered : ℕ → Ended → List ℕ → List ℕ → Decoded × List ℕ
 answered k (Passed trial steps) message output = (Decoded.Accepted trial steps, packed (take k message))
-answered k (Failed made steps) message output = (Decoded.Failed made steps, output)
+answered k (Failed made steps) message output = (Decoded.Refused16 made steps, output)
 
 -- a run ended with its verdict; if a trial passed, `message` begins with its payload
 abbrev pub Ran : List ℕ → Code → Verdict → Ended → List ℕ → Type 0

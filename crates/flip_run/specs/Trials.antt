@@ -12,7 +12,7 @@ use Rattle.pass_tree.specs.Node.{Out}
 use Rattle.flip_order.specs.Order.{information, before}
 use Rattle.flip_trial.specs.Trial.{firstTrial, messageIn}
 use Rattle.flip_run.specs.declared.Decoded.{Decoded}
-use Rattle.flip_run.specs.declared.Decoded.the-variants.{Accepted, Failed}
+use Rattle.flip_run.specs.declared.Decoded.the-variants.{Accepted, Refused16}
 
 -- the order of flipped indices: trial t, from 2, flips the one at place t - 1
 abbrev pub flipOrder : List ℕ → Code → List ℤ → List ℕ
@@ -36,4 +36,4 @@ run ok made steps (o ∷ os) =
 -- acceptance writes the packed payload; refusal 16 carries the trials made and writes nothing
 abbrev pub answerOf : List ℕ → Code → List ℕ → Verdict → Decoded × List ℕ
 answerOf mask c output (passed trial steps bits) = (Accepted trial steps, packed (take (c .k) (messageIn mask c bits)))
-answerOf mask c output (failed made steps) = (Failed made steps, output)
+answerOf mask c output (failed made steps) = (Refused16 made steps, output)

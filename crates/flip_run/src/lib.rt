@@ -26,7 +26,7 @@ pub enum Decoded {
     // The number of the trial that passed, and the steps of all trials made.
     Accepted { trial: u32, steps: u32 },
     // Refusal 16: all trials failed. Their number, and their steps.
-    Failed { trials: u32, steps: u32 },
+    Refused16 { trials: u32, steps: u32 },
     // Another refusal.
     Refused(Refusal),
 }
@@ -51,7 +51,7 @@ pub fn answer(k: usize, ended: Ended, message: &[u8], output: &mut [u8]) -> Deco
             bits::pack(&message[..k], output);
             Decoded::Accepted { trial, steps }
         }
-        Ended::Failed { trials, steps } => Decoded::Failed { trials, steps },
+        Ended::Failed { trials, steps } => Decoded::Refused16 { trials, steps },
     }
 }
 

@@ -14,7 +14,7 @@ use Rattle.laws.proofs.Indices.{lt-cases}
 use Rattle.bits.specs.Mask.{maskBit}
 use Rattle.bits.proofs.Mask.{mask-cases}
 use Rattle.flip_trial.specs.declared.Restart.{Restart}
-use Rattle.flip_trial.specs.declared.Restart.the-variants.{Root, Half, After}
+use Rattle.flip_trial.specs.declared.Restart.the-variants.{Root, Half, AfterFlip}
 use Rattle.flip_trial.specs.Trial.{lowest, resumeAt, restartAt}
 use Rattle.flip_trial.specs.FirstAfter.{FirstAfter}
 use Rattle.flip_trial.specs.Flips.{Flips}
@@ -80,4 +80,4 @@ module _ {mask : List ℕ} {size : ℕ} {is : List ℕ} (p : Flips mask size is)
   pub restartable : (restart : Restart) → Restartable mask size is (restartAt restart mask size (lowest is))
   restartable Root = restartable-root
   restartable Half = restartable-half
-  restartable After = restartable-after
+  restartable AfterFlip = restartable-after

@@ -8,7 +8,7 @@ use lib.ListN.{length, getD, take, set}
 use lib.Dec.{eqb}
 use Rattle.laws.specs.Contracts.{segment}
 use Rattle.laws.specs.First.{firstWhere}
-use Rattle.arrays.specs.Sizes.{deepest}
+use Rattle.arrays.specs.Sizes.{largestN}
 use Rattle.bits.specs.Claims.{Bits}
 use Rattle.bits.specs.Mask.{maskBit}
 use Rattle.code.specs.declared.Code.{Code}
@@ -44,7 +44,7 @@ trialBy q first rules c v is =
 -- a channel of the code's length, and the arrays of a pass
 pub record TrialPre (room : ℕ) (c : Code) (channel rules : List ℕ) (a : Arrays) : Type 0 where
   pub n-least : 1 ≤ c .n
-  pub n-most : c .n ≤ deepest
+  pub n-most : c .n ≤ largestN
   pub long : length channel ≡ codeLength c
   pub small : Within 31 (channelValues channel)
   pub rules-whole : length rules ≡ room

@@ -14,7 +14,7 @@ use Rattle.placing.specs.Place.{taken}
 use Rattle.values.specs.Values.{Rule, opposite, maskRule}
 use Rattle.pass_tree.specs.Node.{Out, node}
 use Rattle.flip_trial.specs.declared.Restart.{Restart}
-use Rattle.flip_trial.specs.declared.Restart.the-variants.{Root, Half, After}
+use Rattle.flip_trial.specs.declared.Restart.the-variants.{Root, Half, AfterFlip}
 
 -- trial 1: a plain pass
 abbrev pub firstTrial : List ℕ → Code → List ℤ → Out
@@ -47,7 +47,7 @@ resumeAt mask N i = i + 1 + firstWhere (λ k. eqb (maskBit mask (i + 1 + k)) 1) 
 abbrev pub restartAt : Restart → List ℕ → ℕ → ℕ → ℕ
 restartAt Root mask N i = 0
 restartAt Half mask N i = cond (leb (N / 2) i) (N / 2) 0
-restartAt After mask N i = resumeAt mask N i
+restartAt AfterFlip mask N i = resumeAt mask N i
 
 -- a later trial that resumes at the index of its restart
 abbrev pub laterTrial : Restart → List ℕ → Code → List ℤ → List ℕ → Out

@@ -31,7 +31,7 @@ pub enum Restart {
     // At N/2 if the lowest flipped index is at least N/2, else at index 0.
     Half,
     // At the first information index after the lowest flipped one.
-    After,
+    AfterFlip,
 }
 
 // The first information index from `from` on, or N.
@@ -65,7 +65,7 @@ pub fn restart_index(restart: Restart, mask: &[u8], lowest: usize) -> usize
     match restart {
         Restart::Root => 0,
         Restart::Half => half_index(8 * mask.len(), lowest),
-        Restart::After => first_from(mask, lowest + 1),
+        Restart::AfterFlip => first_from(mask, lowest + 1),
     }
 }
 

@@ -15,7 +15,7 @@ use Rattle.laws.proofs.Table.{length-table}
 use Rattle.refusal.specs.declared.Judgement.the-variants.{Fine}
 use Rattle.refusal.specs.Judge.{judge}
 use Rattle.refusal.proofs.Judge.{judge-past, append-past}
-use Rattle.arrays.specs.Sizes.{deepest}
+use Rattle.arrays.specs.Sizes.{largestN}
 use Rattle.arrays.specs.Padded.{allZero}
 use Rattle.arrays.proofs.Sizes.{fits}
 use Rattle.arrays.proofs.Zeros.{and-true, zeros-past, splice-padded}
@@ -53,7 +53,7 @@ module _ (c : Code) (h : Hearing) (is : isHearing c h ≡ true) where
   pub zeros-after : drop (codeLength c) (h .values) ≡ replicate (length (h .values) - codeLength c) 0
   zeros-after = zeros-past (h .values) (zeroFrom c (h .count)) (codeLength c) (from-most c (h .count)) zero-from
 
-pub held-size : (c : Code) (h : Hearing) → c .n ≤ deepest → length (h .values) ≡ 2 ^ deepest → length (combined c h) ≡ codeLength c
+pub held-size : (c : Code) (h : Hearing) → c .n ≤ largestN → length (h .values) ≡ 2 ^ largestN → length (combined c h) ≡ codeLength c
 held-size c h n-most long = length-take-le (codeLength c) (h .values) (omega (arith, fits n-most))
 
 -- what no refusal says of a vector and the count
@@ -77,7 +77,7 @@ module _ (c : Code) (count : ℕ) (channel : List ℕ) (fine : judge (addRefusal
       go true e = ltb-true count 255 e
       go false e = absurd (full (omega (arith, ltb-false count 255 e)))
 
-module _ (c : Code) (h : Hearing) (channel : List ℕ) (n-most : c .n ≤ deepest) (long : length (h .values) ≡ 2 ^ deepest)
+module _ (c : Code) (h : Hearing) (channel : List ℕ) (n-most : c .n ≤ largestN) (long : length (h .values) ≡ 2 ^ largestN)
     (is : isHearing c h ≡ true) (fine : judge (addRefusals c (h .count) channel) ≡ Fine) where
   pub add-pre : AddPre (h .values) channel
   add-pre =
@@ -100,7 +100,7 @@ module _ (c : Code) (h : Hearing) (channel : List ℕ) (n-most : c .n ≤ deepes
       let size = channel-size c (h .count) channel fine in
       let sums : List ℕ = clippedSums (codeLength c) (h .values) channel in
       let many : length sums ≡ codeLength c = length-table _ (codeLength c) in
-      let rest : length (h .values) - codeLength c ≡ 2 ^ deepest - length sums = omega arith in
+      let rest : length (h .values) - codeLength c ≡ 2 ^ largestN - length sums = omega arith in
       ap (λ (k : ℕ). splice (h .values) 0 (clippedSums k (h .values) channel)) size
-      ∙ splice-padded (2 ^ deepest) (h .values) sums
+      ∙ splice-padded (2 ^ largestN) (h .values) sums
       (ap (λ (k : ℕ). drop k (h .values)) many ∙ zeros-after c h is ∙ ap (λ (k : ℕ). replicate k 0) rest)

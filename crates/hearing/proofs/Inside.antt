@@ -13,7 +13,7 @@ use Rattle.laws.proofs.Each.{Each, each-table}
 use Rattle.laws.proofs.First.{first-is}
 use Rattle.laws.proofs.Signed.{abs-neg}
 use Rattle.laws.proofs.Table.{length-table, table-ext, table-replicate}
-use Rattle.arrays.specs.Sizes.{deepest}
+use Rattle.arrays.specs.Sizes.{largestN}
 use Rattle.arrays.specs.Padded.{padded, allZero}
 use Rattle.arrays.proofs.Zeros.{drop-replicate, are-zeros}
 use Rattle.code.specs.declared.Code.{Code}
@@ -97,7 +97,7 @@ zeros-padded {size} {n} l =
     replicate-append-replicate n _ 0 ∙ ap (λ (k : ℕ). replicate k 0) e
 
 -- a fresh one holds zeros
-pub fresh-is : {n : ℕ} → n ≤ 2 ^ deepest → fresh ≡ hearingOf (replicate n 0) 0
+pub fresh-is : {n : ℕ} → n ≤ 2 ^ largestN → fresh ≡ hearingOf (replicate n 0) 0
 fresh-is l = sym (λ i. record { values = zeros-padded l i; count = 0 })
 
 module _ (c : Code) where
@@ -106,12 +106,12 @@ module _ (c : Code) where
 
   module _ (v : List ℕ) (w : Inside N v) (count : ℕ) where
     abbrev after : List ℕ
-    after = replicate (2 ^ deepest - length v) 0
+    after = replicate (2 ^ largestN - length v) 0
 
     pub combined-is : combined c (hearingOf v count) ≡ v
     combined-is = take-at v after N (w .size-is)
 
-    hearing-if : count ≤ 255 → allZero (drop (zeroFrom c count) (padded (2 ^ deepest) v)) ≡ true → isHearing c (hearingOf v count) ≡ true
+    hearing-if : count ≤ 255 → allZero (drop (zeroFrom c count) (padded (2 ^ largestN) v)) ≡ true → isHearing c (hearingOf v count) ≡ true
     hearing-if l e =
         ap₂ _&&_ (le-leb count 255 l)
         (ap₂ _&&_ e (eq-eqb (firstOutside (combined c (hearingOf v count))) N (ap firstOutside combined-is ∙ none-outside w)))
@@ -123,15 +123,15 @@ module _ (c : Code) where
         ap (λ (a : ℕ). clippedSum a (getD channel i 0)) (List·getD-append v after 0 i (omega (arith, w .size-is)))))
 
   -- zeros with any count, and any values after an add
-  pub zeros-hearing : N ≤ 2 ^ deepest → (count : ℕ) → count ≤ 255 → isHearing c (hearingOf (replicate N 0) count) ≡ true
+  pub zeros-hearing : N ≤ 2 ^ largestN → (count : ℕ) → count ≤ 255 → isHearing c (hearingOf (replicate N 0) count) ≡ true
   zeros-hearing l count m =
       let from : ℕ = zeroFrom c count in
       hearing-if (replicate N 0) (zeros-inside N) count m
       (ap (λ (x : List ℕ). allZero (drop from x)) (zeros-padded l)
-      ∙ ap allZero (drop-replicate from (2 ^ deepest) 0) ∙ are-zeros (2 ^ deepest - from))
+      ∙ ap allZero (drop-replicate from (2 ^ largestN) 0) ∙ are-zeros (2 ^ largestN - from))
 
   pub heard-hearing : (v : List ℕ) → Inside N v → (count : ℕ) → count < 255 → isHearing c (hearingOf v (count + 1)) ≡ true
   heard-hearing v w count m =
       hearing-if v w (count + 1) (omega arith)
-      (ap (λ (t : Bool). allZero (drop (cond t 0 N) (padded (2 ^ deepest) v))) (ne-eqb (count + 1) 0 (λ z. omega arith))
-      ∙ ap allZero (drop-at v (after v w count) N (w .size-is)) ∙ are-zeros (2 ^ deepest - length v))
+      (ap (λ (t : Bool). allZero (drop (cond t 0 N) (padded (2 ^ largestN) v))) (ne-eqb (count + 1) 0 (λ z. omega arith))
+      ∙ ap allZero (drop-at v (after v w count) N (w .size-is)) ∙ are-zeros (2 ^ largestN - length v))

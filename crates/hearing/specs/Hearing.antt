@@ -9,7 +9,7 @@ use lib.ListN.{getD, take, drop}
 use Rattle.laws.specs.Table.{table}
 use Rattle.refusal.specs.declared.Refusal.{Refusal}
 use Rattle.refusal.specs.declared.Refusal.the-variants.{Alone}
-use Rattle.arrays.specs.Sizes.{deepest}
+use Rattle.arrays.specs.Sizes.{largestN}
 use Rattle.arrays.specs.Padded.{padded, allZero}
 use Rattle.code.specs.declared.Code.{Code}
 use Rattle.code.specs.Code.{codeLength}
@@ -24,7 +24,7 @@ pub record Hearing : Type 0 where
 
 -- a hearing by its values and its count
 abbrev pub hearingOf : List ℕ → ℕ → Hearing
-hearingOf values count = record { values = padded (2 ^ deepest) values; count = count }
+hearingOf values count = record { values = padded (2 ^ largestN) values; count = count }
 
 -- the N combined values
 abbrev pub combined : Code → Hearing → List ℕ

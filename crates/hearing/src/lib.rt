@@ -9,7 +9,7 @@ ghost use lib.IntN.{natAbs};
 ghost use lib.ListN.{length, take};
 ghost use Rattle.laws.specs.Contracts.{splice};
 ghost use Rattle.refusal.specs.Judge.{judge};
-ghost use Rattle.arrays.specs.Sizes.{deepest};
+ghost use Rattle.arrays.specs.Sizes.{largestN};
 ghost use Rattle.channel.specs.Channel.{channelValue, firstOutside};
 ghost use Rattle.hearing.specs.Hearing.{clippedSums, addRefusals, isHearing};
 ghost use Rattle.hearing.specs.Contracts.{clippedSum, zeroFrom, AddPre, hearingBy};
@@ -39,7 +39,7 @@ pub fn add_values(values: &mut [u8], channel: &[u8])
 
 // Refusals 12, 13 and 27.
 pub fn judge_add(code: Code, count: u8, channel: &[u8]) -> Judgement
-    requires { ⌜ code .n ≤ deepest ⌝ }
+    requires { ⌜ code .n ≤ largestN ⌝ }
     ensures { λ j. ⌜ j ≡ judge (addRefusals code count (now (channel .entry))) ⌝ }
 {
     match channel::judge_channel(code, channel) {
@@ -55,7 +55,7 @@ pub fn judge_add(code: Code, count: u8, channel: &[u8]) -> Judgement
 
 // The index from which on all values of a hearing are zero.
 fn zero_from(code: Code, count: u8) -> usize
-    requires { ⌜ code .n ≤ deepest ⌝ }
+    requires { ⌜ code .n ≤ largestN ⌝ }
     ensures { λ i. ⌜ i ≡ zeroFrom code count ⌝ }
 {
     if count == 0 {
@@ -74,8 +74,8 @@ fn are_inside(values: &[u8], size: usize) -> bool
 
 // Whether a list of adds and clears can leave a hearing with this count and these values.
 pub fn is_hearing(code: Code, count: u8, values: &[u8]) -> bool
-    requires { ⌜ (code .n ≤ deepest)
-        × (length (now values) ≡ 2 ^ deepest) ⌝ }
+    requires { ⌜ (code .n ≤ largestN)
+        × (length (now values) ≡ 2 ^ largestN) ⌝ }
     ensures { λ b. ⌜ b ≡ isHearing code (hearingBy count (now (values .entry))) ⌝ }
 {
     if arrays::is_zero_from(values, zero_from(code, count)) {

@@ -9,7 +9,7 @@ use lib.ListN.{length, take, drop, replicate, length-append, take-append-drop, r
 use lib.Seq.{take-at, drop-at, getD-at, drop-cons, append-snoc}
 use Rattle.laws.specs.Contracts.{splice}
 use Rattle.laws.proofs.Segment.{segment-splice, length-splice}
-use Rattle.arrays.specs.Sizes.{deepest}
+use Rattle.arrays.specs.Sizes.{largestN}
 use Rattle.code.specs.Code.{longestDescription}
 use Rattle.hearing.specs.Hearing.{fresh}
 use Rattle.hearing_state.specs.State.{State, stateOf, noState, withHearing}
@@ -17,7 +17,7 @@ use Rattle.hearing_buffer.specs.Lent.{hearingSize, bytesOf, stateIn}
 use Rattle.hearing_buffer.specs.Contracts.{stateAt}
 use Rattle.hearing_buffer.specs.Claims.{ReadWritten, WrittenRead}
 
-pub size-of : (s : State) → length (s .description) ≡ longestDescription → length (s .hearing .values) ≡ 2 ^ deepest → length (bytesOf s) ≡ hearingSize
+pub size-of : (s : State) → length (s .description) ≡ longestDescription → length (s .hearing .values) ≡ 2 ^ largestN → length (bytesOf s) ≡ hearingSize
 size-of s nd nv = omega (arith, length-append (s .description) (s .hearing .count ∷ s .hearing .values))
 
 -- the state in a buffer of the right size
@@ -50,14 +50,14 @@ pub fresh-bytes : (b d : List ℕ) → length b ≡ hearingSize → length d ≤
 fresh-bytes b d nb room =
     let fits : 0 + length d ≤ length b = omega arith in
     let rest : ℕ = longestDescription - length d in
-    let many : length (splice b 0 d) - length d ≡ rest + suc (2 ^ deepest - 0) = omega (arith, length-splice b 0 d (length d) refl fits) in
+    let many : length (splice b 0 d) - length d ≡ rest + suc (2 ^ largestN - 0) = omega (arith, length-splice b 0 d (length d) refl fits) in
     ap₂ (λ (l : List ℕ) (k : ℕ). l ++ replicate k 0) (segment-splice b 0 d (length d) refl fits) many
-    ∙ ap (λ (l : List ℕ). d ++ l) (sym (replicate-append-replicate rest (suc (2 ^ deepest - 0)) 0))
-    ∙ sym (append-assoc d (replicate rest 0) (replicate (suc (2 ^ deepest - 0)) 0))
+    ∙ ap (λ (l : List ℕ). d ++ l) (sym (replicate-append-replicate rest (suc (2 ^ largestN - 0)) 0))
+    ∙ sym (append-assoc d (replicate rest 0) (replicate (suc (2 ^ largestN - 0)) 0))
 
 -- zeros after the description are the bytes of a state that is cleared
 pub clear-bytes : (b : List ℕ) → length b ≡ hearingSize
     → take longestDescription b ++ replicate (length b - longestDescription) 0 ≡ bytesOf (withHearing (stateIn b) fresh)
 clear-bytes b nb =
-    let many : length b - longestDescription ≡ suc (2 ^ deepest - 0) = omega arith in
+    let many : length b - longestDescription ≡ suc (2 ^ largestN - 0) = omega arith in
     ap (λ (k : ℕ). take longestDescription b ++ replicate k 0) many ∙ ap (λ (s : State). bytesOf (withHearing s fresh)) (sym (state-at b nb))

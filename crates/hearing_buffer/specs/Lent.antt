@@ -8,9 +8,9 @@ use lib.ListN.{length, getD, take, drop}
 use Rattle.refusal.specs.declared.Refusal.the-variants.{Alone}
 use Rattle.refusal.specs.declared.Judgement.{Judgement}
 use Rattle.refusal.specs.Judge.{refusedOr}
-use Rattle.arrays.specs.Sizes.{deepest}
+use Rattle.arrays.specs.Sizes.{largestN}
 use Rattle.code.specs.Code.{longestDescription}
-use Rattle.flip_trial.specs.declared.Restart.the-variants.{Root, After}
+use Rattle.flip_trial.specs.declared.Restart.the-variants.{Root, AfterFlip}
 use Rattle.flip_run.specs.declared.Decoded.{Decoded}
 use Rattle.hearing.specs.Hearing.{Hearing}
 use Rattle.hearing_state.specs.State.{State, noState, opened, added, cleared, decodedHeldWith}
@@ -19,7 +19,7 @@ use Rattle.hearing_buffer.specs.declared.Kept.the-variants.{Done, Refuse
 
 -- the size of a buffer: description, count, values
 abbrev pub hearingSize : ℕ
-hearingSize = longestDescription + (1 + 2 ^ deepest)
+hearingSize = longestDescription + (1 + 2 ^ largestN)
 
 -- the bytes of a state
 abbrev pub bytesOf : State → List ℕ
@@ -53,4 +53,4 @@ fullIn b limit output = decodedHeldWith Root (stateIn b) limit output
 
 -- decode with each later trial resumed after its flipped index
 abbrev pub restartedIn : List ℕ → ℕ → List ℕ → Decoded × List ℕ
-restartedIn b limit output = decodedHeldWith After (stateIn b) limit output
+restartedIn b limit output = decodedHeldWith AfterFlip (stateIn b) limit output

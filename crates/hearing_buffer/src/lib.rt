@@ -159,7 +159,7 @@ pub fn decode_restarted(buffer: &[u8], limit: u32, output: &mut [u8]) -> Decoded
     ensures { λ a. ⌜ (a, now (output .exit)) ≡ restartedIn (now (buffer .entry)) limit (now (output .entry)) ⌝ }
 {
     let restarted = Terms {
-        restart: Restart::After,
+        restart: Restart::AfterFlip,
         limit,
     };
     decode(restarted, buffer, output)

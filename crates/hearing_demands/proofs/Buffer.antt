@@ -11,7 +11,7 @@ use Rattle.refusal.specs.declared.Refusal.the-variants.{Alone}
 use Rattle.refusal.specs.declared.Judgement.{Judgement}
 use Rattle.refusal.specs.declared.Judgement.the-variants.{Fine, Refused}
 use Rattle.refusal.specs.Judge.{judge, refusedOr}
-use Rattle.arrays.specs.Sizes.{deepest}
+use Rattle.arrays.specs.Sizes.{largestN}
 use Rattle.arrays.proofs.Zeros.{length-padded}
 use Rattle.code.specs.declared.Code.{Code}
 use Rattle.code.specs.declared.Description.the-variants.{Accepted as Coding}
@@ -37,10 +37,10 @@ module _ (d : List ℕ) (c : Code) (code : describe d ≡ Coding c) where
   -- a state that calls leave is read back from its bytes
   written : {s : State} {vectors : List (List ℕ)} → Invariant d c code s vectors → InBuffer (bytesOf s) s
   written {s} k =
-      let sizes : (length (s .description) ≡ longestDescription) × (length (s .hearing .values) ≡ 2 ^ deepest) =
-      subst (λ (t : State). (length (t .description) ≡ longestDescription) × (length (t .hearing .values) ≡ 2 ^ deepest)) (sym (k .state-is)) (
+      let sizes : (length (s .description) ≡ longestDescription) × (length (s .hearing .values) ≡ 2 ^ largestN) =
+      subst (λ (t : State). (length (t .description) ≡ longestDescription) × (length (t .hearing .values) ≡ 2 ^ largestN)) (sym (k .state-is)) (
         length-padded longestDescription d (description-room d c code),
-        length-padded (2 ^ deepest) (k .values) (omega (arith, k .inside .size-is, room d c code)),
+        length-padded (2 ^ largestN) (k .values) (omega (arith, k .inside .size-is, room d c code)),
       ) in
       record { size = size-of s (sizes .0) (sizes .1); reads = read-written s (sizes .0) (sizes .1) }
 

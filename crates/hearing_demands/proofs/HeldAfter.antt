@@ -12,7 +12,7 @@ use Rattle.refusal.specs.declared.Judgement.{Judgement}
 use Rattle.refusal.specs.declared.Judgement.the-variants.{Fine, Refused}
 use Rattle.refusal.specs.Judge.{judge, refusedOr}
 use Rattle.refusal.proofs.Judge.{refused-fine, refused-by}
-use Rattle.arrays.specs.Sizes.{deepest}
+use Rattle.arrays.specs.Sizes.{largestN}
 use Rattle.arrays.proofs.Sizes.{fits}
 use Rattle.code.specs.declared.Code.{Code}
 use Rattle.code.specs.declared.Description.the-variants.{Accepted as Coding}
@@ -42,7 +42,7 @@ module _ (d : List ℕ) (c : Code) (code : describe d ≡ Coding c) where
   abbrev N : ℕ
   N = codeLength c
 
-  pub room : N ≤ 2 ^ deepest
+  pub room : N ≤ 2 ^ largestN
   room = fits (described d c code .coded .n-most)
 
   -- ---- adds

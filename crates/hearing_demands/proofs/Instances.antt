@@ -17,7 +17,7 @@ use Rattle.refusal.specs.declared.Refusal.the-variants.{Alone}
 use Rattle.refusal.specs.declared.Judgement.{Judgement}
 use Rattle.refusal.specs.declared.Judgement.the-variants.{Fine, Refused}
 use Rattle.refusal.specs.Judge.{judge, refusedOr}
-use Rattle.arrays.specs.Sizes.{deepest}
+use Rattle.arrays.specs.Sizes.{largestN}
 use Rattle.arrays.specs.Padded.{padded}
 use Rattle.arrays.proofs.Zeros.{and-true, length-padded}
 use Rattle.bits.specs.Bit.{number}
@@ -37,9 +37,9 @@ use Rattle.channel.proofs.Outside.{each-inside}
 use Rattle.pass_tree.specs.Node.{node}
 use Rattle.pass_tree.specs.Skipped.{skipped}
 use Rattle.flip_order.specs.Order.{information}
-use Rattle.flip_trial.specs.declared.Restart.the-variants.{Root, After}
+use Rattle.flip_trial.specs.declared.Restart.the-variants.{Root, AfterFlip}
 use Rattle.flip_trial.specs.Trial.{lowest, restartAt}
-use Rattle.flip_run.specs.declared.Decoded.the-variants.{Accepted, Failed}
+use Rattle.flip_run.specs.declared.Decoded.the-variants.{Accepted, Refused16}
 use Rattle.flip_run.specs.Trials.{flipOrder, run}
 use Rattle.decoder.specs.Decoder.{single, decodedUnder, decodedAs, decodedFull, decodedRestarted}
 use Rattle.decoder_demands.specs.Agreement.{skippedOver, lowestOfEach}
@@ -81,8 +81,8 @@ sumsV = 0xFE ∷ 0xE1 ∷ 0x0B ∷ 0x03 ∷ 0x07 ∷ 0xEA ∷ 0x19 ∷ 0xF4 ∷ 
 -- with T = 5, which is K + 1, whatever byte the output held
 pub record Decodings (byte : ℕ) : Type 0 where
   -- neither hearing decodes
-  pub first-fails : decodedFull d firstV 5 (byte ∷ []) ≡ (Failed 5 120, byte ∷ [])
-  pub second-fails : decodedFull d secondV 5 (byte ∷ []) ≡ (Failed 5 120, byte ∷ [])
+  pub first-fails : decodedFull d firstV 5 (byte ∷ []) ≡ (Refused16 5 120, byte ∷ [])
+  pub second-fails : decodedFull d secondV 5 (byte ∷ []) ≡ (Refused16 5 120, byte ∷ [])
   -- their sums do, by full decoding and restarted
   pub sums-full : decodedFull d sumsV 5 (byte ∷ []) ≡ (Accepted 3 72, 0x80 ∷ [])
   pub sums-restarted : decodedRestarted d sumsV 5 (byte ∷ []) ≡ (Accepted 3 43, 0x80 ∷ [])
@@ -110,7 +110,7 @@ h = held-after d c calls describes
 
 -- ---- the state that they leave
 
-room-8 : 8 ≤ 2 ^ deepest
+room-8 : 8 ≤ 2 ^ largestN
 room-8 = room d c describes
 
 none-outside : (firstOutside firstV ≡ 8) × (firstOutside sumsV ≡ 8)
@@ -166,7 +166,7 @@ pub record Held : Type 0 where
   pub in-range : firstOutside (combined c (s .hearing)) ≡ 8
   -- trial 3 decodes them, in 72 steps from the root and in 43 restarted
   pub full : (byte : ℕ) → decodedHeldWith Root s 5 (byte ∷ []) ≡ (Accepted 3 72, 0x80 ∷ [])
-  pub restarted : (byte : ℕ) → decodedHeldWith After s 5 (byte ∷ []) ≡ (Accepted 3 43, 0x80 ∷ [])
+  pub restarted : (byte : ℕ) → decodedHeldWith AfterFlip s 5 (byte ∷ []) ≡ (Accepted 3 43, 0x80 ∷ [])
 
 pub held : Held
 unfolding firstWhere table judge refusedOr channelValue
@@ -179,7 +179,7 @@ held = record {
   size = held-bounds d c calls describes .size-is;
   in-range = held-bounds d c calls describes .in-range;
   full = λ byte. h .decoded-is Root 5 (byte ∷ []) ∙ ap (λ (v : List ℕ). decodedFull d v 5 (byte ∷ [])) held-bytes ∙ decodings byte .sums-full;
-  restarted = λ byte. h .decoded-is After 5 (byte ∷ []) ∙ ap (λ (v : List ℕ). decodedRestarted d v 5 (byte ∷ [])) held-bytes ∙ decodings byte .sums-restarted;
+  restarted = λ byte. h .decoded-is AfterFlip 5 (byte ∷ []) ∙ ap (λ (v : List ℕ). decodedRestarted d v 5 (byte ∷ [])) held-bytes ∙ decodings byte .sums-restarted;
 }
 
 -- From what full decoding of the sums answers, which is computed, follows what restarted decoding does: trials 2 and 3 flip 5 and 3, resume at 6 and 5, and
@@ -193,8 +193,8 @@ restarted-agrees byte =
     let is : lowestOfEach (single 5) d c (combined c (s .hearing)) (x .made) ≡ 5 ∷ 3 ∷ [] =
     ap₂ (λ (v : List ℕ) (m : ℕ). lowestOfEach (single 5) d c v m) held-bytes (e .0)
     ∙ ap (λ (order : List ℕ). map lowest (take 2 (take 4 (map (λ i. i ∷ []) order)))) (decodings 0 .sums-order) in
-    let steps : x .steps After ≡ 43 = omega (arith, x .full-steps, e .0, x .exceeds After, ap (λ (js : List ℕ). skippedOver 3 (map (restartAt After (maskOf d) 8) js)) is) in
-    e .1 After byte ∙ ap (λ (s : ℕ). (Accepted 3 s, 0x80 ∷ [])) steps
+    let steps : x .steps AfterFlip ≡ 43 = omega (arith, x .full-steps, e .0, x .exceeds AfterFlip, ap (λ (js : List ℕ). skippedOver 3 (map (restartAt AfterFlip (maskOf d) 8) js)) is) in
+    e .1 AfterFlip byte ∙ ap (λ (s : ℕ). (Accepted 3 s, 0x80 ∷ [])) steps
 
 -- ---- a buffer that holds them is left by some calls
 
@@ -221,12 +221,12 @@ padded-bytes size v e = each-append Byte 0 v (replicate (size - length v) 0) (ea
 description-size : length (twice .description) ≡ longestDescription
 description-size = length-padded longestDescription d (omega arith)
 
-values-size : length (twice .hearing .values) ≡ 2 ^ deepest
-values-size = length-padded (2 ^ deepest) sumsV (omega arith)
+values-size : length (twice .hearing .values) ≡ 2 ^ largestN
+values-size = length-padded (2 ^ largestN) sumsV (omega arith)
 
 values-bytes : Each Byte 0 (twice .hearing .values)
 unfolding below
-values-bytes = padded-bytes (2 ^ deepest) sumsV refl
+values-bytes = padded-bytes (2 ^ largestN) sumsV refl
 
 twice-coded : codeOfState twice ≡ Coding c
 twice-coded = code-of d c describes (hearingOf sumsV 2) (heard-hearing c sumsV sums-inside 1 (omega arith))

@@ -17,7 +17,7 @@ use Rattle.refusal.specs.declared.Judgement.{Judgement}
 use Rattle.refusal.specs.declared.Judgement.the-variants.{Fine}
 use Rattle.refusal.specs.Judge.{judge}
 use Rattle.refusal.proofs.Judge.{judge-none, judge-no, append-fine}
-use Rattle.arrays.specs.Sizes.{deepest}
+use Rattle.arrays.specs.Sizes.{largestN}
 use Rattle.arrays.specs.Padded.{padded, allZero}
 use Rattle.arrays.proofs.Zeros.{and-true, zeros-are, zeros-past}
 use Rattle.code.specs.declared.Code.{Code}
@@ -123,7 +123,7 @@ module _ (s : State) (c : Code) (z : FitsBuffer s) (e : codeOfState s ≡ Coding
   parts = and-true _ (isHearing c h) (state-is s c e .1)
 
   -- it is the one with these values
-  same : (x : List ℕ) → h .values ≡ padded (2 ^ deepest) x → stateOf d (hearingOf x (h .count)) ≡ s
+  same : (x : List ℕ) → h .values ≡ padded (2 ^ largestN) x → stateOf d (hearingOf x (h .count)) ≡ s
   same x p =
       let w : List ℕ = s .description in
       let q : w ≡ padded longestDescription d = padded-is longestDescription (word w 0) w (z .description-size) (le-refl (length d)) (parts .0) in
@@ -152,7 +152,7 @@ module _ (s : State) (c : Code) (z : FitsBuffer s) (e : codeOfState s ≡ Coding
         calls,
         ap (λ (t : State). after t calls) (opened-state ∙ ap (stateOf d) (fresh-is (room d c code)))
             ∙ adds-leave d c code inside bytes m 0 (h .count) (omega arith) (count-most c h (parts .1))
-            ∙ same v (padded-is (2 ^ deepest) (codeLength c) (h .values) (z .values-size) past (zero-from c h (parts .1))),
+            ∙ same v (padded-is (2 ^ largestN) (codeLength c) (h .values) (z .values-size) past (zero-from c h (parts .1))),
       )
 
 pub left-by-some : LeftBySome

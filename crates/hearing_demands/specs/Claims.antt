@@ -5,7 +5,7 @@ use Prim.Native.Nat.{ℕ, _<_, _≤_, _^_}
 use lib.ListN.{length, getD}
 use Rattle.refusal.specs.declared.Refusal.{Refusal}
 use Rattle.refusal.specs.declared.Judgement.the-variants.{Refused}
-use Rattle.arrays.specs.Sizes.{deepest}
+use Rattle.arrays.specs.Sizes.{largestN}
 use Rattle.code.specs.declared.Code.{Code}
 use Rattle.code.specs.declared.Description.the-variants.{Accepted as Coding}
 use Rattle.code.specs.Code.{codeLength, longestDescription}
@@ -36,7 +36,7 @@ RefusedKeeps = (s : State) (call : Call) (x : Refusal) → called s call .0 ≡ 
 -- a state that a buffer can hold: the sizes of its lists, and values that are bytes
 pub record FitsBuffer (s : State) : Type 0 where
   pub description-size : length (s .description) ≡ longestDescription
-  pub values-size : length (s .hearing .values) ≡ 2 ^ deepest
+  pub values-size : length (s .hearing .values) ≡ 2 ^ largestN
   pub bytes : (i : ℕ) → getD (s .hearing .values) i 0 < 256
 
 -- Refusal 40 is for what no list of calls leaves: a state that is not refused is left by some adds, from a fresh hearing of its description.

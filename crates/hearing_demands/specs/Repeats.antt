@@ -60,8 +60,7 @@ pub record Holds (d : List ℕ) (c : Code) (s : State) (vectors : List (List ℕ
   -- the held values are the fold of clipped sums
   pub values-are : channelValues (combined c (s .hearing)) ≡ foldOfSums (codeLength c) (replicate (codeLength c) (pos 0)) (map channelValues vectors)
   -- decoding is that of the held values, at every restart
-  pub decoded-is :
-      (restart : Restart) (limit : ℕ) (output : List ℕ)
+  pub decoded-is : (restart : Restart) (limit : ℕ) (output : List ℕ)
       → decodedHeldWith restart s limit output ≡ decodedAs (single limit) restart d (combined c (s .hearing)) output
   -- "Restart and full decoding must agree on the combined vector", with every T and outputs of any size
   pub agree : (limit size : ℕ) → Agree (single limit) d (combined c (s .hearing)) size

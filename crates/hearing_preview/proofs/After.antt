@@ -11,7 +11,7 @@ use Rattle.code.specs.declared.Code.{Code}
 use Rattle.code.specs.declared.Description.{Description}
 use Rattle.code.specs.declared.Description.the-variants.{Accepted as Coding}
 use Rattle.code.specs.Description.{describe, onDescription}
-use Rattle.flip_trial.specs.declared.Restart.the-variants.{After}
+use Rattle.flip_trial.specs.declared.Restart.the-variants.{AfterFlip}
 use Rattle.flip_run.specs.declared.Decoded.the-variants.{Refused}
 use Rattle.hearing.specs.Hearing.{addedTo, addRefusals}
 use Rattle.hearing_state.specs.State.{State, refusedIn, withHearing, opened, added, decodedHeldWith}
@@ -61,9 +61,9 @@ module _ (d : List ℕ) (c : Code) (calls : List Call) (channel : List ℕ) (cod
 
   -- the preview, by the judgement of the add
   preview-is : (j : Judgement) → judge (addRefusals c (length vectors) channel) ≡ j → (limit : ℕ) (output : List ℕ)
-      → previewed s channel limit output ≡ refusedOr (by j .0) (λ x. (Refused x, output)) (decodedHeldWith After (added s channel .1) limit output)
+      → previewed s channel limit output ≡ refusedOr (by j .0) (λ x. (Refused x, output)) (decodedHeldWith AfterFlip (added s channel .1) limit output)
   preview-is j e limit output =
-      ap (λ (a : Judgement × State). refusedOr (a .0) (λ x. (Refused x, output)) (decodedHeldWith After (added s channel .1) limit output)) (added-is j e)
+      ap (λ (a : Judgement × State). refusedOr (a .0) (λ x. (Refused x, output)) (decodedHeldWith AfterFlip (added s channel .1) limit output)) (added-is j e)
 
   sums : judge (addRefusals c (length vectors) channel) ≡ judgement.Fine → Holds d c (added s channel .1) (vectors ++ (channel ∷ []))
   sums e =
@@ -74,7 +74,7 @@ module _ (d : List ℕ) (c : Code) (calls : List Call) (channel : List ℕ) (cod
   unfolding refusedOr
   previews = record {
     refused = λ x e limit output. preview-is (judgement.Refused x) e limit output;
-    decoded = λ e limit output. preview-is judgement.Fine e limit output ∙ sums e .decoded-is After limit output;
+    decoded = λ e limit output. preview-is judgement.Fine e limit output ∙ sums e .decoded-is AfterFlip limit output;
     sums = sums;
   }
 

@@ -10,7 +10,7 @@ use Rattle.code.specs.declared.Code.{Code}
 use Rattle.code.specs.declared.Description.{Description}
 use Rattle.code.specs.declared.Description.the-variants.{Accepted as Coding, Refused as NoCode}
 use Rattle.code.specs.Description.{onDescription}
-use Rattle.flip_trial.specs.declared.Restart.the-variants.{After}
+use Rattle.flip_trial.specs.declared.Restart.the-variants.{AfterFlip}
 use Rattle.flip_run.specs.declared.Decoded.{Decoded}
 use Rattle.flip_run.specs.declared.Decoded.the-variants as decode
 use Rattle.hearing.specs.Hearing.{addedTo, addRefusals}
@@ -29,7 +29,7 @@ module _ (b channel : List ℕ) (limit : ℕ) (output : List ℕ) where
 
   -- what an add leaves in the copy, and what it answers, decode alike
   abbrev Alike : Judgement × State → Type 0
-  Alike a = thenRestartedIn (answerIn a b) limit output ≡ refusedOr (a .0) (λ x. (decode.Refused x, output)) (decodedHeldWith After (a .1) limit output)
+  Alike a = thenRestartedIn (answerIn a b) limit output ≡ refusedOr (a .0) (λ x. (decode.Refused x, output)) (decodedHeldWith AfterFlip (a .1) limit output)
 
   judged : (c : Code) → codeOfState s ≡ Coding c → (j : Judgement) → judge (addRefusals c (s .hearing .count) channel) ≡ j
       → Alike (refusedOr j (refusedIn s) (Fine, withHearing s (addedTo c (s .hearing) channel)))
@@ -37,7 +37,7 @@ module _ (b channel : List ℕ) (limit : ℕ) (output : List ℕ) where
   judged c e Fine f =
       let may : MayAdd c b channel = record { code-is = e; fine = f } in
       let after : State = withHearing s (addedTo c (s .hearing) channel) in
-      ap (λ (t : State). decodedHeldWith After t limit output) (read-written after (sums.description-long c b channel may) (sums.sums-long c b channel may))
+      ap (λ (t : State). decodedHeldWith AfterFlip t limit output) (read-written after (sums.description-long c b channel may) (sums.sums-long c b channel may))
   judged c e (Refused x) f = refl
 
   coded : (a : Description) → codeOfState s ≡ a → Alike (onDescription a (refusedIn s) (λ c. addedUnder c s channel))
@@ -62,7 +62,7 @@ module _ (b channel : List ℕ) (limit : ℕ) (output : List ℕ) where
   preview-refused c x e f = ap in-copy e ∙ ap (under c) f
 
   pub preview-fine : (c : Code) → codeOfState s ≡ Coding c → judge (addRefusals c (s .hearing .count) channel) ≡ Fine
-      → previewedIn b channel limit output ≡ decodedHeldWith After (withHearing s (addedTo c (s .hearing) channel)) limit output
+      → previewedIn b channel limit output ≡ decodedHeldWith AfterFlip (withHearing s (addedTo c (s .hearing) channel)) limit output
   unfolding refusedOr
   preview-fine c e f = ap in-copy e ∙ ap (under c) f ∙ judged c e Fine f
 

@@ -9,7 +9,7 @@ use Rattle.refusal.specs.Judge.{judge, refusedOr}
 use Rattle.code.specs.declared.Code.{Code}
 use Rattle.code.specs.declared.Description.the-variants.{Accepted as Coding}
 use Rattle.code.specs.Description.{describe}
-use Rattle.flip_trial.specs.declared.Restart.the-variants.{After}
+use Rattle.flip_trial.specs.declared.Restart.the-variants.{AfterFlip}
 use Rattle.flip_run.specs.declared.Decoded.{Decoded}
 use Rattle.flip_run.specs.declared.Decoded.the-variants.{Refused}
 use Rattle.decoder.specs.Decoder.{decodedRestarted}
@@ -22,7 +22,7 @@ use Rattle.hearing_preview.specs.Preview.{previewedIn}
 -- the preview of an add to a state: the refusal of the add, or restarted decoding of the state that it leaves
 abbrev pub previewed : State → List ℕ → ℕ → List ℕ → Decoded × List ℕ
 previewed s channel limit output =
-    refusedOr (added s channel .0) (λ x. (Refused x, output)) (decodedHeldWith After (added s channel .1) limit output)
+    refusedOr (added s channel .0) (λ x. (Refused x, output)) (decodedHeldWith AfterFlip (added s channel .1) limit output)
 
 -- the preview in a buffer, whatever it holds, is that of its state: `on-a-copy`
 abbrev pub OnACopy : Type 0

@@ -19,11 +19,11 @@ ghost use Rattle.hearing_preview.specs.Contracts.{MayAdd};
 fn decode_sums(code: Code, buffer: &[u8], channel: &[u8], limit: u32, output: &mut [u8]) -> Decoded
     requires { ⌜ MayAdd code (now buffer) (now channel) ⌝ }
     ensures { λ a. ⌜ (a, now (output .exit))
-        ≡ decodedHeldWith Restart.After (withHearing (stateIn (now (buffer .entry)))
+        ≡ decodedHeldWith Restart.AfterFlip (withHearing (stateIn (now (buffer .entry)))
         (addedTo code (stateIn (now (buffer .entry)) .hearing) (now (channel .entry)))) limit (now (output .entry)) ⌝ }
 {
     let restarted = Terms {
-        restart: Restart::After,
+        restart: Restart::AfterFlip,
         limit,
     };
     let mut values = [0u8; SIZE];

@@ -7,7 +7,7 @@ use Rattle.laws.specs.First.{firstWhere}
 use Rattle.refusal.specs.declared.Refusal.the-variants.{Alone, At}
 use Rattle.refusal.specs.declared.Judgement.the-variants.{Fine, Refused}
 use Rattle.refusal.specs.Judge.{judge, refusedOr}
-use Rattle.arrays.specs.Sizes.{deepest}
+use Rattle.arrays.specs.Sizes.{largestN}
 use Rattle.code.specs.declared.Code.{Code}
 use Rattle.code.specs.declared.Description.{Description}
 use Rattle.code.specs.declared.Description.the-variants.{Accepted}
@@ -27,7 +27,7 @@ pub record StateExamples (s : State) : Type 0 where
   pub outside : addedUnder eight s (1 ∷ 32 ∷ 0 ∷ 0 ∷ 0 ∷ 0 ∷ 0 ∷ 0 ∷ []) ≡ (Refused (At 13 1), s)
   -- a clear leaves the description, zeros and count 0
   pub clear : (c : Code) → codeOfState s ≡ Accepted c
-      → cleared s ≡ (Fine, record { description = s .description; hearing = record { values = replicate (2 ^ deepest) 0; count = 0 } })
+      → cleared s ≡ (Fine, record { description = s .description; hearing = record { values = replicate (2 ^ largestN) 0; count = 0 } })
 
 pub state-examples : (s : State) → StateExamples s
 unfolding firstWhere judge refusedOr channelValue

@@ -6,7 +6,7 @@ use native.Mathlib.Omega.{arith}
 use lib.ListN.{length, drop}
 use Rattle.refusal.specs.declared.Refusal.the-variants.{Alone}
 use Rattle.refusal.specs.Judge.{judge, refusedOr}
-use Rattle.arrays.specs.Sizes.{deepest}
+use Rattle.arrays.specs.Sizes.{largestN}
 use Rattle.arrays.specs.Padded.{allZero}
 use Rattle.arrays.proofs.Zeros.{and-true}
 use Rattle.code.specs.declared.Code.{Code}
@@ -36,7 +36,7 @@ module _ (s : State) where
       go (Accepted c′) e f = at c′ (isState c′ s) e refl f
       go (Refused x) e f = let z : _≡_ {A = ℕ} 0 1 = cc in absurd (omega arith)
 
-  pub code-most : (c : Code) → codeOfState s ≡ Accepted c → c .n ≤ deepest
+  pub code-most : (c : Code) → codeOfState s ≡ Accepted c → c .n ≤ largestN
   code-most c e = described (descriptionOf s) c (state-is c e .0) .coded .n-most
 
   pub is-hearing : (c : Code) → codeOfState s ≡ Accepted c → isHearing c (s .hearing) ≡ true

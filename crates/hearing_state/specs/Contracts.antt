@@ -6,7 +6,7 @@ use lib.ListN.{length}
 use Rattle.refusal.specs.declared.Judgement.{Judgement}
 use Rattle.refusal.specs.declared.Judgement.the-variants.{Fine}
 use Rattle.refusal.specs.Judge.{judge, refusedOr}
-use Rattle.arrays.specs.Sizes.{deepest}
+use Rattle.arrays.specs.Sizes.{largestN}
 use Rattle.code.specs.declared.Code.{Code}
 use Rattle.code.specs.declared.Description.the-variants.{Accepted}
 use Rattle.code.specs.Code.{codeLength, longestDescription}
@@ -28,7 +28,7 @@ addedUnder c s channel =
 -- arrays of the sizes that a state has
 pub record StatePre (description values : List ℕ) : Type 0 where
   pub description-size : length description ≡ longestDescription
-  pub values-size : length values ≡ 2 ^ deepest
+  pub values-size : length values ≡ 2 ^ largestN
 
 -- a description at the beginning of some bytes, and values for its code
 pub record DecodePre (c : Code) (bytes values : List ℕ) : Type 0 where

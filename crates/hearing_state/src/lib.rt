@@ -7,7 +7,7 @@ use refusal::Refusal;
 ghost use mathlib.Core.Path.{_≡_};
 ghost use Prim.Native.Nat.{_≤_};
 ghost use lib.ListN.{length, take, drop};
-ghost use Rattle.arrays.specs.Sizes.{deepest};
+ghost use Rattle.arrays.specs.Sizes.{largestN};
 ghost use Rattle.arrays.specs.Padded.{allZero};
 ghost use Rattle.code.specs.Code.{codeLength};
 ghost use Rattle.code.specs.Description.{describe};
@@ -34,7 +34,7 @@ fn ends_in_zeros(bytes: &[u8]) -> bool
 
 // Whether a list of calls can leave a state with these parts, under the code that it describes.
 fn is_state(code: Code, description: &[u8], count: u8, values: &[u8]) -> bool
-    requires { ⌜ (code .n ≤ deepest)
+    requires { ⌜ (code .n ≤ largestN)
         × StatePre (now description) (now values) ⌝ }
     ensures { λ b. ⌜ b ≡ isState code (stateBy (now (description .entry)) count (now (values .entry))) ⌝ }
 {

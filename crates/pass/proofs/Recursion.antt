@@ -10,7 +10,7 @@ use lib.IntN.{ℤ}
 use lib.ListN.{length, take, drop}
 use Rattle.laws.specs.Contracts.{splice, segment}
 use Rattle.laws.proofs.Segment.{drop-past, segment-splice}
-use Rattle.arrays.specs.Sizes.{deepest}
+use Rattle.arrays.specs.Sizes.{largestN}
 use Rattle.arrays.proofs.Sizes.{fits, steps-fit, loudest}
 use Rattle.bits.specs.Claims.{Bits}
 use Rattle.bits.proofs.Lists.{bits-take, bits-drop}
@@ -50,11 +50,11 @@ module _ {room layer size n h base q : ℕ} {a : Arrays} {v : List ℤ} (rules :
   half : h + h ≤ room
   half = omega (arith, d .two, p .fits)
 
-  deep : n ≤ deepest
+  deep : n ≤ largestN
   deep = omega (arith, d .below, p .deep)
 
-  twice : most deepest n ≡ most deepest layer + most deepest layer
-  twice = most-below deepest n (omega (arith, d .below, p .deep)) ∙ ap (λ (k : ℕ). most deepest k + most deepest k) (sym (d .below))
+  twice : most largestN n ≡ most largestN layer + most largestN layer
+  twice = most-below largestN n (omega (arith, d .below, p .deep)) ∙ ap (λ (k : ℕ). most largestN k + most largestN k) (sym (d .below))
 
   -- after the left values
   module _ {w₁ : List ℤ} {done₁ : Work} (c₁ : ValuesPost (computedUnless (leb (base + h) q) (leftValues h v)) h (a .work) w₁ done₁) where
@@ -83,7 +83,7 @@ module _ {room layer size n h base q : ℕ} {a : Arrays} {v : List ℤ} (rules :
         leaves = p .whole .leaves;
       };
       bits = subst Bits (sym (by-halves.left-forced rules v split)) (bits-take h F (p .bits));
-      small = λ l. subst (Within (most deepest n)) (sym (left-own l)) (within-left h (within-more (omega (arith, twice)) (p .small more)));
+      small = λ l. subst (Within (most largestN n)) (sym (left-own l)) (within-left h (within-more (omega (arith, twice)) (p .small more)));
     }
 
     -- after the left node
@@ -186,7 +186,7 @@ module _ {room layer size n h base q : ℕ} {a : Arrays} (rules : List ℕ) (i :
   values-at {work} whole e = record {
     whole = whole;
     fits = omega (arith, i .halving .two, i .double);
-    small = subst (Within addable) (sym (own-values work e)) (within-more (omega (arith, loudest {n = deepest - layer} (omega arith))) (i .pre .small (i .more)));
+    small = subst (Within addable) (sym (own-values work e)) (within-more (omega (arith, loudest {n = largestN - layer} (omega arith))) (i .pre .small (i .more)));
   }
 
   pub inner-at : ValuesPre room (a .work) h

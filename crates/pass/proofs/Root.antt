@@ -11,7 +11,7 @@ use lib.Pow.{pow-pos}
 use lib.Seq.{take-take, length-take-le}
 use Rattle.laws.specs.Contracts.{splice, segment}
 use Rattle.laws.proofs.Segment.{splice-nil, splice-segment}
-use Rattle.arrays.specs.Sizes.{deepest}
+use Rattle.arrays.specs.Sizes.{largestN}
 use Rattle.bits.specs.Claims.{Bits}
 use Rattle.code.specs.declared.Code.{Code}
 use Rattle.code.specs.Code.{codeLength}
@@ -60,7 +60,7 @@ module _ {room q : ℕ} {c : Code} {channel : List ℕ} {a : Arrays} (rules : Li
     fits = omega (arith, p .long);
     whole = p .whole;
     bits = subst Bits (sym forced-at-root) (p .bits);
-    small = λ _. within-more (omega (arith, pow-pos (deepest - c .n))) (p .small);
+    small = λ _. within-more (omega (arith, pow-pos (largestN - c .n))) (p .small);
   }
 
   root-is : nodeOf (c .n) (length channel) 0 q rules (a .bits) (channelValues channel) ≡ o

@@ -5,7 +5,7 @@ use lib.ListN.{length, take, drop}
 use mathlib.Core.Path.{_≡_}
 use lib.IntN.{ℤ}
 use Rattle.laws.specs.Contracts.{splice}
-use Rattle.arrays.specs.Sizes.{deepest}
+use Rattle.arrays.specs.Sizes.{largestN}
 use Rattle.bits.specs.Claims.{Bits}
 use Rattle.code.specs.declared.Code.{Code}
 use Rattle.code.specs.Code.{codeLength}
@@ -24,11 +24,11 @@ pub record Ruled (n : ℕ) (rule : ℕ → Rule) (rules : List ℕ) : Type 0 whe
 -- a node that is worked on in the arrays
 pub record NodePre (room layer size base q : ℕ) (a : Arrays) (v : List ℤ) : Type 0 where
   pub pow : size ≡ 2 ^ layer
-  pub deep : layer ≤ deepest
+  pub deep : layer ≤ largestN
   pub fits : base + size ≤ room
   pub whole : Whole room a
   pub bits : Bits (forcedBits (a .bits) base size q)
-  pub small : q < base + size → Within (most deepest layer) v
+  pub small : q < base + size → Within (most largestN layer) v
 
 -- its results, with all values above its own left as they were
 pub record NodePost (layer size base q : ℕ) (rules : List ℕ) (v : List ℤ) (a a′ : Arrays) (done : Work) : Type 0 where
@@ -39,7 +39,7 @@ pub record NodePost (layer size base q : ℕ) (rules : List ℕ) (v : List ℤ) 
 -- a pass on a code's channel values whose first q bits are forced
 pub record PassPre (room : ℕ) (c : Code) (q : ℕ) (channel : List ℕ) (a : Arrays) : Type 0 where
   pub n-least : 1 ≤ c .n
-  pub n-most : c .n ≤ deepest
+  pub n-most : c .n ≤ largestN
   pub q-most : q ≤ codeLength c
   pub long : length channel ≡ codeLength c
   pub small : Within 31 (channelValues channel)

@@ -15,7 +15,7 @@ ghost use Prim.Native.Nat.{_+_, _^_, _<_, _≤_};
 ghost use lib.IntN.{natAbs};
 ghost use lib.ListN.{length, getD};
 ghost use Rattle.laws.specs.Contracts.{splice, segment};
-ghost use Rattle.arrays.specs.Sizes.{deepest};
+ghost use Rattle.arrays.specs.Sizes.{largestN};
 ghost use Rattle.transform.specs.Transform.{transformed};
 ghost use Rattle.transform.specs.Contracts.{BitsAt};
 ghost use Rattle.values.specs.Claims.{Within};
@@ -99,7 +99,7 @@ pub fn decode_four(
     requires { do
       ⌜ Sized (← ⟦SIZE⟧) (results (now bits) (now sums) (now leaves))
           × (base + 4 ≤ (← ⟦SIZE⟧))
-          × Within (most deepest 2) (segment (now work) 4 4) ⌝ }
+          × Within (most largestN 2) (segment (now work) 4 4) ⌝ }
     ensures { λ r. ⌜ NodeStored 2 4 base base (now (rules .entry)) (segment (now (work .entry)) 4 4)
         (results (now (bits .entry)) (now (sums .entry)) (now (leaves .entry)))
         (results (now (bits .exit)) (now (sums .exit)) (now (leaves .exit))) r ⌝ }

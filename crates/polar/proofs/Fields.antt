@@ -1,5 +1,5 @@
 -- Every answer of every export is read back from its number.
-use Rattle.flip_trial.specs.declared.Restart.the-variants.{Root, After}
+use Rattle.flip_trial.specs.declared.Restart.the-variants.{Root, AfterFlip}
 use Rattle.hearing_buffer.specs.Lent.{stateIn}
 use Rattle.polar_number.proofs.Fields.{number-fields}
 use Rattle.polar.specs.Claims.{ReadBack}
@@ -14,6 +14,6 @@ read-back = (
   λ b channel. number-fields _ (added-fits b channel),
   λ b. number-fields _ (cleared-fits b),
   λ b limit output. number-fields _ (held-fits Root (stateIn b) limit output),
-  λ b limit output. number-fields _ (held-fits After (stateIn b) limit output),
+  λ b limit output. number-fields _ (held-fits AfterFlip (stateIn b) limit output),
   λ b channel limit output. number-fields _ (previewed-fits b channel limit output),
 )

@@ -16,7 +16,7 @@ use Rattle.refusal.specs.declared.Judgement.the-variants.{Fine, Refused}
 use Rattle.refusal.specs.Judge.{differs, judge, refusedOr}
 use Rattle.refusal.proofs.Judge.{Judged, judged-reached}
 use Rattle.refusal.proofs.Tests.{differs-past}
-use Rattle.arrays.specs.Sizes.{deepest}
+use Rattle.arrays.specs.Sizes.{largestN}
 use Rattle.arrays.proofs.Sizes.{fits, steps-fit}
 use Rattle.code.specs.declared.Code.{Code}
 use Rattle.code.specs.declared.Description.{Description}
@@ -31,7 +31,7 @@ use Rattle.encoder.specs.Encode.{encodingRefusals, encodedBy, encoded}
 use Rattle.pass_tree.proofs.StepsMost.{steps-most}
 use Rattle.pass_resume.specs.Resume.{firstBad, resumingRefusals, resumedBy, resumed}
 use Rattle.flip_trial.specs.declared.Restart.{Restart}
-use Rattle.flip_trial.specs.declared.Restart.the-variants.{After}
+use Rattle.flip_trial.specs.declared.Restart.the-variants.{AfterFlip}
 use Rattle.flip_trial.specs.Trial.{trialPasses}
 use Rattle.flip_run.specs.declared.Decoded.{Decoded}
 use Rattle.flip_run.specs.Trials.{Verdict, passed, failed, run, answerOf}
@@ -64,7 +64,7 @@ alone : {i : ℕ} → i < 2 ^ 8 → RefusalFits (Alone i)
 alone l = fitting l (omega arith) (omega arith)
 
 -- an index below a length that is at most N
-module _ (c : Code) (n-most : c .n ≤ deepest) where
+module _ (c : Code) (n-most : c .n ≤ largestN) where
   at : {i index size : ℕ} → i < 2 ^ 8 → size ≤ codeLength c → ltb index size ≡ true → RefusalFits (At i index)
   at {i} {index} {size} l m t = fitting l (omega (arith, ltb-true index size t, fits n-most)) (omega arith)
 
@@ -134,7 +134,7 @@ ran-fits mask c output (passed trial steps bits) b = fitting (omega arith) (omeg
 ran-fits mask c output (failed made steps) b = fitting (omega arith) (omega (arith, b .0)) (omega (arith, b .1))
 
 -- the refusals of a decoder
-refusals-fit : (p : Decoder) (c : Code) → c .n ≤ deepest → (channel output : List ℕ) → Judged RefusalFits (judge (refusalsOf p c channel output))
+refusals-fit : (p : Decoder) (c : Code) → c .n ≤ largestN → (channel output : List ℕ) → Judged RefusalFits (judge (refusalsOf p c channel output))
 refusals-fit (single limit) c l channel output = judged-reached RefusalFits (refusalsOf (single limit) c channel output) (search (needs, alone, outside-fits c l channel))
 refusals-fit (sets w limit) c l channel output = judged-reached RefusalFits (refusalsOf (sets w limit) c channel output) (search (needs, alone, outside-fits c l channel) depth 9)
 
@@ -210,7 +210,7 @@ held-fits restart s limit output =
 
 -- a preview: the refusal of the add, or the answer of decoding
 previewed-by : (a : Kept × List ℕ) (limit : ℕ) (output : List ℕ) → Fits keptParts a → Fits decodedParts (thenRestartedIn a limit output)
-previewed-by (keep.Done count, copy) limit output f = held-fits After (stateIn copy) limit output
+previewed-by (keep.Done count, copy) limit output f = held-fits AfterFlip (stateIn copy) limit output
 previewed-by (keep.Refused x, copy) limit output f = f
 
 pub previewed-fits : (b channel : List ℕ) (limit : ℕ) (output : List ℕ) → Fits decodedParts (previewedIn b channel limit output)

@@ -57,5 +57,5 @@ keptParts (keep.Refused x) = refusalParts x
 -- the parts of a decoder's answer: refusal 16 carries its T
 abbrev pub decodedParts : Decoded → Parts
 decodedParts (decode.Accepted trial steps) = parts 0 trial steps
-decodedParts (decode.Failed trials steps) = parts 16 trials steps
+decodedParts (decode.Refused16 trials steps) = parts 16 trials steps
 decodedParts (decode.Refused x) = refusalParts x

@@ -57,7 +57,7 @@ pub fn decoded_answer(decoded: Decoded) -> u64
 {
     match decoded {
         Decoded::Accepted { trial, steps } => answer(0, trial as u64, steps as u64),
-        Decoded::Failed { trials, steps } => answer(16, trials as u64, steps as u64),
+        Decoded::Refused16 { trials, steps } => answer(16, trials as u64, steps as u64),
         Decoded::Refused(x) => refusal_answer(x),
     }
 }

@@ -9,14 +9,14 @@ use Rattle.refusal.specs.Judge.{judge, refusedOr, numberOf}
 use Rattle.bits.specs.Packing.{bytesFor}
 use Rattle.code.specs.Description.{word, describe, onDescription}
 use Rattle.flip_run.specs.declared.Decoded.{Decoded}
-use Rattle.flip_run.specs.declared.Decoded.the-variants.{Accepted, Failed, Refused}
+use Rattle.flip_run.specs.declared.Decoded.the-variants.{Accepted, Refused16, Refused}
 use Rattle.decoder.specs.Decoder.{decodedRestarted}
 use Rattle.receive_lines.specs.Line.{okLine, noLine}
 
--- the line of a decoder's answer and the payload that it wrote: refusal 16 is `Failed`
+-- the line of a decoder's answer and the payload that it wrote: refusal 16 is `Refused16`
 abbrev pub answerLine : Decoded → List ℕ → List ℕ
 answerLine (Accepted trial steps) payload = okLine trial steps payload
-answerLine (Failed trials steps) payload = noLine 16
+answerLine (Refused16 trials steps) payload = noLine 16
 answerLine (Refused x) payload = noLine (numberOf x)
 
 -- restarted decoding under the held description, into as many bytes as its payload takes

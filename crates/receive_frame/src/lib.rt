@@ -11,7 +11,7 @@ ghost use Prim.Native.Nat.{_≤_};
 ghost use lib.ListN.{length};
 ghost use Rattle.refusal.specs.Judge.{numberOf};
 ghost use Rattle.code.specs.Claims.{Coded};
-ghost use Rattle.flip_trial.specs.declared.Restart.the-variants.{After};
+ghost use Rattle.flip_trial.specs.declared.Restart.the-variants.{AfterFlip};
 ghost use Rattle.decoder.specs.Decoder.{single, decodedUnder};
 ghost use Rattle.receive_lines.specs.Line.{noLine};
 ghost use Rattle.receive_lines.specs.Contracts.{PutPost};
@@ -38,7 +38,7 @@ fn put_answer(line: &mut [u8], answer: Decoded, payload: &[u8]) -> usize
             steps as u64,
             payload,
         ),
-        Decoded::Failed {
+        Decoded::Refused16 {
             trials: _,
             steps: _,
         } => receive_lines::put_line(line, b"no", 16),
@@ -60,11 +60,11 @@ fn put_decoded(
           × (length (now payload) ≤ (← ⟦BYTES⟧))
           × ((← ⟦LINE⟧) ≤ length (now line)) ⌝ }
     ensures { λ next. ⌜ PutPost (now (line .entry)) 0
-        (lineOfAnswer (decodedUnder (single limit) After (now (mask .entry)) code (now (channel .entry)) (now (payload .entry))))
+        (lineOfAnswer (decodedUnder (single limit) AfterFlip (now (mask .entry)) code (now (channel .entry)) (now (payload .entry))))
         (now (line .exit)) next ⌝ }
 {
     let terms = Terms {
-        restart: Restart::After,
+        restart: Restart::AfterFlip,
         limit,
     };
     let answer = flip_decoder::decode_by(terms, mask, code, channel, payload);

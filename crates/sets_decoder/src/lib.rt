@@ -131,7 +131,7 @@ pub fn decode_sets_restarted(
     ensures { λ a. ⌜ (a, now (output .exit)) ≡ setsRestarted (now (description .entry)) (now (channel .entry)) w limit (now (output .entry)) ⌝ }
 {
     let restarted = Search {
-        restart: Restart::After,
+        restart: Restart::AfterFlip,
         w,
         limit,
     };

@@ -13,7 +13,7 @@ use Rattle.arrays.specs.Claims.{longest}
 use Rattle.bits.specs.Mask.{maskBit}
 use Rattle.decoder.specs.Candidate.{Candidate, pastLargest, doubtful, candidate, extensions}
 use Rattle.sets_queue.specs.declared.Stem.{Stem}
-use Rattle.sets_queue.specs.Contracts.{base, keyOf, insertKeys, Pool, SetPre, PoolPre, stemOf, StemFits, keyWith, keysWith, Inserted}
+use Rattle.sets_queue.specs.Contracts.{base, setKey, insertKeys, Pool, SetPre, PoolPre, stemOf, StemFits, keyWith, keysWith, Inserted}
 use Rattle.sets_queue.proofs.Inserting.{insert-none, insert-more}
 
 -- ---- insertions one after another
@@ -37,7 +37,7 @@ module _ (mask : List ℕ) (leaves : List ℤ) where
   pub keys-one : (s : Stem) (small j : ℕ) → maskBit mask j ≡ 1 → keysWith mask leaves s small j ≡ keyWith leaves s small j ∷ []
   keys-one s small j e = ap (λ (b : ℕ). cond (eqb b 1) (keyWith leaves s small j ∷ []) []) e
 
-  key-is : (is : List ℕ) (j small : ℕ) → length is ≤ 2 → small ≡ doubtful mask leaves (suc j) → keyOf (candidate mask leaves (is ++ (j ∷ []))) ≡ keyWith leaves (stemOf leaves is) small j
+  key-is : (is : List ℕ) (j small : ℕ) → length is ≤ 2 → small ≡ doubtful mask leaves (suc j) → setKey (candidate mask leaves (is ++ (j ∷ []))) ≡ keyWith leaves (stemOf leaves is) small j
   key-is [] j small l e = ap₂ (λ (m d : ℕ). m * base ^ 3 + d) (omega arith) (omega arith)
   key-is (a ∷ []) j small l e = ap₂ (λ (m d : ℕ). m * base ^ 3 + d) (omega arith) (omega arith)
   key-is (a ∷ b ∷ []) j small l e = ap₂ (λ (m d : ℕ). m * base ^ 3 + d) (omega arith) (omega arith)
@@ -46,20 +46,20 @@ module _ (mask : List ℕ) (leaves : List ℤ) where
   module _ (is : List ℕ) where
     -- one index more
     pub extension-keys : (j small : ℕ) → length is ≤ 2 → pastLargest is ≤ j → small ≡ doubtful mask leaves (j + 1)
-        → map keyOf (extensions mask leaves is (j + 1)) ≡ map keyOf (extensions mask leaves is j) ++ keysWith mask leaves (stemOf leaves is) small j
+        → map setKey (extensions mask leaves is (j + 1)) ≡ map setKey (extensions mask leaves is j) ++ keysWith mask leaves (stemOf leaves is) small j
     unfolding extensions
     extension-keys j small few l e =
-        ap (λ (n : ℕ). map keyOf (extensions mask leaves is n)) (add-one j)
+        ap (λ (n : ℕ). map setKey (extensions mask leaves is n)) (add-one j)
         ∙ map-append (extensions mask leaves is j) _
-        ∙ ap (λ (xs : List ℕ). map keyOf (extensions mask leaves is j) ++ xs)
-        (ap (λ (t : Bool). map keyOf (cond (eqb (maskBit mask j) 1 && t) (candidate mask leaves (is ++ (j ∷ [])) ∷ []) [])) (le-leb _ _ l)
+        ∙ ap (λ (xs : List ℕ). map setKey (extensions mask leaves is j) ++ xs)
+        (ap (λ (t : Bool). map setKey (cond (eqb (maskBit mask j) 1 && t) (candidate mask leaves (is ++ (j ∷ [])) ∷ []) [])) (le-leb _ _ l)
         ∙ go (eqb (maskBit mask j) 1) (key-is is j small few (e ∙ ap (doubtful mask leaves) (add-one j))))
       where
-        map-append : (xs ys : List Candidate) → map keyOf (xs ++ ys) ≡ map keyOf xs ++ map keyOf ys
+        map-append : (xs ys : List Candidate) → map setKey (xs ++ ys) ≡ map setKey xs ++ map setKey ys
         map-append [] ys = refl
-        map-append (x ∷ xs) ys = ap (λ (ks : List ℕ). keyOf x ∷ ks) (map-append xs ys)
+        map-append (x ∷ xs) ys = ap (λ (ks : List ℕ). setKey x ∷ ks) (map-append xs ys)
 
-        go : (t : Bool) → keyOf (candidate mask leaves (is ++ (j ∷ []))) ≡ keyWith leaves (stemOf leaves is) small j → map keyOf (cond (t && true) (candidate mask leaves (is ++ (j ∷ [])) ∷ []) []) ≡ cond t (keyWith leaves (stemOf leaves is) small j ∷ []) []
+        go : (t : Bool) → setKey (candidate mask leaves (is ++ (j ∷ []))) ≡ keyWith leaves (stemOf leaves is) small j → map setKey (cond (t && true) (candidate mask leaves (is ++ (j ∷ [])) ∷ []) []) ≡ cond t (keyWith leaves (stemOf leaves is) small j ∷ []) []
         go true f = ap (λ (k : ℕ). k ∷ []) f
         go false f = refl
 

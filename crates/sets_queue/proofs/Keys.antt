@@ -13,8 +13,8 @@ use Rattle.laws.specs.Insert.{insertBy, earlier}
 use Rattle.laws.proofs.Indices.{lt-cases}
 use Rattle.laws.proofs.Pairs.{take-member}
 use Rattle.laws.proofs.Insert.{insert-member}
-use Rattle.decoder.specs.Candidate.{Candidate, before, insertEach}
-use Rattle.sets_queue.specs.Contracts.{base, digits, keyOf, digitAt, indicesOf, Digits, insertKeys}
+use Rattle.decoder.specs.Candidate.{Candidate, precedes, insertEach}
+use Rattle.sets_queue.specs.Contracts.{base, digits, setKey, digitAt, indicesOf, Digits, insertKeys}
 
 -- two numbers of a high part and a low part below P
 less-parts : (P a b d e : ℕ) → d < P → e < P → ltb (a * P + d) (b * P + e) ≡ ltb a b || (eqb a b && ltb d e)
@@ -73,38 +73,38 @@ earlier-digits (suc p) (i ∷ is) (j ∷ js) d e =
 abbrev pub Keyed : Candidate → Type 0
 Keyed x = Digits 3 (x .flips)
 
-key-before : (x y : Candidate) → Keyed x → Keyed y → ltb (keyOf x) (keyOf y) ≡ before x y
+key-before : (x y : Candidate) → Keyed x → Keyed y → ltb (setKey x) (setKey y) ≡ precedes x y
 key-before x y d e =
     less-parts (base ^ 3) (x .metric) (y .metric) (digits 3 (x .flips)) (digits 3 (y .flips)) (digits-below 3 (x .flips) d) (digits-below 3 (y .flips) e)
     ∙ ap (λ (t : Bool). ltb (x .metric) (y .metric) || (eqb (x .metric) (y .metric) && t)) (earlier-digits 3 (x .flips) (y .flips) d e)
 
-keys-insert : (x : Candidate) (ys : List Candidate) → Keyed x → ((y : Candidate) → List·Memᴰ y ys → Keyed y) → map keyOf (insertBy before x ys) ≡ insertBy ltb (keyOf x) (map keyOf ys)
+keys-insert : (x : Candidate) (ys : List Candidate) → Keyed x → ((y : Candidate) → List·Memᴰ y ys → Keyed y) → map setKey (insertBy precedes x ys) ≡ insertBy ltb (setKey x) (map setKey ys)
 unfolding insertBy
 keys-insert x [] d e = refl
 keys-insert x (y ∷ ys) d e =
-    go (before x y) (keys-insert x ys d (λ z m. e z (List·Memᴰ·tail m)))
-    ∙ ap (λ (t : Bool). cond t (keyOf x ∷ keyOf y ∷ map keyOf ys) (keyOf y ∷ insertBy ltb (keyOf x) (map keyOf ys))) (sym (key-before x y d (e y (List·Memᴰ·head refl))))
+    go (precedes x y) (keys-insert x ys d (λ z m. e z (List·Memᴰ·tail m)))
+    ∙ ap (λ (t : Bool). cond t (setKey x ∷ setKey y ∷ map setKey ys) (setKey y ∷ insertBy ltb (setKey x) (map setKey ys))) (sym (key-before x y d (e y (List·Memᴰ·head refl))))
   where
-    go : (t : Bool) → map keyOf (insertBy before x ys) ≡ insertBy ltb (keyOf x) (map keyOf ys)
-        → map keyOf (cond t (x ∷ y ∷ ys) (y ∷ insertBy before x ys)) ≡ cond t (keyOf x ∷ keyOf y ∷ map keyOf ys) (keyOf y ∷ insertBy ltb (keyOf x) (map keyOf ys))
+    go : (t : Bool) → map setKey (insertBy precedes x ys) ≡ insertBy ltb (setKey x) (map setKey ys)
+        → map setKey (cond t (x ∷ y ∷ ys) (y ∷ insertBy precedes x ys)) ≡ cond t (setKey x ∷ setKey y ∷ map setKey ys) (setKey y ∷ insertBy ltb (setKey x) (map setKey ys))
     go true h = refl
-    go false h = ap (λ (ks : List ℕ). keyOf y ∷ ks) h
+    go false h = ap (λ (ks : List ℕ). setKey y ∷ ks) h
 
-keys-take : (m : ℕ) (xs : List Candidate) → map keyOf (take m xs) ≡ take m (map keyOf xs)
+keys-take : (m : ℕ) (xs : List Candidate) → map setKey (take m xs) ≡ take m (map setKey xs)
 keys-take zero xs = refl
 keys-take (suc m) [] = refl
-keys-take (suc m) (x ∷ xs) = ap (λ (ks : List ℕ). keyOf x ∷ ks) (keys-take m xs)
+keys-take (suc m) (x ∷ xs) = ap (λ (ks : List ℕ). setKey x ∷ ks) (keys-take m xs)
 
 -- each of some candidates in its place
 pub keys-insert-each : (m : ℕ) (xs ys : List Candidate) → ((x : Candidate) → List·Memᴰ x xs → Keyed x) → ((y : Candidate) → List·Memᴰ y ys → Keyed y)
-    → map keyOf (insertEach m xs ys) ≡ insertKeys m (map keyOf xs) (map keyOf ys)
+    → map setKey (insertEach m xs ys) ≡ insertKeys m (map setKey xs) (map setKey ys)
 unfolding insertEach insertKeys
 keys-insert-each m [] ys d e = refl
 keys-insert-each m (x ∷ xs) ys d e =
     let here : Keyed x = d x (List·Memᴰ·head refl) in
-    keys-insert-each m xs (take m (insertBy before x ys)) (λ z p. d z (List·Memᴰ·tail p))
-    (λ z p. ⊎-elim (λ q. subst Keyed (sym q) here) (e z) (insert-member before x ys (take-member m (insertBy before x ys) p)))
-    ∙ ap (insertKeys m (map keyOf xs)) (keys-take m (insertBy before x ys) ∙ ap (take m) (keys-insert x ys here e))
+    keys-insert-each m xs (take m (insertBy precedes x ys)) (λ z p. d z (List·Memᴰ·tail p))
+    (λ z p. ⊎-elim (λ q. subst Keyed (sym q) here) (e z) (insert-member precedes x ys (take-member m (insertBy precedes x ys) p)))
+    ∙ ap (insertKeys m (map setKey xs)) (keys-take m (insertBy precedes x ys) ∙ ap (take m) (keys-insert x ys here e))
 
 -- ---- a key's indices
 

@@ -9,7 +9,7 @@ use lib.ListN.{length, getD, take}
 use Rattle.laws.specs.Insert.{insertBy}
 use Rattle.arrays.specs.Claims.{longest}
 use Rattle.bits.specs.Mask.{maskBit}
-use Rattle.flip_order.specs.Order.{magnitude}
+use Rattle.flip_order.specs.Order.{magnitudeAt}
 use Rattle.flip_order.specs.Claims.{Pairwise}
 use Rattle.flip_order.specs.Contracts.{mostMagnitude}
 use Rattle.decoder.specs.Candidate.{Candidate, pastLargest, magnitudes}
@@ -28,8 +28,8 @@ digits (suc p) [] = 0
 digits (suc p) (i ∷ is) = suc i * base ^ p + digits p is
 
 -- the number of a set: its metric, then three digits
-abbrev pub keyOf : Candidate → ℕ
-keyOf x = x .metric * base ^ 3 + digits 3 (x .flips)
+abbrev pub setKey : Candidate → ℕ
+setKey x = x .metric * base ^ 3 + digits 3 (x .flips)
 
 -- the digit of a key that has this weight
 abbrev pub digitAt : ℕ → ℕ → ℕ
@@ -77,7 +77,7 @@ pub record Shifted (at end : ℕ) (keys keys′ : List ℕ) : Type 0 where
 
 -- the leaf values of the first n indices are so small that metrics fit
 pub record Small (n : ℕ) (leaves : List ℤ) : Type 0 where
-  pub at : (j : ℕ) → j < n → magnitude leaves j ≤ mostMagnitude
+  pub at : (j : ℕ) → j < n → magnitudeAt leaves j ≤ mostMagnitude
 
 -- as many indices as have a leaf value and a digit
 abbrev pub indexed : List ℤ → ℕ
@@ -94,7 +94,7 @@ pub record SetPre (n : ℕ) (leaves : List ℤ) (is : List ℕ) : Type 0 where
   pub few : length is ≤ 2
   pub below : (a : ℕ) → a < length is → getD is a 0 < n
   pub past : pastLargest is ≤ n
-  pub small : (a : ℕ) → a < length is → magnitude leaves (getD is a 0) ≤ mostMagnitude
+  pub small : (a : ℕ) → a < length is → magnitudeAt leaves (getD is a 0) ≤ mostMagnitude
 
 -- the places of a queue: it is from `low` to `count`, and may grow to `room`
 pub record PoolPre (low count room : ℕ) (keys : List ℕ) : Type 0 where
@@ -109,7 +109,7 @@ stemOf leaves is = record { sum = magnitudes leaves is; digits = digits 3 is; we
 -- a stem with one more index
 abbrev pub stemWith : List ℤ → Stem → ℕ → Stem
 stemWith leaves s i =
-    record { sum = s .sum + magnitude leaves i; digits = s .digits + (i + 1) * s .weight; weight = s .weight / base; from = i + 1 }
+    record { sum = s .sum + magnitudeAt leaves i; digits = s .digits + (i + 1) * s .weight; weight = s .weight / base; from = i + 1 }
 
 -- a stem whose keys fit a machine word
 pub record StemFits (s : Stem) : Type 0 where
@@ -119,11 +119,11 @@ pub record StemFits (s : Stem) : Type 0 where
 
 -- 1 if an index is doubtful, otherwise 0
 abbrev pub doubt : List ℕ → List ℤ → ℕ → ℕ
-doubt mask leaves j = cond (eqb (maskBit mask j) 1 && leb (magnitude leaves j) 20) 1 0
+doubt mask leaves j = cond (eqb (maskBit mask j) 1 && leb (magnitudeAt leaves j) 20) 1 0
 
 -- the key of the set that appends j to a stem, if `small` indices up to and including j are doubtful
 abbrev pub keyWith : List ℤ → Stem → ℕ → ℕ → ℕ
-keyWith leaves s small j = (s .sum + magnitude leaves j + 6 * small) * base ^ 3 + (s .digits + (j + 1) * s .weight)
+keyWith leaves s small j = (s .sum + magnitudeAt leaves j + 6 * small) * base ^ 3 + (s .digits + (j + 1) * s .weight)
 
 -- the keys of the sets that append j to a stem: none if j is frozen, otherwise one
 abbrev pub keysWith : List ℕ → List ℤ → Stem → ℕ → ℕ → List ℕ

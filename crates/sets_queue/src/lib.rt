@@ -4,10 +4,10 @@ ghost use mathlib.Core.Path.{_≡_};
 ghost use mathlib.Core.List.{[], _∷_, map};
 ghost use Prim.Native.Nat.{_*_, _^_, _≤_, _<_};
 ghost use lib.ListN.{length, take};
-ghost use Rattle.flip_order.specs.Order.{magnitude};
+ghost use Rattle.flip_order.specs.Order.{magnitudeAt};
 ghost use Rattle.flip_order.specs.Contracts.{mostMagnitude};
 ghost use Rattle.decoder.specs.Candidate.{doubtful, extensions};
-ghost use Rattle.sets_queue.specs.Contracts.{base, keyOf, digitAt, indicesOf, Place, Shifted, PoolPre, Inserted};
+ghost use Rattle.sets_queue.specs.Contracts.{base, setKey, digitAt, indicesOf, Place, Shifted, PoolPre, Inserted};
 ghost use Rattle.sets_queue.specs.Contracts.{indexed, WalkPre, SetPre, stemOf, stemWith, StemFits, doubt, keyWith, keysWith};
 
 // The base of a key's digits. The digit of an index is one above it; digit 0 stands for no index.
@@ -74,8 +74,8 @@ fn insert(key: u64, low: usize, count: usize, room: usize, keys: &mut [u64]) -> 
 // The magnitude of a leaf value.
 fn magnitude_at(leaves: &[i32], j: usize) -> u64
     requires { ⌜ (j < length (now leaves))
-        × (magnitude (now leaves) j < 2 ^ 31) ⌝ }
-    ensures { λ r. ⌜ r ≡ magnitude (now (leaves .entry)) j ⌝ }
+        × (magnitudeAt (now leaves) j < 2 ^ 31) ⌝ }
+    ensures { λ r. ⌜ r ≡ magnitudeAt (now (leaves .entry)) j ⌝ }
 {
     values::magnitude(leaves[j]) as u64
 }
@@ -113,7 +113,7 @@ fn doubtful(mask: &[u8], leaves: &[i32], end: usize) -> u64
 // A stem with one index more.
 fn stem_with(leaves: &[i32], stem: Stem, i: usize) -> Stem
     requires { ⌜ (i < indexed (now leaves))
-        × (magnitude (now leaves) i ≤ mostMagnitude)
+        × (magnitudeAt (now leaves) i ≤ mostMagnitude)
         × (stem .sum ≤ mostMagnitude)
         × (stem .digits ≤ base ^ 3)
         × (stem .weight ≤ base ^ 2) ⌝ }
@@ -152,7 +152,7 @@ fn stem_of(leaves: &[i32], set: &[usize]) -> Stem
 fn key_with(leaves: &[i32], stem: Stem, small: u64, j: usize) -> u64
     requires { do
       ⌜ (j < indexed (now leaves))
-          × (magnitude (now leaves) j ≤ mostMagnitude)
+          × (magnitudeAt (now leaves) j ≤ mostMagnitude)
           × StemFits stem
           × (small ≤ (← ⟦SIZE⟧)) ⌝ }
     ensures { λ r. ⌜ r ≡ keyWith (now (leaves .entry)) stem small j ⌝ }
@@ -204,7 +204,7 @@ pub fn extend(
         × SetPre (8 * length (now mask)) (now leaves) (now set)
         × PoolPre low count room (now keys) ⌝ }
     ensures { λ r. ⌜ Inserted low count room r
-        (map keyOf (extensions (now (mask .entry)) (now (leaves .entry)) (now (set .entry)) (8 * length (now (mask .entry)))))
+        (map setKey (extensions (now (mask .entry)) (now (leaves .entry)) (now (set .entry)) (8 * length (now (mask .entry)))))
         (now (keys .entry)) (now (keys .exit)) ⌝ }
 {
     let stem = stem_of(leaves, set);

@@ -25,7 +25,7 @@ use Rattle.decoder.specs.Tried.{tried}
 use Rattle.decoder.specs.Contracts.{generatedBy, triedBy}
 use Rattle.sets_tried.proofs.Members.{generated-flips}
 use Rattle.sets_tried.proofs.Same.{same-extensions}
-use Rattle.sets_queue.specs.Contracts.{keyOf, insertKeys, Pool, WalkPre, SetPre, Inserted}
+use Rattle.sets_queue.specs.Contracts.{setKey, insertKeys, Pool, WalkPre, SetPre, Inserted}
 use Rattle.sets_queue.proofs.Keys.{keys-insert-each}
 use Rattle.sets_run.specs.Contracts.{SetsPre, FirstPool}
 use Rattle.sets_run.proofs.Leaves.{leaf-first, first-small}
@@ -59,7 +59,7 @@ module _ {s : Search} {mask : List ℕ} {c : Code} {channel : List ℕ} {values 
       ∙ same-extensions mask (codeLength c) values (firstTrial mask c v .leaves) (λ j m e. ap natAbs (leaf-first kept j m)) [] (inl refl) (codeLength c) (omega arith)
       ∙ sym (ap (λ (t : Bool). cond t (extensions mask (firstTrial mask c v .leaves) [] (codeLength c)) []) (lt-ltb 0 (s .w) (on .flips-least)))
 
-  pub first-pool : {count : ℕ} {keys keys′ : List ℕ} → Inserted 0 0 (s .limit - 1) count (map keyOf (extensions mask values [] (8 * length mask))) keys keys′ → FirstPool s mask c channel count keys′
+  pub first-pool : {count : ℕ} {keys keys′ : List ℕ} → Inserted 0 0 (s .limit - 1) count (map setKey (extensions mask values [] (8 * length mask))) keys keys′ → FirstPool s mask c channel count keys′
   first-pool {count} {keys} {keys′} p =
       let m : s .limit - 1 - 0 ≡ s .limit - 1 = omega arith in
       let empty : Pool keys 0 0 [] = record { ends = refl; at = λ a l. absurd (omega arith); ordered = pairwise-nil } in
@@ -67,7 +67,7 @@ module _ {s : Search} {mask : List ℕ} {c : Code} {channel : List ℕ} {values 
         places = p .places;
         holds =
             subst (Pool keys′ 0 count)
-            (ap₂ (λ (k : ℕ) (new : List Candidate). insertKeys k (map keyOf new) []) m first-generated
+            (ap₂ (λ (k : ℕ) (new : List Candidate). insertKeys k (map setKey new) []) m first-generated
             ∙ sym (keys-insert-each (s .limit - 1) (generatedBy s mask c v []) []
             (λ x q. good-digits (on .frame .coded) (on .flips-most) (generated-flips s mask c v [] (inl refl) q)) (λ x q. absurd (List·Memᴰ·not-nil q))))
             (p .holds [] empty);

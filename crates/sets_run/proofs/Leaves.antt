@@ -15,7 +15,7 @@ use Rattle.values.specs.Values.{maskRule}
 use Rattle.values.specs.Claims.{Within}
 use Rattle.channel.specs.Channel.{channelValues}
 use Rattle.pass_tree.proofs.Leaves.{within-leaves}
-use Rattle.flip_order.specs.Order.{magnitude}
+use Rattle.flip_order.specs.Order.{magnitudeAt}
 use Rattle.flip_order.specs.Contracts.{mostMagnitude}
 use Rattle.flip_trial.specs.Trial.{firstTrial}
 use Rattle.flip_trial.specs.Contracts.{FirstLeaves}
@@ -29,7 +29,7 @@ module _ {room : ℕ} {mask : List ℕ} {c : Code} {channel : List ℕ} {values 
   pub leaf-first : getD values j (pos 0) ≡ getD (firstTrial mask c (channelValues channel) .leaves) j (pos 0)
   leaf-first = sym (getD-take (codeLength c) values j (pos 0) l) ∙ ap (λ (xs : List ℤ). getD xs j (pos 0)) (kept .values)
 
-  pub first-small : Coded mask c → Within 31 (channelValues channel) → magnitude values j ≤ mostMagnitude
+  pub first-small : Coded mask c → Within 31 (channelValues channel) → magnitudeAt values j ≤ mostMagnitude
   first-small coded small =
       omega (arith, ap natAbs leaf-first, within-leaves (c .n) 31 [] (maskRule mask) (channelValues channel) small .at j, loudest coded)
 

@@ -24,7 +24,7 @@ use Rattle.decoder.specs.Tried.{tried}
 use Rattle.decoder.specs.Contracts.{generatedBy, triedBy}
 use Rattle.sets_tried.specs.Claims.{FlipSet}
 use Rattle.sets_tried.proofs.Members.{insert-each-keeps, generated-flips, first-flips}
-use Rattle.sets_queue.specs.Contracts.{base, keyOf, digitAt, indicesOf, Digits, Pool, PoolPre, Inserted}
+use Rattle.sets_queue.specs.Contracts.{base, setKey, digitAt, indicesOf, Digits, Pool, PoolPre, Inserted}
 use Rattle.sets_queue.proofs.Pools.{pool-first, pool-next}
 use Rattle.sets_queue.proofs.Keys.{keys-insert-each, first-some, indices-back}
 use Rattle.sets_run.specs.Contracts.{SetsPre, FirstPool}
@@ -52,7 +52,7 @@ module _ (s : Search) (mask : List ℕ) (c : Code) (v : List ℤ) where
     pub rest : runOf 1 start (triedBy s mask c v) ≡ runOf (at + 1) steps (tried (generatedBy s mask c v) (s .limit - 1 - at) untried)
     pub few : steps ≤ mostSteps * (at + 1)
     pub each : (x : Candidate) → List·Memᴰ x untried → Good x
-    pub holds : Pool keys at end (map keyOf untried)
+    pub holds : Pool keys at end (map setKey untried)
     pub places : PoolPre at end (s .limit - 1) keys
 
 -- no set is tried yet
@@ -93,7 +93,7 @@ module _ {s : Search} {mask : List ℕ} {c : Code} {v : List ℤ} {channel : Lis
   digits : {is : List ℕ} → FlipSet mask (codeLength c) (s .w) is → Digits 3 is
   digits = good-digits (on .frame .coded) (on .flips-most)
 
-  key-is : getD keys at 0 ≡ keyOf x
+  key-is : getD keys at 0 ≡ setKey x
   key-is = pool-first (g .holds)
 
   pub next-some : 0 < digitAt (base ^ 2) (getD keys at 0)
@@ -135,7 +135,7 @@ module _ {s : Search} {mask : List ℕ} {c : Code} {v : List ℤ} {channel : Lis
           ∙ ap (λ (k : ℕ). passed (at + 1 + 1) (steps + k) (later .bits)) (sym took)
 
       -- it fails, and what it generates is inserted
-      pub search-goes-on : trialPasses mask c (laterTrial (s .restart) mask c v is .bits) ≡ false → t ≤ mostSteps → {r : ℕ} {keys′ : List ℕ} → Inserted (at + 1) end (s .limit - 1) r (map keyOf (generatedBy s mask c v is)) keys keys′
+      pub search-goes-on : trialPasses mask c (laterTrial (s .restart) mask c v is .bits) ≡ false → t ≤ mostSteps → {r : ℕ} {keys′ : List ℕ} → Inserted (at + 1) end (s .limit - 1) r (map setKey (generatedBy s mask c v is)) keys keys′
           → Searching s mask c v start (at + 1) r (steps + t) keys′ (insertEach (s .limit - 1 - (at + 1)) (generatedBy s mask c v is) xs)
       search-goes-on e l {r} {keys′} p =
           let good : (y : Candidate) → List·Memᴰ y new → Good s mask c v y = λ y. generated-flips s mask c v is (inr next-flips) in
@@ -149,6 +149,6 @@ module _ {s : Search} {mask : List ℕ} {c : Code} {v : List ℤ} {channel : Lis
             holds =
                 subst (Pool keys′ (at + 1) r)
                 (sym (keys-insert-each m new xs (λ y q. digits (good y q)) (λ y q. digits (left y q))))
-                (p .holds (map keyOf xs) (pool-next (g .holds)));
+                (p .holds (map setKey xs) (pool-next (g .holds)));
             places = p .places;
           }

@@ -20,7 +20,7 @@ use Rattle.decoder.specs.declared.Search.{Search}
 use Rattle.decoder.specs.Candidate.{Candidate, extensions, insertEach}
 use Rattle.decoder.specs.Decoder.{mostLimit}
 use Rattle.decoder.specs.Contracts.{generatedBy, setTrials}
-use Rattle.sets_queue.specs.Contracts.{keyOf, Small, Pool, PoolPre}
+use Rattle.sets_queue.specs.Contracts.{setKey, Small, Pool, PoolPre}
 
 -- where the trial of a set resumes
 abbrev pub resumedAt : Search → List ℕ → Code → List ℕ → ℕ
@@ -68,7 +68,7 @@ LeavesIfRead room s mask c channel values = 1 < s .w → FirstLeaves room mask c
 -- the sets that trial 1 generated are in their places
 pub record FirstPool (s : Search) (mask : List ℕ) (c : Code) (channel : List ℕ) (count : ℕ) (keys : List ℕ) : Type 0 where
   pub places : PoolPre 0 count (s .limit - 1) keys
-  pub holds : Pool keys 0 count (map keyOf (insertEach (s .limit - 1) (generatedBy s mask c (channelValues channel) []) []))
+  pub holds : Pool keys 0 count (map setKey (insertEach (s .limit - 1) (generatedBy s mask c (channelValues channel) []) []))
 
 -- how the run of a search ends
 abbrev pub verdictBy : Search → List ℕ → Code → List ℕ → Verdict

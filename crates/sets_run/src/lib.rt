@@ -16,7 +16,7 @@ ghost use Rattle.laws.specs.Contracts.{splice};
 ghost use Rattle.pass_ends.specs.Contracts.{arrays, Whole};
 ghost use Rattle.flip_trial.specs.Flips.{Flips};
 ghost use Rattle.flip_run.specs.Contracts.{LaterTrialsPre, FirstFailed, RunPost};
-ghost use Rattle.sets_queue.specs.Contracts.{keyOf, Small, PoolPre, Inserted};
+ghost use Rattle.sets_queue.specs.Contracts.{setKey, Small, PoolPre, Inserted};
 ghost use Rattle.sets_run.specs.Contracts.{LeavesPre, generatedFrom, SetsPre, SearchPre, LeavesIfRead, FirstPool, verdictBy, answerBy};
 
 // As many keys as there are later trials at most, with sets of more than one index.
@@ -63,7 +63,7 @@ fn generate(
           × LeavesPre search (8 * length (now mask)) q (now flips) (now values) (now leaves)
           × PoolPre low count (search .limit - 1) (now keys) ⌝ }
     ensures { λ r. ⌜ Inserted low count (search .limit - 1) r
-        (map keyOf (generatedFrom search (8 * length (now (mask .entry))) q (now (mask .entry))
+        (map setKey (generatedFrom search (8 * length (now (mask .entry))) q (now (mask .entry))
         (now (values .entry)) (now (leaves .entry)) (now (flips .entry))))
         (now (keys .entry)) (now (keys .exit)) ⌝ }
 {

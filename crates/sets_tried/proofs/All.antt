@@ -17,7 +17,7 @@ use Rattle.bits.specs.Mask.{maskBit}
 use Rattle.code.specs.declared.Code.{Code}
 use Rattle.code.specs.Code.{codeLength}
 use Rattle.decoder.specs.declared.Search.{Search}
-use Rattle.decoder.specs.Candidate.{pastLargest, Candidate, candidate, extensions, before}
+use Rattle.decoder.specs.Candidate.{pastLargest, Candidate, candidate, extensions, precedes}
 use Rattle.decoder.specs.Contracts.{leavesOf, generatedBy, triedBy}
 use Rattle.sets_tried.specs.Claims.{FlipSet, insertAll, triedOfAll}
 use Rattle.sets_tried.proofs.Members.{past-last}
@@ -28,13 +28,13 @@ use Rattle.sets_tried.proofs.Kept.{kept-loses-nothing}
 all-stay : (xs ys : List Candidate) {z : Candidate} → List·Memᴰ z ys → List·Memᴰ z (insertAll xs ys)
 unfolding insertAll
 all-stay [] ys p = p
-all-stay (x ∷ xs) ys p = all-stay xs (insertBy before x ys) (member-insert before x ys (List·Memᴰ·tail p))
+all-stay (x ∷ xs) ys p = all-stay xs (insertBy precedes x ys) (member-insert precedes x ys (List·Memᴰ·tail p))
 
 all-here : (xs ys : List Candidate) {z : Candidate} → List·Memᴰ z xs → List·Memᴰ z (insertAll xs ys)
 unfolding insertAll
 all-here [] ys p = absurd (List·Memᴰ·not-nil p)
 all-here (x ∷ xs) ys p =
-    ⊎-elim (λ e. all-stay xs (insertBy before x ys) (member-insert before x ys (List·Memᴰ·head e))) (all-here xs (insertBy before x ys)) (List·Memᴰ·cases-cons p)
+    ⊎-elim (λ e. all-stay xs (insertBy precedes x ys) (member-insert precedes x ys (List·Memᴰ·head e))) (all-here xs (insertBy precedes x ys)) (List·Memᴰ·cases-cons p)
 
 -- ---- a search that ends while trials remain
 

@@ -12,7 +12,7 @@ use Rattle.laws.proofs.Insert.{take-insert}
 use Rattle.code.specs.declared.Code.{Code}
 use Rattle.flip_trial.specs.declared.Restart.{Restart}
 use Rattle.decoder.specs.declared.Search.{Search}
-use Rattle.decoder.specs.Candidate.{Candidate, before, insertEach}
+use Rattle.decoder.specs.Candidate.{Candidate, precedes, insertEach}
 use Rattle.decoder.specs.Tried.{tried}
 use Rattle.decoder.specs.Contracts.{searchOf, generatedBy, triedBy}
 use Rattle.sets_tried.specs.Claims.{insertAll, triedOfAll}
@@ -22,7 +22,7 @@ use Rattle.sets_tried.specs.Claims.{insertAll, triedOfAll}
 insert-each-take : (m : ℕ) (xs ys : List Candidate) → insertEach m xs (take m ys) ≡ take m (insertAll xs ys)
 unfolding insertEach insertAll
 insert-each-take m [] ys = refl
-insert-each-take m (x ∷ xs) ys = ap (insertEach m xs) (take-insert before m x ys) ∙ insert-each-take m xs (insertBy before x ys)
+insert-each-take m (x ∷ xs) ys = ap (insertEach m xs) (take-insert precedes m x ys) ∙ insert-each-take m xs (insertBy precedes x ys)
 
 -- with room for all of them, all are kept
 pub insert-each-all : (xs ys : List Candidate) → insertEach (length ys + length (insertAll xs ys)) xs ys ≡ insertAll xs ys

@@ -14,7 +14,7 @@ use Rattle.laws.proofs.Insert.{insert-member, insert-pairs}
 use Rattle.laws.proofs.Earlier.{first-by-trans, not-first, first-by-either, earlier-trans, not-earlier, neither-earlier}
 use Rattle.code.specs.declared.Code.{Code}
 use Rattle.decoder.specs.declared.Search.{Search}
-use Rattle.decoder.specs.Candidate.{Candidate, before}
+use Rattle.decoder.specs.Candidate.{Candidate, precedes}
 use Rattle.decoder.specs.Contracts.{generatedBy, triedBy}
 use Rattle.sets_tried.specs.Claims.{insertAll, triedOfAll, untriedAfter, OwnMetric, LeastFirst}
 use Rattle.sets_tried.proofs.Members.{generated-metric}
@@ -23,18 +23,18 @@ use Rattle.sets_tried.proofs.Sets.{Apart, Searching, search-on, search-
 
 -- ---- the order
 
-before-trans : (x y z : Candidate) → before x y ≡ true → before y z ≡ true → before x z ≡ true
+before-trans : (x y z : Candidate) → precedes x y ≡ true → precedes y z ≡ true → precedes x z ≡ true
 before-trans x y z =
     first-by-trans (x .metric) (y .metric) (z .metric) (earlier (x .flips) (y .flips)) (earlier (y .flips) (z .flips)) (earlier (x .flips) (z .flips))
     (earlier-trans (x .flips) (y .flips) (z .flips))
 
 -- what is not before y is not before what is before y
-not-before : (x y z : Candidate) → before x y ≡ true → before z y ≡ false → before z x ≡ false
-not-before x y z p q = is-false (before z x) (λ e. true≢false (sym (before-trans z x y e p) ∙ q))
+not-before : (x y z : Candidate) → precedes x y ≡ true → precedes z y ≡ false → precedes z x ≡ false
+not-before x y z p q = is-false (precedes z x) (λ e. true≢false (sym (before-trans z x y e p) ∙ q))
 
 -- of two different sets that one comes first which the other is not before
-comes-before : (x y : Candidate) → (x .flips ≡ y .flips → ⊥) → before y x ≡ false → before x y ≡ true
-comes-before x y f p = is-true (before x y) (λ e.
+comes-before : (x y : Candidate) → (x .flips ≡ y .flips → ⊥) → precedes y x ≡ false → precedes x y ≡ true
+comes-before x y f p = is-true (precedes x y) (λ e.
     let q = first-by-either (x .metric) (y .metric) (earlier (x .flips) (y .flips)) (earlier (y .flips) (x .flips)) e p in
     f (neither-earlier (x .flips) (y .flips) (q .1) (q .2)))
 
@@ -42,24 +42,24 @@ comes-before x y f p = is-true (before x y) (λ e.
 
 -- of some candidates none is before one that stands before it
 abbrev InOrder : List Candidate → Type 0
-InOrder = Pairs (λ x y. before y x ≡ false)
+InOrder = Pairs (λ x y. precedes y x ≡ false)
 
-insert-order : (x : Candidate) (ys : List Candidate) → InOrder ys → InOrder (insertBy before x ys)
+insert-order : (x : Candidate) (ys : List Candidate) → InOrder ys → InOrder (insertBy precedes x ys)
 insert-order x ys =
-    insert-pairs before x ys
-    (λ y z _ b. ⊎-elim (λ e. subst (λ (u : Candidate). before u x ≡ false) (sym e) (not-before x y y b (not-first (y .metric) _ (not-earlier (y .flips))))) (not-before x y z b))
+    insert-pairs precedes x ys
+    (λ y z _ b. ⊎-elim (λ e. subst (λ (u : Candidate). precedes u x ≡ false) (sym e) (not-before x y y b (not-first (y .metric) _ (not-earlier (y .flips))))) (not-before x y z b))
     (λ y _ b. b)
 
 insert-all-order : (xs ys : List Candidate) → InOrder ys → InOrder (insertAll xs ys)
 unfolding insertAll
 insert-all-order [] ys p = p
-insert-all-order (x ∷ xs) ys p = insert-all-order xs (insertBy before x ys) (insert-order x ys p)
+insert-all-order (x ∷ xs) ys p = insert-all-order xs (insertBy precedes x ys) (insert-order x ys p)
 
 insert-all-member : (xs ys : List Candidate) {z : Candidate} → List·Memᴰ z (insertAll xs ys) → List·Memᴰ z xs ⊎ List·Memᴰ z ys
 unfolding insertAll
 insert-all-member [] ys p = inr p
 insert-all-member (x ∷ xs) ys p =
-    ⊎-elim (λ q. inl (List·Memᴰ·tail q)) (λ q. ⊎-elim (λ e. inl (List·Memᴰ·head e)) (λ r. inr r) (insert-member before x ys q)) (insert-all-member xs (insertBy before x ys) p)
+    ⊎-elim (λ q. inl (List·Memᴰ·tail q)) (λ q. ⊎-elim (λ e. inl (List·Memᴰ·head e)) (λ r. inr r) (insert-member precedes x ys q)) (insert-all-member xs (insertBy precedes x ys) p)
 
 module _ (generate : List ℕ → List Candidate) where
   untried-order : (t : ℕ) (untried : List Candidate) → InOrder untried → InOrder (untriedAfter generate t untried)

@@ -20,7 +20,7 @@ use Rattle.flip_order.proofs.Pairwise.{place-of, pairwise-snoc}
 use Rattle.flip_trial.specs.Flips.{Flips}
 use Rattle.flip_trial.proofs.Flips.{flips-one}
 use Rattle.decoder.specs.declared.Search.{Search}
-use Rattle.decoder.specs.Candidate.{pastLargest, metricOf, Candidate, candidate, extensions, before, insertEach}
+use Rattle.decoder.specs.Candidate.{pastLargest, metricOf, Candidate, candidate, extensions, precedes, insertEach}
 use Rattle.decoder.specs.Contracts.{leavesOf, generatedBy}
 use Rattle.sets_tried.specs.Claims.{FlipSet, Extends, OwnMetric}
 
@@ -31,8 +31,8 @@ unfolding insertEach
 insert-each-member m [] ys p = inr p
 insert-each-member m (x ∷ xs) ys p =
     ⊎-elim (λ q. inl (List·Memᴰ·tail q))
-    (λ q. ⊎-elim (λ e. inl (List·Memᴰ·head e)) (λ r. inr r) (insert-member before x ys (take-member m (insertBy before x ys) q)))
-    (insert-each-member m xs (take m (insertBy before x ys)) p)
+    (λ q. ⊎-elim (λ e. inl (List·Memᴰ·head e)) (λ r. inr r) (insert-member precedes x ys (take-member m (insertBy precedes x ys) q)))
+    (insert-each-member m xs (take m (insertBy precedes x ys)) p)
 
 -- what the old and the new ones have, those that are kept have
 pub insert-each-keeps : (P : Candidate → Type 0) (m : ℕ) (xs ys : List Candidate) → ((x : Candidate) → List·Memᴰ x xs → P x) → ((x : Candidate) → List·Memᴰ x ys → P x) → (x : Candidate) → List·Memᴰ x (insertEach m xs ys) → P x

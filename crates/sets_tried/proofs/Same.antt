@@ -17,7 +17,7 @@ use Rattle.code.specs.declared.Code.{Code}
 use Rattle.code.specs.Code.{codeLength}
 use Rattle.values.specs.Values.{maskRule}
 use Rattle.pass_tree.proofs.Node.{length-leaves}
-use Rattle.flip_order.specs.Order.{magnitude}
+use Rattle.flip_order.specs.Order.{magnitudeAt}
 use Rattle.flip_trial.specs.declared.Restart.{Restart}
 use Rattle.flip_trial.specs.declared.Restart.the-variants.{Root}
 use Rattle.flip_trial.specs.Trial.{firstTrial, restartAt, laterTrial}
@@ -34,8 +34,8 @@ use Rattle.sets_tried.proofs.Members.{insert-each-keeps, tests-ind, pas
 
 -- ---- metrics of two lists of leaf values that agree at information indices
 
-module _ (mask : List ℕ) (size : ℕ) (leaves leaves′ : List ℤ) (agree : (j : ℕ) → j < size → maskBit mask j ≡ 1 → magnitude leaves j ≡ magnitude leaves′ j) where
-  same-magnitudes : (is : List ℕ) → ((a : ℕ) → a < length is → magnitude leaves (getD is a 0) ≡ magnitude leaves′ (getD is a 0)) → magnitudes leaves is ≡ magnitudes leaves′ is
+module _ (mask : List ℕ) (size : ℕ) (leaves leaves′ : List ℤ) (agree : (j : ℕ) → j < size → maskBit mask j ≡ 1 → magnitudeAt leaves j ≡ magnitudeAt leaves′ j) where
+  same-magnitudes : (is : List ℕ) → ((a : ℕ) → a < length is → magnitudeAt leaves (getD is a 0) ≡ magnitudeAt leaves′ (getD is a 0)) → magnitudes leaves is ≡ magnitudes leaves′ is
   same-magnitudes [] f = refl
   same-magnitudes (i ∷ is) f = ap₂ (λ (m n : ℕ). m + n) (f 0 (omega arith)) (same-magnitudes is (λ a l. f (suc a) (omega arith)))
 
@@ -47,10 +47,10 @@ module _ (mask : List ℕ) (size : ℕ) (leaves leaves′ : List ℤ) (agree : (
       counts : ℕ → ℕ → ℕ
       counts b m = cond (eqb b 1 && leb m 20) 1 0
 
-      frozen : maskBit mask n ≡ 0 → counts (maskBit mask n) (magnitude leaves n) ≡ counts (maskBit mask n) (magnitude leaves′ n)
-      frozen e = ap (λ (b : ℕ). counts b (magnitude leaves n)) e ∙ ap (λ (b : ℕ). counts b (magnitude leaves′ n)) (sym e)
+      frozen : maskBit mask n ≡ 0 → counts (maskBit mask n) (magnitudeAt leaves n) ≡ counts (maskBit mask n) (magnitudeAt leaves′ n)
+      frozen e = ap (λ (b : ℕ). counts b (magnitudeAt leaves n)) e ∙ ap (λ (b : ℕ). counts b (magnitudeAt leaves′ n)) (sym e)
 
-      information : maskBit mask n ≡ 1 → counts (maskBit mask n) (magnitude leaves n) ≡ counts (maskBit mask n) (magnitude leaves′ n)
+      information : maskBit mask n ≡ 1 → counts (maskBit mask n) (magnitudeAt leaves n) ≡ counts (maskBit mask n) (magnitudeAt leaves′ n)
       information e = ap (counts (maskBit mask n)) (agree n l e)
 
   same-metric : {is : List ℕ} → Flips mask size is → metricOf mask leaves is ≡ metricOf mask leaves′ is
@@ -90,7 +90,7 @@ module _ (mask : List ℕ) (c : Code) (v : List ℤ) where
       ∙ same-leaf mask c v (i ∷ is) p q on j l e
 
   module _ (a b : Restart) where
-    same-leaves : (is : List ℕ) → (is ≡ []) ⊎ Flips mask (codeLength c) is → (j : ℕ) → j < codeLength c → maskBit mask j ≡ 1 → magnitude (leavesOf a mask c v is) j ≡ magnitude (leavesOf b mask c v is) j
+    same-leaves : (is : List ℕ) → (is ≡ []) ⊎ Flips mask (codeLength c) is → (j : ℕ) → j < codeLength c → maskBit mask j ≡ 1 → magnitudeAt (leavesOf a mask c v is) j ≡ magnitudeAt (leavesOf b mask c v is) j
     same-leaves [] p j l e = refl
     same-leaves (i ∷ is) (inl z) j l e = absurd (omega (arith, ap length z))
     same-leaves (i ∷ is) (inr p) j l e = ap natAbs (leaf-of a i is p j l e ∙ sym (leaf-of b i is p j l e))

@@ -17,7 +17,7 @@ use Rattle.bits.specs.Mask.{maskBit}
 use Rattle.code.specs.declared.Code.{Code}
 use Rattle.code.specs.Code.{codeLength}
 use Rattle.decoder.specs.declared.Search.{Search}
-use Rattle.decoder.specs.Candidate.{pastLargest, Candidate, candidate, extensions, before, insertEach}
+use Rattle.decoder.specs.Candidate.{pastLargest, Candidate, candidate, extensions, precedes, insertEach}
 use Rattle.decoder.specs.Tried.{tried}
 use Rattle.decoder.specs.Contracts.{leavesOf, generatedBy, triedBy}
 use Rattle.sets_tried.specs.Claims.{FlipSet}
@@ -64,9 +64,9 @@ unfolding insertEach
 apart-insert-each m [] ys f p q = q
 apart-insert-each m (x ∷ xs) ys f p q =
     let here = List·Memᴰ·head refl in
-    apart-insert-each m xs (take m (insertBy before x ys))
-    (λ z y r t e. ⊎-elim (λ i. pairs-head p z r (ap (λ (u : Candidate). u .flips) (sym i) ∙ sym e)) (λ k. f z y (List·Memᴰ·tail r) k e) (insert-member before x ys (take-member m (insertBy before x ys) t)))
-    (pairs-tail p) (pairs-take m (insertBy before x ys) (insert-pairs before x ys (λ y z r _ _. f x z here r) (λ y r _ e. f x y here r (sym e)) q))
+    apart-insert-each m xs (take m (insertBy precedes x ys))
+    (λ z y r t e. ⊎-elim (λ i. pairs-head p z r (ap (λ (u : Candidate). u .flips) (sym i) ∙ sym e)) (λ k. f z y (List·Memᴰ·tail r) k e) (insert-member precedes x ys (take-member m (insertBy precedes x ys) t)))
+    (pairs-tail p) (pairs-take m (insertBy precedes x ys) (insert-pairs precedes x ys (λ y z r _ _. f x z here r) (λ y r _ e. f x y here r (sym e)) q))
 
 -- two sets that have an index more each
 snoc-same : (is js : List ℕ) (i j : ℕ) → is ++ (i ∷ []) ≡ js ++ (j ∷ []) → (is ≡ js) × (i ≡ j)

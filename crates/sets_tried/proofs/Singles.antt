@@ -23,15 +23,15 @@ use Rattle.flip_order.specs.Claims.{Pairwise, Distinct}
 use Rattle.flip_order.proofs.Pairwise.{pairwise-nil, pairwise-cons, pairwise-tail, pairwise-head}
 use Rattle.flip_order.proofs.Information.{member-information, permuted-information}
 use Rattle.flip_trial.specs.Trial.{firstTrial}
-use Rattle.decoder.specs.Candidate.{metricOf, Candidate, candidate, extensions, before}
+use Rattle.decoder.specs.Candidate.{metricOf, Candidate, candidate, extensions, precedes}
 use Rattle.decoder.specs.Contracts.{searchOf, generatedBy}
 use Rattle.sets_tried.specs.Claims.{insertAll, triedOfAll, MetricFirst, Singles}
 use Rattle.sets_tried.proofs.Kept.{kept-loses-nothing}
 
-insert-all-snoc : (xs : List Candidate) (x : Candidate) (ys : List Candidate) → insertAll (xs ++ (x ∷ [])) ys ≡ insertBy before x (insertAll xs ys)
+insert-all-snoc : (xs : List Candidate) (x : Candidate) (ys : List Candidate) → insertAll (xs ++ (x ∷ [])) ys ≡ insertBy precedes x (insertAll xs ys)
 unfolding insertAll
 insert-all-snoc [] x ys = refl
-insert-all-snoc (z ∷ xs) x ys = insert-all-snoc xs x (insertBy before z ys)
+insert-all-snoc (z ∷ xs) x ys = insert-all-snoc xs x (insertBy precedes z ys)
 
 module _ (mask : List ℕ) (leaves : List ℤ) where
   abbrev single : ℕ → Candidate
@@ -46,24 +46,24 @@ module _ (mask : List ℕ) (leaves : List ℤ) where
   first-trans i j k p q =
       ⊎-elim (λ l. ⊎-elim (λ m. inl (omega arith)) (λ m. inl (omega arith)) q) (λ l. ⊎-elim (λ m. inl (omega arith)) (λ m. inr (omega arith)) q) p
 
-  before-first : (i j : ℕ) → before (single i) (single j) ≡ true → MetricFirst mask leaves i j
+  before-first : (i j : ℕ) → precedes (single i) (single j) ≡ true → MetricFirst mask leaves i j
   before-first i j h =
       ⊎-elim (λ l. inl l)
       (λ p. inr (p .0, ⊎-elim (λ l. l) (λ q. absurd (true≢false (sym (q .1)))) (first-by-of i j false (p .1))))
       (first-by-of (metric i) (metric j) (ltb i j || (eqb i j && false)) h)
 
-  after-first : (i j : ℕ) → j < i → before (single i) (single j) ≡ false → MetricFirst mask leaves j i
+  after-first : (i j : ℕ) → j < i → precedes (single i) (single j) ≡ false → MetricFirst mask leaves j i
   after-first i j l e =
       let m : metric j ≤ metric i = ltb-false _ _ (or-false (ltb (metric i) (metric j)) _ e .0) in
       lt-cases (metric j) (metric i) (λ k. inl k) (λ k. inr (omega arith))
 
   -- an index above the others is inserted
-  insert-single : (i : ℕ) (js : List ℕ) → ((j : ℕ) → List·Memᴰ j js → j < i) → Pairwise (MetricFirst mask leaves) js → (ks : List ℕ) × (insertBy before (single i) (map single js) ≡ map single ks) × List·Permᴰ ks (i ∷ js) × Pairwise (MetricFirst mask leaves) ks
+  insert-single : (i : ℕ) (js : List ℕ) → ((j : ℕ) → List·Memᴰ j js → j < i) → Pairwise (MetricFirst mask leaves) js → (ks : List ℕ) × (insertBy precedes (single i) (map single js) ≡ map single ks) × List·Permᴰ ks (i ∷ js) × Pairwise (MetricFirst mask leaves) ks
   unfolding insertBy
   insert-single i [] above s = (i ∷ [], refl, Permᴰ·refl (i ∷ []), pairwise-cons (λ k m. absurd (List·Memᴰ·not-nil m)) s)
   insert-single i (j ∷ js) above s =
       let r = insert-single i js (λ k m. above k (List·Memᴰ·tail m)) (pairwise-tail s) in
-      insert-cases before (λ xs. (ks : List ℕ) × (xs ≡ map single ks) × List·Permᴰ ks (i ∷ j ∷ js) × Pairwise (MetricFirst mask leaves) ks) (single i) (single j) (map single js)
+      insert-cases precedes (λ xs. (ks : List ℕ) × (xs ≡ map single ks) × List·Permᴰ ks (i ∷ j ∷ js) × Pairwise (MetricFirst mask leaves) ks) (single i) (single j) (map single js)
       (λ h. (
         i ∷ j ∷ js,
         refl,
@@ -98,7 +98,7 @@ module _ (mask : List ℕ) (leaves : List ℤ) where
       go true r =
           let s = insert-single n (r .0) (λ k m. member-information mask n k (permutation-member (r .2) m) .0) (r .3) in (
             s .0,
-            ap (λ (u : Bool). insertAll (es ++ cond u (single n ∷ []) []) []) (leb·zero n) ∙ insert-all-snoc es (single n) [] ∙ ap (insertBy before (single n)) (r .1) ∙ s .1,
+            ap (λ (u : Bool). insertAll (es ++ cond u (single n ∷ []) []) []) (leb·zero n) ∙ insert-all-snoc es (single n) [] ∙ ap (insertBy precedes (single n)) (r .1) ∙ s .1,
             List·Permᴰ·trans (List·Permᴰ·trans (s .2) (List·Permᴰ·cons refl (r .2))) (Permᴰ·symm (List·Permᴰ·trans (Permᴰ·middle n is []) (List·Permᴰ·cons refl (Permᴰ·append-nil is)))),
             s .3,
           )

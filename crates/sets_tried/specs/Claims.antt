@@ -16,7 +16,7 @@ use Rattle.flip_trial.specs.declared.Restart.{Restart}
 use Rattle.flip_trial.specs.Trial.{firstTrial, member, laterTrial}
 use Rattle.flip_trial.specs.Flips.{Flips}
 use Rattle.decoder.specs.declared.Search.{Search}
-use Rattle.decoder.specs.Candidate.{pastLargest, metricOf, Candidate, candidate, before}
+use Rattle.decoder.specs.Candidate.{pastLargest, metricOf, Candidate, candidate, precedes}
 use Rattle.decoder.specs.Contracts.{searchOf, leavesOf, generatedBy, triedBy}
 
 -- a set that a trial can flip, of at most w indices: `flip-set-each` of proofs/Sets.antt proves it of each set that is tried
@@ -41,7 +41,7 @@ Extends mask leaves is n x =
 -- each of some candidates in its place, as by `insertEach`, but all are kept
 unfoldable pub insertAll : List Candidate → List Candidate → List Candidate
 insertAll [] untried = untried
-insertAll (x ∷ xs) untried = insertAll xs (insertBy before x untried)
+insertAll (x ∷ xs) untried = insertAll xs (insertBy precedes x untried)
 
 -- the sets that are tried while m trials remain by a search that keeps every untried set. `kept-loses-nothing` of proofs/Kept.antt proves
 -- that they are those of `tried`.
@@ -74,7 +74,7 @@ pub record LeastFirst (s : Search) (mask : List ℕ) (c : Code) (v : List ℤ) (
   pub untried-are : untriedAfter (generatedBy s mask c v) t (insertAll (generatedBy s mask c v []) []) ≡ next ∷ others
   pub tries : getD (triedBy s mask c v) t [] ≡ next .flips
   -- it comes before all others
-  pub least : (y : Candidate) → List·Memᴰ y others → before next y ≡ true
+  pub least : (y : Candidate) → List·Memᴰ y others → precedes next y ≡ true
   pub metrics : (y : Candidate) → List·Memᴰ y (next ∷ others) → OwnMetric s mask c v y
 
 -- the set of i alone has the smaller metric, or an equal metric and the lower index

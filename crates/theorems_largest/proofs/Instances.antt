@@ -7,7 +7,7 @@ use lib.IntN.{pos, natAbs}
 use lib.ListN.{getD, replicate}
 use Rattle.laws.specs.First.{firstWhere}
 use Rattle.refusal.specs.Judge.{judge, refusedOr}
-use Rattle.arrays.specs.Sizes.{deepest}
+use Rattle.arrays.specs.Sizes.{largestN}
 use Rattle.arrays.specs.Claims.{longest}
 use Rattle.bits.specs.Mask.{onesBelow}
 use Rattle.code.specs.declared.Code.{Code}
@@ -39,8 +39,8 @@ unfolding firstWhere channelValue
 loud-3 p rule i = inner-bound .bounded D codeD (replicate 8 31) p rule i accepted refl refl
 
 -- the last leaf of the longest code, on values of 31 and under any mask
-pub loudest-longest : (mask : List ℕ) → getD (node deepest [] (maskRule mask) (channelValues (replicate longest 31)) .leaves) (longest - 1) (pos 0) ≡ pos 126976
-loudest-longest mask = inner-bound .reached deepest mask
+pub loudest-longest : (mask : List ℕ) → getD (node largestN [] (maskRule mask) (channelValues (replicate longest 31)) .leaves) (longest - 1) (pos 0) ≡ pos 126976
+loudest-longest mask = inner-bound .reached largestN mask
 
 -- what that is by the formula
 pub largest-bound : 31 * longest ≡ 126976
@@ -53,7 +53,7 @@ unfolding describeUpTo judge refusedOr onesBelow
 accepted-10 = refl
 
 -- the steps of a whole pass under D, by an operation that reads them, and 0 if D is refused
-pub D-stays : onDescription (describeUpTo deepest D) (λ x. 0) (λ c. c .n * codeLength c) ≡ 24
+pub D-stays : onDescription (describeUpTo largestN D) (λ x. 0) (λ c. c .n * codeLength c) ≡ 24
 D-stays =
-    sym (old-answers ℕ (λ x. 0) (λ c. c .n * codeLength c) 10 deepest D (omega arith) (λ e. let same : describeUpTo 10 D ≡ Accepted codeD = accepted-10 in let z : _≡_ {A = ℕ} 0 1 = cc in omega arith))
+    sym (old-answers ℕ (λ x. 0) (λ c. c .n * codeLength c) 10 largestN D (omega arith) (λ e. let same : describeUpTo 10 D ≡ Accepted codeD = accepted-10 in let z : _≡_ {A = ℕ} 0 1 = cc in omega arith))
     ∙ ap (λ (x : Description). onDescription x (λ y. 0) (λ c. c .n * codeLength c)) accepted-10

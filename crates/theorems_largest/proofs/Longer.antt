@@ -15,7 +15,7 @@ use Rattle.refusal.specs.declared.Judgement.the-variants.{Fine, Refused}
 use Rattle.refusal.specs.Judge.{outside, judge, refusedOr, numberOf}
 use Rattle.refusal.proofs.Judge.{judge-yes, judge-no, refused-by, append-fine, append-refused, Judged, judged-reached}
 use Rattle.refusal.proofs.Tests.{outside-past, outside-no}
-use Rattle.arrays.specs.Sizes.{deepest}
+use Rattle.arrays.specs.Sizes.{largestN}
 use Rattle.code.specs.declared.Code.{Code}
 use Rattle.code.specs.declared.Description.{Description}
 use Rattle.code.specs.declared.Description.the-variants.{Accepted, Refused as NoCode}
@@ -34,10 +34,10 @@ module _ (d : List ℕ) where
 
   -- the tests before that of n, and those after it
   abbrev before : List (Bool × Refusal)
-  before = take 3 (refusalsUpTo deepest d)
+  before = take 3 (refusalsUpTo largestN d)
 
   abbrev after : List (Bool × Refusal)
-  after = drop 4 (refusalsUpTo deepest d)
+  after = drop 4 (refusalsUpTo largestN d)
 
   -- the answer if the test of n has the outcome t
   abbrev answer : Bool → Description
@@ -117,15 +117,15 @@ pub old-answers : OldAnswers
 old-answers X refuse go small large d more other = ap (λ (x : Description). onDescription x refuse go) (same-description small large d more other)
 
 -- the operations at their own largest n, under an accepted description
-pub as-accepted : (largest : ℕ) (d : List ℕ) (c : Code) → largest ≤ deepest → describeUpTo largest d ≡ Accepted c → AnswersAs largest d
+pub as-accepted : (largest : ℕ) (d : List ℕ) (c : Code) → largest ≤ largestN → describeUpTo largest d ≡ Accepted c → AnswersAs largest d
 unfolding encoded resumed decodedAs
 as-accepted largest d c more e =
     let other : describeUpTo largest d ≡ NoCode (Alone 4) → ⊥ = λ f. let z : _≡_ {A = ℕ} 0 1 = cc in omega arith in
     record {
-      description = sym (same-description largest deepest d more other);
-      encode = λ payload output. sym (old-answers _ _ _ largest deepest d more other);
-      resume = λ channel prefix output. sym (old-answers _ _ _ largest deepest d more other);
-      decode = λ p restart channel output. sym (old-answers _ _ _ largest deepest d more other);
+      description = sym (same-description largest largestN d more other);
+      encode = λ payload output. sym (old-answers _ _ _ largest largestN d more other);
+      resume = λ channel prefix output. sym (old-answers _ _ _ largest largestN d more other);
+      decode = λ p restart channel output. sym (old-answers _ _ _ largest largestN d more other);
     }
 
 -- document 01 has n up to 10

@@ -1,4 +1,4 @@
--- What the theorems of this crate state besides `OldAnswers`: which answers a larger n changes, and the operations with n up to `deepest`.
+-- What the theorems of this crate state besides `OldAnswers`: which answers a larger n changes, and the operations with n up to `largestN`.
 use mathlib.Core.Path.{_≡_}
 use mathlib.Core.List.{List}
 use Prim.Native.Nat.{ℕ, _<_, _≤_}

@@ -4,7 +4,7 @@ use mathlib.Core.List.{List, []}
 use Prim.Native.Nat.{ℕ, _-_, _*_, _^_, _≤_}
 use lib.IntN.{pos, natAbs}
 use lib.ListN.{length, getD, replicate}
-use Rattle.arrays.specs.Sizes.{deepest}
+use Rattle.arrays.specs.Sizes.{largestN}
 use Rattle.code.specs.declared.Code.{Code}
 use Rattle.code.specs.declared.Description.the-variants.{Accepted}
 use Rattle.code.specs.Code.{codeLength}
@@ -21,4 +21,4 @@ pub record InnerBound : Type 0 where
   -- N values of 31 reach it at index N − 1, under every n and every mask
   pub reached : (n : ℕ) (mask : List ℕ) → getD (node n [] (maskRule mask) (channelValues (replicate (2 ^ n) 31)) .leaves) (2 ^ n - 1) (pos 0) ≡ pos (31 * 2 ^ n)
   -- at the largest n
-  pub largest : 31 * 2 ^ deepest ≡ 126976
+  pub largest : 31 * 2 ^ largestN ≡ 126976

@@ -10,7 +10,7 @@ use Rattle.code.specs.declared.Description.the-variants.{Refused}
 use Rattle.code.specs.Description.{describeUpTo, onDescription}
 
 -- An operation is what it does with a refusal and with a code: encode, resume, every decoder at every restart, and opening a hearing are each
--- `onDescription (describe d) ..`, and `describe` is `describeUpTo deepest`. With n up to `small` and with n up to `large` an operation has one answer to
+-- `onDescription (describe d) ..`, and `describe` is `describeUpTo largestN`. With n up to `small` and with n up to `large` an operation has one answer to
 -- the bytes d, output and steps included, unless d is refused as 4 with n up to `small`. Document 01's largest n is 10.
 abbrev pub OldAnswers : Type 1
 OldAnswers =

@@ -24,9 +24,9 @@ use Rattle.channel.specs.Channel.{channelValue, channelValues}
 use Rattle.pass_tree.specs.Node.{node}
 use Rattle.flip_order.specs.Order.{information}
 use Rattle.flip_trial.specs.declared.Restart.{Restart}
-use Rattle.flip_trial.specs.declared.Restart.the-variants.{After}
+use Rattle.flip_trial.specs.declared.Restart.the-variants.{AfterFlip}
 use Rattle.flip_trial.specs.Trial.{firstTrial, trialPasses}
-use Rattle.flip_run.specs.declared.Decoded.the-variants.{Accepted, Failed}
+use Rattle.flip_run.specs.declared.Decoded.the-variants.{Accepted, Refused16}
 use Rattle.flip_run.specs.Trials.{run}
 use Rattle.decoder.specs.Candidate.{doubtful, extensions, insertEach}
 use Rattle.decoder.specs.Tried.{tried}
@@ -59,27 +59,27 @@ zeros-fail = sym (ap (trialPasses (maskOf D4) code4) first-bits) ∙ trial-1-fai
 
 -- ---- T = 1, at every restart
 
-pub single-fails : (restart : Restart) (byte : ℕ) → decodedAs (single 1) restart D4 (silence code4) (byte ∷ []) ≡ (Failed 1 24, byte ∷ [])
+pub single-fails : (restart : Restart) (byte : ℕ) → decodedAs (single 1) restart D4 (silence code4) (byte ∷ []) ≡ (Refused16 1 24, byte ∷ [])
 unfolding judge
 single-fails restart byte = silence-fails (single 1) restart D4 code4 (byte ∷ []) describes (omega arith) refl refl refl
 
-pub sets-fail : (restart : Restart) (byte : ℕ) → decodedAs (sets 3 1) restart D4 (silence code4) (byte ∷ []) ≡ (Failed 1 24, byte ∷ [])
+pub sets-fail : (restart : Restart) (byte : ℕ) → decodedAs (sets 3 1) restart D4 (silence code4) (byte ∷ []) ≡ (Refused16 1 24, byte ∷ [])
 unfolding judge
 sets-fail restart byte = silence-fails (sets 3 1) restart D4 code4 (byte ∷ []) describes (omega arith) refl refl refl
 
 -- ---- T = 2: silence is accepted, by single flips and by sets, and not on trial 1
 
 -- by computation: a start does not keep later trials from accepting silence
-accepted-at-2 : (decodedAs (single 2) After D4 (silence code4) (0 ∷ []) ≡ (Accepted 2 35, 0x80 ∷ [])) × (decodedAs (sets 2 2) After D4 (silence code4) (0 ∷ []) ≡ (Accepted 2 35, 0x80 ∷ []))
+accepted-at-2 : (decodedAs (single 2) AfterFlip D4 (silence code4) (0 ∷ []) ≡ (Accepted 2 35, 0x80 ∷ [])) × (decodedAs (sets 2 2) AfterFlip D4 (silence code4) (0 ∷ []) ≡ (Accepted 2 35, 0x80 ∷ []))
 unfolding judge refusedOr table number onesBelow packed describeUpTo checkOf covers parity transformed xors taken channelValue f g leftValues rightValues firstWhere node information insertBy sortBy run doubtful extensions insertEach tried decodedUnder decodedAs
 accepted-at-2 = (refl, refl)
 
 -- whatever trial it is, it is a later one
-pub single-later : (trial steps : ℕ) (payload : List ℕ) → decodedAs (single 2) After D4 (silence code4) (0 ∷ []) ≡ (Accepted trial steps, payload) → 2 ≤ trial
-single-later trial steps payload e = omega (arith, silence-later (single 2) After D4 code4 (0 ∷ []) trial steps payload describes (omega arith) e)
+pub single-later : (trial steps : ℕ) (payload : List ℕ) → decodedAs (single 2) AfterFlip D4 (silence code4) (0 ∷ []) ≡ (Accepted trial steps, payload) → 2 ≤ trial
+single-later trial steps payload e = omega (arith, silence-later (single 2) AfterFlip D4 code4 (0 ∷ []) trial steps payload describes (omega arith) e)
 
-pub sets-later : (trial steps : ℕ) (payload : List ℕ) → decodedAs (sets 2 2) After D4 (silence code4) (0 ∷ []) ≡ (Accepted trial steps, payload) → 2 ≤ trial
-sets-later trial steps payload e = omega (arith, silence-later (sets 2 2) After D4 code4 (0 ∷ []) trial steps payload describes (omega arith) e)
+pub sets-later : (trial steps : ℕ) (payload : List ℕ) → decodedAs (sets 2 2) AfterFlip D4 (silence code4) (0 ∷ []) ≡ (Accepted trial steps, payload) → 2 ≤ trial
+sets-later trial steps payload e = omega (arith, silence-later (sets 2 2) AfterFlip D4 code4 (0 ∷ []) trial steps payload describes (omega arith) e)
 
 pub later-met : (2 ≤ 2) × (2 ≤ 2)
 later-met = (single-later 2 35 (0x80 ∷ []) (accepted-at-2 .0), sets-later 2 35 (0x80 ∷ []) (accepted-at-2 .1))

@@ -46,7 +46,7 @@ use Rattle.pass_tree.proofs.Decisions.{bit-decided}
 use Rattle.pass_tree.proofs.Leaves.{within-leaves}
 use Rattle.pass_tree.proofs.Steps.{steps-whole}
 use Rattle.flip_trial.specs.Trial.{firstTrial, restartAt, messageIn, trialPasses}
-use Rattle.flip_run.specs.declared.Decoded.the-variants.{Accepted, Failed}
+use Rattle.flip_run.specs.declared.Decoded.the-variants.{Accepted, Refused16}
 use Rattle.flip_run.specs.Trials.{answerOf}
 use Rattle.decoder.specs.Decoder.{single, sets, ownRefusals, refusalsOf, trialsOf}
 use Rattle.decoder.proofs.Decoder.{fine-answer, under-code}
@@ -242,7 +242,7 @@ silence-fails p restart d c output code some limit own size =
     let nothing = none-skipped (c .n) (map (restartAt restart (maskOf d) (codeLength c)) is) (length-map is (restartAt restart (maskOf d) (codeLength c)) ∙ omega (arith, x .each, one)) in
     let pass : x .made * c .n * codeLength c ≡ 1 * c .n * codeLength c = ap (λ (m : ℕ). m * c .n * codeLength c) one in
     let steps : x .steps restart ≡ c .n * codeLength c = omega (arith, nothing, x .exceeds restart, x .full-steps, pass) in
-    a .2 restart output refl ∙ ap₂ (λ (m s : ℕ). (Failed m s, output)) one steps) (x .answers)
+    a .2 restart output refl ∙ ap₂ (λ (m s : ℕ). (Refused16 m s, output)) one steps) (x .answers)
   where
     fine : judge (refusalsOf p c (silence c) output) ≡ Fine
     fine =

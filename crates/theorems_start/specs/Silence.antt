@@ -15,7 +15,7 @@ use Rattle.code.specs.Description.{maskOf, describe}
 use Rattle.channel.specs.Channel.{channelValues}
 use Rattle.flip_trial.specs.declared.Restart.{Restart}
 use Rattle.flip_trial.specs.Trial.{firstTrial, trialPasses}
-use Rattle.flip_run.specs.declared.Decoded.the-variants.{Accepted, Failed}
+use Rattle.flip_run.specs.declared.Decoded.the-variants.{Accepted, Refused16}
 use Rattle.decoder.specs.Decoder.{Decoder, ownRefusals, decodedAs}
 use Rattle.decoder_demands.specs.Agreement.{limitOf}
 
@@ -34,7 +34,7 @@ abbrev pub SilenceFails : Type 0
 SilenceFails =
     (p : Decoder) (restart : Restart) (d : List ℕ) (c : Code) (output : List ℕ) → describe d ≡ Coding c → 0 < c .start
     → limitOf p ≡ 1 → judge (ownRefusals p c) ≡ Fine → length output ≡ bytesFor (c .k)
-    → decodedAs p restart d (silence c) output ≡ (Failed 1 (c .n * codeLength c), output)
+    → decodedAs p restart d (silence c) output ≡ (Refused16 1 (c .n * codeLength c), output)
 
 -- a decoder that accepts silence, with any T, does so on a later trial
 abbrev pub SilenceLater : Type 0

@@ -19,7 +19,7 @@ use Rattle.channel.specs.Channel.{channelValue, channelValues}
 use Rattle.pass_tree.specs.Node.{node}
 use Rattle.flip_order.specs.Order.{information}
 use Rattle.flip_run.specs.declared.Decoded.{Decoded}
-use Rattle.flip_run.specs.declared.Decoded.the-variants.{Accepted, Failed, Refused}
+use Rattle.flip_run.specs.declared.Decoded.the-variants.{Accepted, Refused16, Refused}
 use Rattle.flip_run.specs.Trials.{flipOrder, run}
 use Rattle.decoder.specs.Decoder.{decodedUnder, decodedAs, decodedFull, decodedRestarted}
 use Rattle.vectors.proofs.Descriptions.{D, starredCode, starredV}
@@ -37,7 +37,7 @@ zerosThen byte = 0 ∷ 0 ∷ 0 ∷ 0 ∷ 0 ∷ 0 ∷ 0 ∷ byte ∷ []
 abbrev Rows : (List ℕ → ℕ → List ℕ → Decoded × List ℕ) → ℕ → List ℕ → Type 0
 Rows decoded steps output =
     (decoded noiselessA0 1 output ≡ (Accepted 1 24, 0xA0 ∷ []))
-    × (decoded (starredV 2) 1 output ≡ (Failed 1 24, output))
+    × (decoded (starredV 2) 1 output ≡ (Refused16 1 24, output))
     × (decoded (starredV 2) 2 output ≡ (Accepted 2 steps, 0x00 ∷ []))
     × (decoded (zerosThen 0x00) 1 output ≡ (Accepted 1 24, 0x00 ∷ []))
     × (decoded (starredV 2) 0 output ≡ (Refused (Alone 14), output))

@@ -20,7 +20,7 @@ use Rattle.values.specs.Values.{f, g, leftValues, rightValues}
 use Rattle.channel.specs.Channel.{channelValue, channelValues}
 use Rattle.pass_tree.specs.Node.{node}
 use Rattle.flip_order.specs.Order.{information}
-use Rattle.flip_run.specs.declared.Decoded.the-variants.{Accepted, Failed, Refused}
+use Rattle.flip_run.specs.declared.Decoded.the-variants.{Accepted, Refused16, Refused}
 use Rattle.flip_run.specs.Trials.{flipOrder, run}
 use Rattle.decoder.specs.Candidate.{doubtful, extensions, insertEach}
 use Rattle.decoder.specs.Tried.{tried, flipSets}
@@ -51,8 +51,8 @@ pub record HalfExamples (byte : ℕ) : Type 0 where
       × (decodedFull middleD middleV 4 (byte ∷ []) ≡ (Accepted 4 96, 0x10 ∷ []))
       × (decodedHalf middleD middleV 4 (byte ∷ []) ≡ (Accepted 4 72, 0x10 ∷ []))
       × (decodedRestarted middleD middleV 4 (byte ∷ []) ≡ (Accepted 4 55, 0x10 ∷ []))
-      × (decodedHalf middleD middleV 2 (byte ∷ []) ≡ (Failed 2 48, byte ∷ []))
-      × (decodedHalf middleD middleV 3 (byte ∷ []) ≡ (Failed 3 60, byte ∷ []))
+      × (decodedHalf middleD middleV 2 (byte ∷ []) ≡ (Refused16 2 48, byte ∷ []))
+      × (decodedHalf middleD middleV 3 (byte ∷ []) ≡ (Refused16 3 60, byte ∷ []))
       × (decodedHalf middleD middleV 7 (byte ∷ []) ≡ (Refused (Alone 14), byte ∷ []))
   -- of the sets that are tried, those with the lowest index 4 or 5 take 12 steps each
   pub by-sets :
@@ -60,7 +60,7 @@ pub record HalfExamples (byte : ℕ) : Type 0 where
       × (setsFull middleD middlePairV 2 7 (byte ∷ []) ≡ (Accepted 7 168, 0x90 ∷ []))
       × (setsHalf middleD middlePairV 2 7 (byte ∷ []) ≡ (Accepted 7 120, 0x90 ∷ []))
       × (setsRestarted middleD middlePairV 2 7 (byte ∷ []) ≡ (Accepted 7 89, 0x90 ∷ []))
-      × (setsHalf middleD middlePairV 2 6 (byte ∷ []) ≡ (Failed 6 108, byte ∷ []))
+      × (setsHalf middleD middlePairV 2 6 (byte ∷ []) ≡ (Refused16 6 108, byte ∷ []))
       × (setsHalf middleD middlePairV 4 7 (byte ∷ []) ≡ (Refused (Alone 26), byte ∷ []))
 
 pub half-examples : (byte : ℕ) → HalfExamples byte

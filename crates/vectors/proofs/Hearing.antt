@@ -24,8 +24,8 @@ use Rattle.values.specs.Values.{hard, f, g, leftValues, rightValues}
 use Rattle.channel.specs.Channel.{channelValue, channelValues}
 use Rattle.pass_tree.specs.Node.{node}
 use Rattle.flip_order.specs.Order.{information}
-use Rattle.flip_trial.specs.declared.Restart.the-variants.{Root, After}
-use Rattle.flip_run.specs.declared.Decoded.the-variants.{Accepted, Failed}
+use Rattle.flip_trial.specs.declared.Restart.the-variants.{Root, AfterFlip}
+use Rattle.flip_run.specs.declared.Decoded.the-variants.{Accepted, Refused16}
 use Rattle.flip_run.specs.Trials.{run}
 use Rattle.decoder.specs.Decoder.{single, WellFormed, decodedUnder, decodedAs, decodedFull, decodedRestarted}
 use Rattle.decoder.proofs.Decoder.{spelt-out}
@@ -56,7 +56,7 @@ sumsV = 0xFF ∷ 0x06 ∷ 0xF5 ∷ 0x15 ∷ 0x04 ∷ 0xFC ∷ 0x06 ∷ 0xE1 ∷ 
 -- T = 5 is the largest that 14 allows; with a smaller one fewer of the same trials are made. Whatever byte the output held
 abbrev pub Neither : ℕ → List ℕ → Type 0
 Neither byte v =
-    (decodedFull wideD v 5 (byte ∷ []) ≡ (Failed 5 120, byte ∷ [])) × (decodedRestarted wideD v 5 (byte ∷ []) ≡ (Failed 5 50, byte ∷ []))
+    (decodedFull wideD v 5 (byte ∷ []) ≡ (Refused16 5 120, byte ∷ [])) × (decodedRestarted wideD v 5 (byte ∷ []) ≡ (Refused16 5 50, byte ∷ []))
 
 pub neither-decodes : (byte : ℕ) → Neither byte firstV × Neither byte secondV
 unfolding firstWhere table judge refusedOr number onesBelow packed describeUpTo checkOf covers parity transformed xors taken f g leftValues rightValues channelValue node information insertBy sortBy run decodedUnder decodedAs
@@ -107,7 +107,7 @@ module _ (s : State) (h : Holds wideD wideCode s (firstV ∷ secondV ∷ [])) (b
 
   -- for every T, whatever byte the output held
   pub both-decode : (T byte : ℕ) → 1 ≤ T → T ≤ 5
-      → (decodedHeldWith Root s T (byte ∷ []) ≡ (Accepted 1 24, 0x80 ∷ [])) × (decodedHeldWith After s T (byte ∷ []) ≡ (Accepted 1 24, 0x80 ∷ []))
+      → (decodedHeldWith Root s T (byte ∷ []) ≡ (Accepted 1 24, 0x80 ∷ [])) × (decodedHeldWith AfterFlip s T (byte ∷ []) ≡ (Accepted 1 24, 0x80 ∷ []))
   both-decode T byte least most =
       let well : WellFormed (single T) wideD wideCode held (byte ∷ []) = record {
         described = describes;
@@ -115,7 +115,7 @@ module _ (s : State) (h : Holds wideD wideCode s (firstV ∷ secondV ∷ [])) (b
             (record { channel-size = b .size-is; in-range = b .in-range ∙ sym (b .size-is); allowed = (least, most); output-size = refl });
       } in
       let x = noiseless-decoding wideD wideCode (0x80 ∷ []) held T (byte ∷ []) received well in
-      (h .decoded-is Root T (byte ∷ []) ∙ x .0, h .decoded-is After T (byte ∷ []) ∙ x .1)
+      (h .decoded-is Root T (byte ∷ []) ∙ x .0, h .decoded-is AfterFlip T (byte ∷ []) ∙ x .1)
 
 -- the state goes from call to call
 abbrev pub heardTwice : State
@@ -131,7 +131,7 @@ pub twice-counted : heardTwice .hearing .count ≡ 2
 twice-counted = holds-both .count-is
 
 pub twice-decodes : (T byte : ℕ) → 1 ≤ T → T ≤ 5
-    → (decodedHeldWith Root heardTwice T (byte ∷ []) ≡ (Accepted 1 24, 0x80 ∷ [])) × (decodedHeldWith After heardTwice T (byte ∷ []) ≡ (Accepted 1 24, 0x80 ∷ []))
+    → (decodedHeldWith Root heardTwice T (byte ∷ []) ≡ (Accepted 1 24, 0x80 ∷ [])) × (decodedHeldWith AfterFlip heardTwice T (byte ∷ []) ≡ (Accepted 1 24, 0x80 ∷ []))
 twice-decodes = both-decode heardTwice holds-both in-bounds
 
 -- and in any buffer of the right size; a buffer of that size exists

@@ -11,7 +11,7 @@ use Rattle.laws.proofs.First.{first-is}
 use Rattle.refusal.specs.declared.Refusal.{Refusal}
 use Rattle.refusal.specs.declared.Refusal.the-variants.{Alone}
 use Rattle.refusal.specs.Judge.{judge, refusedOr}
-use Rattle.arrays.specs.Sizes.{deepest}
+use Rattle.arrays.specs.Sizes.{largestN}
 use Rattle.arrays.specs.Claims.{longest}
 use Rattle.bits.specs.Mask.{onesBelow}
 use Rattle.code.specs.declared.Code.{Code}
@@ -38,7 +38,7 @@ long n =
 abbrev longCode : ℕ → Code
 longCode n = record { n = n; r = 1; polynomial = 1; start = 0; k = 2 ^ n / 2 - 1 }
 
--- n = 3 is D's. If n may be at most 10, 10 is accepted, and 11, 12 and 13 are refused as 4; of these 11 and 12 are accepted with `deepest`.
+-- n = 3 is D's. If n may be at most 10, 10 is accepted, and 11, 12 and 13 are refused as 4; of these 11 and 12 are accepted with `largestN`.
 pub long-rows :
     (long 3 ≡ D)
     × (describeUpTo 10 D ≡ Accepted (longCode 3))
@@ -67,12 +67,12 @@ wide-refused : describeUpTo 10 wide ≡ Refused (Alone 6)
 unfolding describeUpTo judge refusedOr
 wide-refused = refl
 
-pub wide-stays : (refuse : Refusal → ℕ) (go : Code → ℕ) → onDescription (describeUpTo deepest wide) refuse go ≡ refuse (Alone 6)
-wide-stays refuse go = sym (old-answers ℕ refuse go 10 deepest wide (omega arith) (λ e. let six : describeUpTo 10 wide ≡ Refused (Alone 6) = wide-refused in let z : _≡_ {A = ℕ} 4 6 = cc in omega arith))
+pub wide-stays : (refuse : Refusal → ℕ) (go : Code → ℕ) → onDescription (describeUpTo largestN wide) refuse go ≡ refuse (Alone 6)
+wide-stays refuse go = sym (old-answers ℕ refuse go 10 largestN wide (omega arith) (λ e. let six : describeUpTo 10 wide ≡ Refused (Alone 6) = wide-refused in let z : _≡_ {A = ℕ} 4 6 = cc in omega arith))
     ∙ ap (λ (x : Description). onDescription x refuse go) wide-refused
 
 -- at n = 12 the description has another answer
-pub new-12 : NewAnswer 10 deepest (long 12)
+pub new-12 : NewAnswer 10 largestN (long 12)
 new-12 = record {
   refused = long-rows .4;
   above = omega arith;

@@ -8,7 +8,7 @@ use Rattle.refusal.specs.declared.Refusal.the-variants.{Alone, At}
 use Rattle.refusal.specs.declared.Judgement.the-variants.{Fine}
 use Rattle.refusal.specs.Judge.{judge, refusedOr}
 use Rattle.channel.specs.Channel.{channelValue}
-use Rattle.flip_trial.specs.declared.Restart.the-variants.{After}
+use Rattle.flip_trial.specs.declared.Restart.the-variants.{AfterFlip}
 use Rattle.flip_run.specs.declared.Decoded.the-variants.{Accepted, Refused}
 use Rattle.decoder.proofs.Examples.{wideD, wideCode, vector}
 use Rattle.decoder_demands.proofs.Instances.{describes}
@@ -56,7 +56,7 @@ in-bounds =
 pub second-settles : (T byte : ℕ) → 1 ≤ T → T ≤ 5 → previewed heardOnce secondV T (byte ∷ []) ≡ (Accepted 1 24, 0x80 ∷ [])
 second-settles T byte least most =
     let held = previews secondV .sums second-fine in
-    previews secondV .decoded second-fine T (byte ∷ []) ∙ sym (held .decoded-is After T (byte ∷ []))
+    previews secondV .decoded second-fine T (byte ∷ []) ∙ sym (held .decoded-is AfterFlip T (byte ∷ []))
     ∙ both-decode (added heardOnce secondV .1) held in-bounds T byte least most .1
 
 -- a vector that is too short, and one with a value out of range: nothing is decoded

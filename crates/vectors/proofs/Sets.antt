@@ -10,7 +10,7 @@ use Rattle.laws.specs.First.{firstWhere}
 use Rattle.code.specs.Description.{maskOf}
 use Rattle.values.specs.Values.{hard}
 use Rattle.channel.specs.Channel.{channelValue, channelValues, firstOutside}
-use Rattle.flip_trial.specs.declared.Restart.the-variants.{After}
+use Rattle.flip_trial.specs.declared.Restart.the-variants.{AfterFlip}
 use Rattle.decoder.specs.Candidate.{Candidate}
 use Rattle.decoder.specs.Decoder.{sets, mostLimit}
 use Rattle.decoder.specs.Contracts.{searchOf, leavesOf, generatedBy, triedBy}
@@ -28,41 +28,41 @@ use Rattle.decoder_demands.proofs.Metrics.{metrics-fit}
 -- ---- the sets that are tried
 
 -- the sets of restarted decoding on `usedUpV`
-tried-ten : triedBy (searchOf After 2 512) (maskOf wideD) wideCode (channelValues usedUpV) ≡ ten
-tried-ten = tried-by (searchOf After 2 512) (maskOf wideD) wideCode (channelValues usedUpV) ∙ set-examples 0 .used-up .2
+tried-ten : triedBy (searchOf AfterFlip 2 512) (maskOf wideD) wideCode (channelValues usedUpV) ≡ ten
+tried-ten = tried-by (searchOf AfterFlip 2 512) (maskOf wideD) wideCode (channelValues usedUpV) ∙ set-examples 0 .used-up .2
 
 -- of `ten` no two are equal
 abbrev Differ : List (List ℕ) → Type 0
 Differ tried = (a b : ℕ) → a < b → b < length tried → getD tried a [] ≡ getD tried b [] → ⊥
 
 pub ten-differ : Differ ten
-ten-differ = subst Differ tried-ten (sets-distinct (searchOf After 2 512) (maskOf wideD) wideCode (channelValues usedUpV))
+ten-differ = subst Differ tried-ten (sets-distinct (searchOf AfterFlip 2 512) (maskOf wideD) wideCode (channelValues usedUpV))
 
 -- each ascends, of one or two information indices
 abbrev EachFlips : List (List ℕ) → Type 0
 EachFlips tried = (a : ℕ) → a < length tried → FlipSet (maskOf wideD) 8 2 (getD tried a [])
 
 pub ten-flip : EachFlips ten
-ten-flip = subst EachFlips tried-ten (flip-set-each (searchOf After 2 512) (maskOf wideD) wideCode (channelValues usedUpV))
+ten-flip = subst EachFlips tried-ten (flip-set-each (searchOf AfterFlip 2 512) (maskOf wideD) wideCode (channelValues usedUpV))
 
 -- the sets of restarted decoding on `equalV`
-tried-equal : triedBy (searchOf After 2 4) (maskOf wideD) wideCode (channelValues equalV) ≡ (3 ∷ []) ∷ (3 ∷ 6 ∷ []) ∷ (5 ∷ []) ∷ []
-tried-equal = tried-by (searchOf After 2 4) (maskOf wideD) wideCode (channelValues equalV) ∙ set-examples 0 .by-first-entry .2
+tried-equal : triedBy (searchOf AfterFlip 2 4) (maskOf wideD) wideCode (channelValues equalV) ≡ (3 ∷ []) ∷ (3 ∷ 6 ∷ []) ∷ (5 ∷ []) ∷ []
+tried-equal = tried-by (searchOf AfterFlip 2 4) (maskOf wideD) wideCode (channelValues equalV) ∙ set-examples 0 .by-first-entry .2
 
 -- a search that keeps every untried set tries the same ones
-pub keeping-all : triedOfAll (generatedBy (searchOf After 2 4) (maskOf wideD) wideCode (channelValues equalV)) 3 (insertAll (generatedBy (searchOf After 2 4) (maskOf wideD) wideCode (channelValues equalV) []) []) ≡ (3 ∷ []) ∷ (3 ∷ 6 ∷ []) ∷ (5 ∷ []) ∷ []
-keeping-all = sym (kept-loses-nothing (searchOf After 2 4) (maskOf wideD) wideCode (channelValues equalV)) ∙ tried-equal
+pub keeping-all : triedOfAll (generatedBy (searchOf AfterFlip 2 4) (maskOf wideD) wideCode (channelValues equalV)) 3 (insertAll (generatedBy (searchOf AfterFlip 2 4) (maskOf wideD) wideCode (channelValues equalV) []) []) ≡ (3 ∷ []) ∷ (3 ∷ 6 ∷ []) ∷ (5 ∷ []) ∷ []
+keeping-all = sym (kept-loses-nothing (searchOf AfterFlip 2 4) (maskOf wideD) wideCode (channelValues equalV)) ∙ tried-equal
 
 -- with w = 1 the sets are the information indices, sorted by metric: on V 3, 5, 6 and 7
 pub singles-on-vector : Singles (maskOf wideD) wideCode (channelValues vector)
 singles-on-vector = singles (maskOf wideD) wideCode (channelValues vector)
 
 pub singles-are : map (λ i. i ∷ []) (take 4 (singles-on-vector .is)) ≡ (3 ∷ []) ∷ (5 ∷ []) ∷ (6 ∷ []) ∷ (7 ∷ []) ∷ []
-singles-are = sym (singles-on-vector .sets-are After 5) ∙ tried-by (searchOf After 1 5) (maskOf wideD) wideCode (channelValues vector) ∙ set-examples 0 .by-metric .1
+singles-are = sym (singles-on-vector .sets-are AfterFlip 5) ∙ tried-by (searchOf AfterFlip 1 5) (maskOf wideD) wideCode (channelValues vector) ∙ set-examples 0 .by-metric .1
 
 -- of the untried sets the least is tried first, on `equalV` three times: when [3] has been tried, that is [3, 6]
-pub least-on-equal : (t : ℕ) → t < 3 → LeastFirst (searchOf After 2 4) (maskOf wideD) wideCode (channelValues equalV) t
-least-on-equal t l = least-first (searchOf After 2 4) (maskOf wideD) wideCode (channelValues equalV) t (omega (arith, ap length tried-equal))
+pub least-on-equal : (t : ℕ) → t < 3 → LeastFirst (searchOf AfterFlip 2 4) (maskOf wideD) wideCode (channelValues equalV) t
+least-on-equal t l = least-first (searchOf AfterFlip 2 4) (maskOf wideD) wideCode (channelValues equalV) t (omega (arith, ap length tried-equal))
 
 pub least-after-3 : least-on-equal 1 (omega arith) .next .flips ≡ 3 ∷ 6 ∷ []
 least-after-3 = sym (least-on-equal 1 (omega arith) .tries) ∙ ap (λ (tried : List (List ℕ)). getD tried 1 []) tried-equal
@@ -70,10 +70,10 @@ least-after-3 = sym (least-on-equal 1 (omega arith) .tries) ∙ ap (λ (tried : 
 -- ---- one trial
 
 -- The trial of [3, 5] takes the opposite of its own decisions. At 5 the opposite is 0, where trial 1 decides 0 too.
-pub pair-decides : OwnDecisions After (maskOf wideD) wideCode (channelValues pairV) (3 ∷ 5 ∷ [])
-pair-decides = own-decisions After (maskOf wideD) wideCode (channelValues pairV) (3 ∷ 5 ∷ []) (ten-flip 1 (omega arith) .flips)
+pub pair-decides : OwnDecisions AfterFlip (maskOf wideD) wideCode (channelValues pairV) (3 ∷ 5 ∷ [])
+pair-decides = own-decisions AfterFlip (maskOf wideD) wideCode (channelValues pairV) (3 ∷ 5 ∷ []) (ten-flip 1 (omega arith) .flips)
 
-pub opposite-at-5 : 1 - hard (getD (leavesOf After (maskOf wideD) wideCode (channelValues pairV) (3 ∷ 5 ∷ [])) 5 (pos 0)) ≡ 0
+pub opposite-at-5 : 1 - hard (getD (leavesOf AfterFlip (maskOf wideD) wideCode (channelValues pairV) (3 ∷ 5 ∷ [])) 5 (pos 0)) ≡ 0
 opposite-at-5 = sym (pair-decides .flipped 5 (omega arith) refl) ∙ ap (λ (bits : List ℕ). getD bits 5 0) (set-examples 0 .by-own-trial .6)
 
 -- ---- metrics
@@ -83,9 +83,9 @@ unfolding firstWhere channelValue
 pair-inside = refl
 
 -- no metric exceeds 32 bits
-pub pair-metrics-fit : (w T byte : ℕ) → 1 ≤ w → w ≤ 3 → 1 ≤ T → T ≤ mostLimit w wideCode → (is : List ℕ) (x : Candidate) → List·Memᴰ x (generatedBy (searchOf After w T) (maskOf wideD) wideCode (channelValues pairV) is) → x .metric < 2 ^ 32
+pub pair-metrics-fit : (w T byte : ℕ) → 1 ≤ w → w ≤ 3 → 1 ≤ T → T ≤ mostLimit w wideCode → (is : List ℕ) (x : Candidate) → List·Memᴰ x (generatedBy (searchOf AfterFlip w T) (maskOf wideD) wideCode (channelValues pairV) is) → x .metric < 2 ^ 32
 pair-metrics-fit w T byte w-least w-most least most =
-    metrics-fit After w T wideD wideCode pairV (byte ∷ []) (record {
+    metrics-fit AfterFlip w T wideD wideCode pairV (byte ∷ []) (record {
       described = set-examples 0 .described;
       fine = spelt-out (sets w T) wideCode pairV (byte ∷ []) .0 (record { channel-size = refl; in-range = pair-inside; allowed = (w-least, w-most, least, most); output-size = refl });
     })

@@ -6,9 +6,9 @@
 #include <stdint.h>
 
 /* The largest n. */
-#define DEEPEST 12
+#define LARGEST_N 12
 
-enum { SIZE = 1 << DEEPEST, HEADER = 8 };
+enum { SIZE = 1 << LARGEST_N, HEADER = 8 };
 
 /* The kinds of descriptions; the second has a start, two bytes, before its mask. */
 enum { WITHOUT_START = 1, WITH_START = 4 };
@@ -63,7 +63,7 @@ static unsigned read_description(const uint8_t *d, size_t len, struct code *code
     if (kind != WITHOUT_START && kind != WITH_START)
         return 3;
     code->n = d[4];
-    if (code->n < 3 || code->n > DEEPEST)
+    if (code->n < 3 || code->n > LARGEST_N)
         return 4;
     code->size = (size_t)1 << code->n;
     if (len != header + code->size / 8)

@@ -8,7 +8,7 @@ enum { MOST_FLIPS = 3, MOST_LIMIT = 512, DOUBTFUL = 20, PENALTY = 6 };
 
 /* A set's key: its metric, then a field for each of three indices, the first in the highest bits, with one more than the index, or 0 where
  * there is none. Keys compare as sets do: by metric, then by the indices from the first on. */
-enum { FIELD = DEEPEST + 1, FIELDS = MOST_FLIPS * FIELD };
+enum { FIELD = LARGEST_N + 1, FIELDS = MOST_FLIPS * FIELD };
 
 struct set {
     size_t indices[MOST_FLIPS], count;

@@ -1,7 +1,7 @@
 //! What the calls are lent: descriptions and channels.
 
 use crate::answer::refuse_if;
-use crate::DEEPEST;
+use crate::LARGEST_N;
 
 /// Bytes of a description before its mask, or before its start.
 const HEADER: usize = 8;
@@ -30,7 +30,7 @@ impl<'a> Code<'a> {
         refuse_if(usize::from(word(d, 0)) != d.len(), 2)?;
         refuse_if(kind != WITHOUT_START && !has_start, 3)?;
         let n = d[4];
-        refuse_if(!(3..=DEEPEST).contains(&n), 4)?;
+        refuse_if(!(3..=LARGEST_N).contains(&n), 4)?;
         let size = 1 << n;
         refuse_if(d.len() != header + size / 8, 5)?;
         let r = u32::from(d[5]);

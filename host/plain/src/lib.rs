@@ -24,5 +24,5 @@ pub use resume::resume;
 pub use sets::{decode_sets_full, decode_sets_half, decode_sets_restarted};
 
 /// The largest n and N.
-const DEEPEST: u8 = 12;
-const SIZE: usize = 1 << DEEPEST;
+const LARGEST_N: u8 = 12;
+const SIZE: usize = 1 << LARGEST_N;

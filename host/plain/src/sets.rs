@@ -5,7 +5,7 @@ use crate::code::{check_channel, Code};
 use crate::decode::{accepts, Restart};
 use crate::message::pack;
 use crate::pass::Pass;
-use crate::{DEEPEST, SIZE};
+use crate::{LARGEST_N, SIZE};
 
 const MOST_FLIPS: usize = 3;
 const MOST_LIMIT: usize = 512;
@@ -62,7 +62,7 @@ impl Plan {
 /// A set's key has its metric, then a field for each of three indices, the first in the highest
 /// bits, with one more than the index, or 0 where there is none. Keys compare as sets do: by metric,
 /// then by the indices from the first on.
-const FIELD: usize = DEEPEST as usize + 1;
+const FIELD: usize = LARGEST_N as usize + 1;
 const FIELDS: usize = MOST_FLIPS * FIELD;
 
 #[derive(Default)]

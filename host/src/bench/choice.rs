@@ -6,7 +6,7 @@ use crate::bench::process::TIMES_ONLY;
 use crate::bench::search::Search;
 use crate::bench::task::{limits, Limit, Task, ONE_LIMIT};
 use crate::bench::DEPTHS;
-use crate::reference::sizes::{DEEPEST, MOST_TRIALS};
+use crate::reference::sizes::{LARGEST_N, MOST_TRIALS};
 
 pub const USAGE: &str = "\
 bench [OPERATION ..] [--n N ..] [--t T ..] [--w W ..] [--k K ..] [--rounds R]
@@ -113,7 +113,7 @@ impl Named {
         let mut words = words.iter();
         while let Some(word) = words.next() {
             match word.as_str() {
-                "--n" => named.layers.push(number(words.next()?, 5..=DEEPEST)?),
+                "--n" => named.layers.push(number(words.next()?, 5..=LARGEST_N)?),
                 "--t" => named.limits.push(limit(words.next()?)?),
                 "--w" => named.flips.push(number(words.next()?, 2..=3)?),
                 "--k" => named.sizes.push(payload_size(words.next()?)?),

@@ -135,7 +135,7 @@ fn has_term_from(polynomial: u16, r: usize) -> bool {
 #[cfg(test)]
 mod tests {
     use super::*;
-    use crate::reference::sizes::{DEEPEST, LONGEST};
+    use crate::reference::sizes::{LARGEST_N, LONGEST};
     use crate::testing::hex::parse;
     use crate::testing::paper::{D, D_WITH_START};
 
@@ -208,12 +208,12 @@ mod tests {
     /// Also with a length field whose second byte is another, and those of a larger n.
     #[test]
     fn the_longest_descriptions() {
-        let longest = record(DEEPEST, 16, 0x8005, &[true; LONGEST]);
+        let longest = record(LARGEST_N, 16, 0x8005, &[true; LONGEST]);
         for d in [longest.clone(), with_start(&longest, 0)] {
-            accepted(&d, code(DEEPEST, 16, 0x8005, LONGEST - 16));
+            accepted(&d, code(LARGEST_N, 16, 0x8005, LONGEST - 16));
             refused(&with(&d, 1, &[0]), 2);
         }
-        let beyond = record(DEEPEST + 1, 16, 0x8005, &[true; 2 * LONGEST]);
+        let beyond = record(LARGEST_N + 1, 16, 0x8005, &[true; 2 * LONGEST]);
         refused(&beyond, 4);
         refused(&with_start(&beyond, 0), 4);
     }
@@ -263,7 +263,7 @@ mod tests {
 
     #[test]
     fn refusal_4_n() {
-        for n in [0, 1, 2, DEEPEST + 1, DEEPEST + 2, 64, 255] {
+        for n in [0, 1, 2, LARGEST_N + 1, LARGEST_N + 2, 64, 255] {
             refused(&with(&D, 4, &[n as u8]), 4);
             refused(&with(&D_WITH_START, 4, &[n as u8]), 4);
         }

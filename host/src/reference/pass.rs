@@ -152,7 +152,7 @@ fn sums(bits: &[u8]) -> Vec<u8> {
 mod tests {
     use super::*;
     use crate::reference::channel::read_channel;
-    use crate::reference::sizes::{DEEPEST, LAYERS, LONGEST};
+    use crate::reference::sizes::{LARGEST_N, LAYERS, LONGEST};
     use crate::reference::transform::transform;
     use crate::testing::random::Random;
     use crate::testing::samples;
@@ -311,7 +311,7 @@ mod tests {
     #[test]
     fn sums_are_the_transform() {
         let mut random = Random::new(6);
-        for n in 0..=DEEPEST {
+        for n in 0..=LARGEST_N {
             let bits = random.bits(1 << n);
             assert_eq!(sums(&bits), transform(&bits));
         }
@@ -325,7 +325,7 @@ mod tests {
         let mut random = Random::new(7);
         for _ in 0..20 {
             let leaves = pass(&random_values(&mut random, LONGEST), &[], &rules).leaves;
-            assert!(leaves.iter().all(|leaf| leaf.abs() <= 31 << DEEPEST));
+            assert!(leaves.iter().all(|leaf| leaf.abs() <= 31 << LARGEST_N));
         }
     }
 

@@ -9,16 +9,16 @@ use crate::reference::description::LONGEST_DESCRIPTION;
 pub const LAYERS: RangeInclusive<usize> = 3..=12;
 
 /// The largest n.
-pub const DEEPEST: usize = *LAYERS.end();
+pub const LARGEST_N: usize = *LAYERS.end();
 
 /// The longest code, N.
-pub const LONGEST: usize = 1 << DEEPEST;
+pub const LONGEST: usize = 1 << LARGEST_N;
 
 /// Its bits, packed: the bytes of the longest mask and of the longest codeword.
 pub const LONGEST_BYTES: usize = LONGEST / 8;
 
 /// The steps of one pass.
-pub const MOST_STEPS: usize = DEEPEST * LONGEST;
+pub const MOST_STEPS: usize = LARGEST_N * LONGEST;
 
 /// The trials of one call.
 pub const MOST_TRIALS: usize = LONGEST + 1;

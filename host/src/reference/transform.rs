@@ -18,7 +18,7 @@ fn with_bits(j: usize, size: usize) -> impl Iterator<Item = usize> {
 #[cfg(test)]
 mod tests {
     use super::*;
-    use crate::reference::sizes::DEEPEST;
+    use crate::reference::sizes::LARGEST_N;
     use crate::testing::random::Random;
 
     /// G^(⊗n) of document 000: the n-th Kronecker power of the rows 1 0 and 1 1.
@@ -62,7 +62,7 @@ mod tests {
     #[test]
     fn is_the_matrix_of_document_000() {
         let mut random = Random::new(1);
-        for n in 0..=DEEPEST {
+        for n in 0..=LARGEST_N {
             let matrix = kronecker_power(n);
             for _ in 0..3 {
                 let u = random.bits(1 << n);
@@ -74,7 +74,7 @@ mod tests {
     #[test]
     fn undoes_itself() {
         let mut random = Random::new(2);
-        for n in 0..=DEEPEST {
+        for n in 0..=LARGEST_N {
             let u = random.bits(1 << n);
             assert_eq!(transform(&transform(&u)), u);
         }

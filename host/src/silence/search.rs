@@ -51,7 +51,7 @@ pub fn first_limits(decode: Decoder, description: &[u8], count: usize) -> Vec<Op
 mod tests {
     use super::*;
     use crate::reference::description::record;
-    use crate::reference::sizes::{DEEPEST, LONGEST};
+    use crate::reference::sizes::{LARGEST_N, LONGEST};
     use crate::testing::decoders::REFERENCE;
     use crate::testing::paper::{D, D_WITH_START};
     use crate::testing::samples::useful_mask;
@@ -79,7 +79,7 @@ mod tests {
         let of = |d: Vec<u8>| starts_to_try(&describe(&d).expect("a code"));
         assert_eq!(of(D.to_vec()), 2);
         assert_eq!(of(record(6, 16, 1, &[true; 64])), 65_536);
-        let few = of(record(DEEPEST, 16, 1, &[true; LONGEST]));
+        let few = of(record(LARGEST_N, 16, 1, &[true; LONGEST]));
         assert!((10..1_000).contains(&few), "{few}");
     }
 }

@@ -13,12 +13,12 @@ use std::ops::RangeInclusive;
 use crate::reference::channel::{clip, value_byte};
 use crate::reference::description::{describe, is_information, mask_of, record, with_start, Code};
 use crate::reference::packing::pack;
-use crate::reference::sizes::{DEEPEST, LAYERS};
+use crate::reference::sizes::{LARGEST_N, LAYERS};
 use crate::testing::random::Random;
 
 /// Any n.
 pub fn layers(random: &mut Random) -> usize {
-    random.between(*LAYERS.start(), DEEPEST)
+    random.between(*LAYERS.start(), LARGEST_N)
 }
 
 /// A description that is accepted, of either kind, any check width and any number of information

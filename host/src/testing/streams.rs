@@ -7,14 +7,14 @@ use crate::reference::description::{
     describe, mask_of, record, record_with_start, with_start, Code,
 };
 use crate::reference::encode::codeword;
-use crate::reference::sizes::{DEEPEST, LONGEST, LONGEST_RECORD};
+use crate::reference::sizes::{LARGEST_N, LONGEST, LONGEST_RECORD};
 use crate::testing::hex::parse;
 use crate::testing::paper::{D, D_WITH_START, V};
 use crate::testing::random::Random;
 use crate::testing::samples;
 
 /// The n of the long codes that have cases of their own.
-const LONG: RangeInclusive<usize> = 10..=DEEPEST;
+const LONG: RangeInclusive<usize> = 10..=LARGEST_N;
 
 /// A channel record.
 pub fn channel(limit: u16, values: &[u8]) -> Vec<u8> {
@@ -63,8 +63,8 @@ pub fn recording() -> Vec<u8> {
 /// The recording of a survey: the longest description, with k = 1,024 and a check of 16 bits that
 /// starts at FFFF, and then twenty frames, four at each of five noise levels.
 pub fn survey() -> Vec<u8> {
-    let mask = samples::reliable_mask(DEEPEST, 1_024 + 16);
-    let d = record_with_start(DEEPEST, 16, 0x1021, 0xFFFF, &mask);
+    let mask = samples::reliable_mask(LARGEST_N, 1_024 + 16);
+    let d = record_with_start(LARGEST_N, 16, 0x1021, 0xFFFF, &mask);
     recorded(2027, &d, [6, 7, 8, 9, 10], 4)
 }
 
@@ -136,8 +136,8 @@ fn refused_descriptions() -> Vec<(String, Vec<u8>)> {
 /// one less, while D is held.
 fn refused_long_descriptions() -> Vec<(String, Vec<u8>)> {
     let frame = channel(2, &V);
-    let longest = record(DEEPEST, 1, 1, &[true; LONGEST]);
-    let beyond = record(DEEPEST + 1, 1, 1, &[true; 2 * LONGEST]);
+    let longest = record(LARGEST_N, 1, 1, &[true; LONGEST]);
+    let beyond = record(LARGEST_N + 1, 1, 1, &[true; 2 * LONGEST]);
     let kinds = [
         ("description", longest.clone(), beyond.clone()),
         ("kind-4", with_start(&longest, 1), with_start(&beyond, 1)),
@@ -306,7 +306,7 @@ pub fn printing(length: usize) -> Vec<u8> {
 /// A stream of `frames` frames whose lines are the longest ones, behind `before` short lines.
 pub fn long_lines(before: usize, frames: usize) -> Vec<u8> {
     let mut random = Random::new(before as u64);
-    let d = record(DEEPEST, 1, 1, &[true; LONGEST]);
+    let d = record(LARGEST_N, 1, 1, &[true; LONGEST]);
     let some = [1, 2, 3].map(|_| clear(&mut random, &d, 1));
     let frames = some.iter().cycle().take(frames).cloned();
     let stream = [blank(4, 7).repeat(before), d].into_iter().chain(frames);

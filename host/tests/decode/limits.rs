@@ -2,7 +2,7 @@
 
 use host::reference::description::{record, with_start};
 use host::reference::refusal::{refusal_number, Refusal};
-use host::reference::sizes::{DEEPEST, LAYERS, LONGEST, MOST_STEPS, MOST_TRIALS};
+use host::reference::sizes::{LARGEST_N, LAYERS, LONGEST, MOST_STEPS, MOST_TRIALS};
 use host::testing::decoders::{check, flipped, stays, ALL};
 use host::testing::passing::passing_description;
 use host::testing::random::Random;
@@ -84,12 +84,12 @@ fn check_most_trials(d: &[u8]) {
 
 #[test]
 fn the_most_trials() {
-    check_most_trials(&record(DEEPEST, 16, 0x8005, &[true; LONGEST]));
+    check_most_trials(&record(LARGEST_N, 16, 0x8005, &[true; LONGEST]));
 }
 
 #[test]
 fn the_most_trials_with_a_start() {
-    let d = record(DEEPEST, 16, 0x8005, &[true; LONGEST]);
+    let d = record(LARGEST_N, 16, 0x8005, &[true; LONGEST]);
     check_most_trials(&with_start(&d, 0xFFFF));
 }
 
@@ -97,7 +97,7 @@ fn the_most_trials_with_a_start() {
 #[test]
 fn late_trials() {
     let mut random = Random::new(13);
-    for n in 9..=DEEPEST {
+    for n in 9..=LARGEST_N {
         for _ in 0..4 {
             let ones = random.between(200, 500);
             let mask = samples::mask(&mut random, 1 << n, ones);

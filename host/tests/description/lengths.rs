@@ -1,7 +1,7 @@
 //! Lengths: of the largest n, near the right one, of too few bytes and of too many.
 
 use host::reference::description::{record, with_start, LONGEST_DESCRIPTION};
-use host::reference::sizes::{DEEPEST, LONGEST_RECORD};
+use host::reference::sizes::{LARGEST_N, LONGEST_RECORD};
 use host::testing::paper::{D, D_WITH_START};
 use host::testing::random::Random;
 
@@ -17,18 +17,18 @@ fn both_kinds(n: usize) -> [Vec<u8>; 2] {
 /// with any other.
 #[test]
 fn the_largest_n() {
-    let lengths = both_kinds(DEEPEST).map(|d| d.len());
+    let lengths = both_kinds(LARGEST_N).map(|d| d.len());
     assert_eq!(lengths, [LONGEST_DESCRIPTION, LONGEST_DESCRIPTION - 2]);
-    for n in DEEPEST - 2..=DEEPEST + 3 {
+    for n in LARGEST_N - 2..=LARGEST_N + 3 {
         for d in both_kinds(n) {
-            assert_eq!(check(&d), if n <= DEEPEST { 0 } else { 4 });
-            for other in DEEPEST + 1..256 {
+            assert_eq!(check(&d), if n <= LARGEST_N { 0 } else { 4 });
+            for other in LARGEST_N + 1..256 {
                 assert_eq!(check_with(&d, 4, &[other as u8]), 4);
             }
         }
     }
     for d in [&D[..], &D_WITH_START] {
-        assert_eq!(check_with(d, 4, &[DEEPEST as u8 + 1]), 4);
+        assert_eq!(check_with(d, 4, &[LARGEST_N as u8 + 1]), 4);
     }
 }
 
@@ -36,7 +36,7 @@ fn the_largest_n() {
 /// with the right one, whose low byte may be the same.
 #[test]
 fn lengths_near_those_of_long_descriptions() {
-    for n in 11..=DEEPEST {
+    for n in 11..=LARGEST_N {
         for d in both_kinds(n) {
             let right = d.len();
             for length in (right - 12..right + 12).chain([right - 256, right + 256]) {

@@ -1,7 +1,7 @@
 //! States that calls have not left: 40 answers each of them, and nothing is changed.
 
 use host::reference::hearing::{Hearing, MOST_HEARINGS};
-use host::reference::sizes::{DEEPEST, HEARING_SIZE, LAYERS};
+use host::reference::sizes::{LARGEST_N, HEARING_SIZE, LAYERS};
 use host::testing::cab::Cab;
 use host::testing::hearing::{damage, refusal, Call, Tally};
 use host::testing::random::Random;
@@ -171,7 +171,7 @@ fn any_bit_changed() {
 fn other_sizes() {
     let mut random = Random::new(3);
     let mut tally = Tally::default();
-    for n in [3, 7, DEEPEST] {
+    for n in [3, 7, LARGEST_N] {
         for cab in of_both_kinds(&mut random, n, true) {
             let state = after(&mut random, &cab, 2);
             change_size(&mut random, &cab, &state, &mut tally);

@@ -8,7 +8,7 @@ use host::reference::frame::Frame;
 use host::reference::packing::{pack, packed_length};
 use host::reference::placing::place;
 use host::reference::sets::{limits, sets_tried, LIMITS_OF_SETS};
-use host::reference::sizes::{DEEPEST, LAYERS, LONGEST, MOST_TRIALS};
+use host::reference::sizes::{LARGEST_N, LAYERS, LONGEST, MOST_TRIALS};
 use host::reference::transform::transform;
 use host::testing::passing::passing_description;
 use host::testing::random::Random;
@@ -228,7 +228,7 @@ fn check_strong(random: &mut Random, n: usize, flips: usize, outcomes: &mut Outc
 fn check_most_trials(ones: usize, most_flips: u32, limit: u32) {
     let mut random = Random::new(5);
     let mut outcomes = Outcomes::default();
-    let d = record(DEEPEST, 16, 0x8005, &samples::useful_mask(LONGEST, ones));
+    let d = record(LARGEST_N, 16, 0x8005, &samples::useful_mask(LONGEST, ones));
     let d = with_start(&d, 0xFFFF);
     let channel = samples::channel(&mut random, LONGEST, 31);
     let of = Lent {

@@ -4,7 +4,7 @@ use host::reference::description::{describe, record};
 use host::reference::packing::packed_length;
 use host::reference::refusal::refusal_number;
 use host::reference::sets::{limits, LIMITS_OF_SETS, MOST_FLIPS};
-use host::reference::sizes::{DEEPEST, LAYERS, MOST_TRIALS};
+use host::reference::sizes::{LARGEST_N, LAYERS, MOST_TRIALS};
 use host::testing::decoders::stays;
 use host::testing::random::Random;
 use host::testing::samples::{self, for_descriptions};
@@ -14,7 +14,7 @@ use crate::outcomes::Outcomes;
 
 /// Limits that are refused with this w, among them those that are allowed with another.
 fn beyond(most: u32) -> impl Iterator<Item = u32> {
-    let powers = (9..=DEEPEST + 1).chain([16, 24, 31]).map(|i| 1 << i);
+    let powers = (9..=LARGEST_N + 1).chain([16, 24, 31]).map(|i| 1 << i);
     let near = powers.flat_map(|power| [power, power + 1]);
     near.chain([0, most + 1, MOST_TRIALS as u32 + 1, u32::MAX])
         .filter(move |limit| !(1..=most).contains(limit))

@@ -13,7 +13,7 @@ use Rattle.refusal.specs.declared.Judgement.{Judgement}
 use Rattle.refusal.specs.Judge.{judge}
 use Rattle.refusal.proofs.Judge.{judge-none, judge-yes, judge-no}
 use Rattle.refusal.proofs.Tests.{outside-past}
-use Rattle.arrays.specs.Sizes.{deepest}
+use Rattle.arrays.specs.Sizes.{largestN}
 use Rattle.code.specs.Description.{word, isDescription, maskAt}
 use Rattle.code.specs.Contracts.{descriptionRefusals}
 use Rattle.code.proofs.TwoKinds.{mask-at-most, fields-there}
@@ -46,8 +46,8 @@ fields c =
 kind-is : (c : tie.After-is-description) → c .is-description .result ≡ isDescription (word (d2 (c .before .before)) 2)
 kind-is c = c .is-description .ensures ∙ ap isDescription (c .before .read-word2 .ensures)
 
-n-small : (c : tie.Else4) → getD (d4 c) 4 0 ≤ deepest
-n-small c = outside-past _ 3 deepest (sym (c .before .is-outside .ensures) ∙ c .if4 .left) .1
+n-small : (c : tie.Else4) → getD (d4 c) 4 0 ≤ largestN
+n-small c = outside-past _ 3 largestN (sym (c .before .is-outside .ensures) ∙ c .if4 .left) .1
 
 -- the length that kind and n ask for
 module _ (c : tie.After-mask-at) where

@@ -10,7 +10,7 @@ use lib.ListN.{length, getD, take}
 use Rattle.refusal.specs.declared.Judgement.{Judgement}
 use Rattle.refusal.specs.declared.Judgement.the-variants.{Fine}
 use Rattle.refusal.specs.Judge.{judge, refusedOr}
-use Rattle.arrays.specs.Sizes.{deepest}
+use Rattle.arrays.specs.Sizes.{largestN}
 use Rattle.code.specs.Code.{longestDescription}
 use Rattle.hearing.specs.Hearing.{Hearing, addedTo, addRefusals, isHearing}
 use Rattle.hearing.specs.Contracts.{hearingBy}
@@ -45,7 +45,7 @@ module _ (s : tie.Start) where
   coded : codeOfState state ≡ codeOfState (stateIn b)
   coded = ap codeOfState (state-parts b size)
 
-  n-most : s .args .code .n ≤ deepest
+  n-most : s .args .code .n ≤ largestN
   n-most = code-most state (s .args .code) (coded ∙ s .pre)
 
   hears : isHearing (s .args .code) h ≡ true

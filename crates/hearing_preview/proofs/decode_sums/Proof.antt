@@ -8,12 +8,12 @@ use denote.Ref.{now}
 use lib.ListN.{length, take}
 use lib.Seq.{length-take-le}
 use Rattle.laws.specs.Contracts.{splice}
-use Rattle.arrays.specs.Sizes.{deepest}
+use Rattle.arrays.specs.Sizes.{largestN}
 use Rattle.code.specs.declared.Code.{Code}
 use Rattle.code.specs.Code.{codeLength, longestDescription}
 use Rattle.code.specs.Description.{describe}
 use Rattle.code.specs.Record.{recordIn}
-use Rattle.flip_trial.specs.declared.Restart.the-variants.{After}
+use Rattle.flip_trial.specs.declared.Restart.the-variants.{AfterFlip}
 use Rattle.decoder.specs.Decoder.{single, decodedAs}
 use Rattle.hearing.specs.Hearing.{clippedSums, addedTo}
 use Rattle.hearing.specs.Contracts.{AddPre}
@@ -37,7 +37,7 @@ module _ (s : tie.Start) where
   size : length b ≡ hearingSize
   size = sums.size c b channel (s .pre)
 
-  channel-room : length channel ≤ 2 ^ deepest
+  channel-room : length channel ≤ 2 ^ largestN
   channel-room = omega (arith, sums.channel-long c b channel (s .pre), sums.room c b channel (s .pre))
 
   -- the description, as it is lent
@@ -81,7 +81,7 @@ returns r =
     let s = a .before .before .before .before .before .before .before .before in
     let output = now (s .args .output) in
     d .decode-values .ensures
-    ∙ ap₂ (λ (l v : List ℕ). decodedAs (single (s .args .limit)) After l (take (codeLength (c s)) v) output) (record-is s) (made a)
+    ∙ ap₂ (λ (l v : List ℕ). decodedAs (single (s .args .limit)) AfterFlip l (take (codeLength (c s)) v) output) (record-is s) (made a)
     ∙ sym (sums.decoded-sums (c s) (b s) (channel s) (s .pre) (s .args .limit) output)
 
 pub decode-sums-spec : {M : Type 1} → statement M

@@ -7,7 +7,7 @@ use borrow.Author.Needs.{needs}
 use denote.Ref.{now}
 use lib.ListN.{length}
 use Rattle.refusal.specs.Judge.{judge}
-use Rattle.arrays.specs.Sizes.{deepest}
+use Rattle.arrays.specs.Sizes.{largestN}
 use Rattle.hearing.specs.Hearing.{addRefusals}
 use Rattle.hearing_state.specs.State.{State}
 use Rattle.hearing_state.proofs.States.{code-most}
@@ -25,7 +25,7 @@ module _ (s : tie.Start) where
   size : length b ≡ hearingSize
   size = code-size b (s .args .code) (s .pre)
 
-  n-most : s .args .code .n ≤ deepest
+  n-most : s .args .code .n ≤ largestN
   n-most = code-most (stateIn b) (s .args .code) (s .pre)
 
 -- the count is that in the buffer

@@ -12,7 +12,7 @@ use lib.ListN.{getD}
 use mir.Syntax.{w32}
 use Rattle.laws.specs.Contracts.{segment}
 use Rattle.laws.proofs.Signed.{back-is}
-use Rattle.arrays.specs.Sizes.{deepest}
+use Rattle.arrays.specs.Sizes.{largestN}
 use Rattle.arrays.specs.Claims.{longest}
 use Rattle.transform.proofs.Halves.{halving}
 use Rattle.transform.proofs.combine.Reads as combine-reads
@@ -105,7 +105,7 @@ module _ (t : ℕ) where
       let s = start₂ k in
       let p = s .pre .1 .0 in
       let small = p .small (k .before .before .if1 .left) in
-      (sized-of (p .whole), omega (arith, p .fits, four k), subst₂ (λ (n m : ℕ). Within (most deepest n) (segment (now (s .args .work)) m m)) (free k .0) (four k) small)
+      (sized-of (p .whole), omega (arith, p .fits, four k), subst₂ (λ (n m : ℕ). Within (most largestN n) (segment (now (s .args .work)) m m)) (free k .0) (four k) small)
 
   returns-2 : lts.Need-returns-2 (Q t) (at t) node.Post
   returns-2 c =

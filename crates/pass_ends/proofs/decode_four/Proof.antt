@@ -13,7 +13,7 @@ use Rattle.laws.specs.Table.{table}
 use Rattle.laws.specs.Contracts.{segment}
 use Rattle.laws.proofs.Segment.{getD-segment}
 use Rattle.laws.proofs.Signed.{back, back-is}
-use Rattle.arrays.specs.Sizes.{deepest}
+use Rattle.arrays.specs.Sizes.{largestN}
 use Rattle.values.specs.Values.{rightValues, leftValues, g, f}
 use Rattle.values.specs.Claims.{Within}
 use Rattle.values.proofs.Bounds.{within-right, within-left, back-within}
@@ -65,7 +65,7 @@ decode-two-requires : tie.Need-decode-two-requires
 decode-two-requires c κs =
     let k = c .before .before .before in
     let p = s k .pre in
-    let low = subst (Within (most deepest 2)) (sym (left-own k)) (within-left 2 (p .2)) in
+    let low = subst (Within (most largestN 2)) (sym (left-own k)) (within-left 2 (p .2)) in
     (p .0, omega (arith, p .1), omega (arith, low .at 0, low .at 1))
 
 -- after the left half
@@ -102,7 +102,7 @@ decode-two-requires-2 c κs =
     let n = c .before .before .before in
     let st = s (m (l n)) in
     let p = st .pre in
-    let low = subst (Within (most deepest 2 + most deepest 2)) (sym (right-own n)) (within-right 2 (segment (sums (l n)) (st .args .base) 2) (p .2)) in
+    let low = subst (Within (most largestN 2 + most largestN 2)) (sym (right-own n)) (within-right 2 (segment (sums (l n)) (st .args .base) 2) (p .2)) in
     (free-sized 1 _ (now (st .args .rules)) (v st) (p .0) (p .1) (left-own (m (l n))) (l n .decode-two .ensures), omega (arith, p .1), omega (arith, low .at 0, low .at 1))
 
 -- after the right half

@@ -2,7 +2,7 @@
 use mathlib.Core.Path.{sym, subst}
 use borrow.Author.Needs.{needs}
 use denote.Ref.{now}
-use Rattle.flip_trial.specs.declared.Restart.the-variants.{After}
+use Rattle.flip_trial.specs.declared.Restart.the-variants.{AfterFlip}
 use Rattle.hearing_buffer.specs.Lent.{stateIn}
 use Rattle.polar_number.specs.Number.{decodedParts}
 use Rattle.polar.proofs.Answers.{numbered-answer}
@@ -15,6 +15,6 @@ polar-hearing-decode-restarted-spec =
     tie.close
     (tie.spec
     (λ c κs. search needs)
-    (λ c κs. let x = c .before .before .before .before .before .before .args in subst (Fits decodedParts) (sym (c .before .before .decode-restarted .ensures)) (held-fits After (stateIn (now (x .state))) (x .limit) (now (x .payload))))
+    (λ c κs. let x = c .before .before .before .before .before .before .args in subst (Fits decodedParts) (sym (c .before .before .decode-restarted .ensures)) (held-fits AfterFlip (stateIn (now (x .state))) (x .limit) (now (x .payload))))
     (λ c. search needs)
     (λ c. numbered-answer decodedParts (c .decoded-answer .ensures) (c .before .before .before .decode-restarted .ensures)))

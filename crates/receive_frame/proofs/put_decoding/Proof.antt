@@ -17,7 +17,7 @@ use Rattle.code.specs.declared.Description.the-variants.{Accepted}
 use Rattle.code.specs.Description.{describe, onDescription}
 use Rattle.code.specs.Claims.{Coded, Described}
 use Rattle.code.proofs.Facts.{described}
-use Rattle.flip_trial.specs.declared.Restart.the-variants.{After}
+use Rattle.flip_trial.specs.declared.Restart.the-variants.{AfterFlip}
 use Rattle.decoder.specs.Decoder.{single, decodedUnder, decodedRestarted}
 use Rattle.decoder.proofs.Decoder.{under-code}
 use Rattle.receive_lines.specs.Line.{noLine}
@@ -30,7 +30,7 @@ use Rattle.receive_frame.proofs.put_decoding.Tie as tie
 
 -- the line under a code, and the definition by an answer of `describe`
 abbrev under : List ℕ → Code → List ℕ → ℕ → List ℕ → List ℕ
-under mask c channel limit output = lineOfAnswer (decodedUnder (single limit) After mask c channel output)
+under mask c channel limit output = lineOfAnswer (decodedUnder (single limit) AfterFlip mask c channel output)
 
 abbrev by : List ℕ → List ℕ → ℕ → Description → List ℕ
 by held channel limit a =
@@ -82,7 +82,7 @@ returns c =
     let channel = now (s .args .channel) in
     put-as (c .before .before .before .put-decoded .ensures) _
     (ap₂ (λ (mask output : List ℕ). under mask (code a) channel (s .args .limit) output) (m .mask-of .ensures) (part-is (m .before))
-    ∙ ap lineOfAnswer (sym (under-code (single (s .args .limit)) After (held a) channel (replicate (bytesFor (code a .k)) 0) (code a) (sym (accepted a))))
+    ∙ ap lineOfAnswer (sym (under-code (single (s .args .limit)) AfterFlip (held a) channel (replicate (bytesFor (code a .k)) 0) (code a) (sym (accepted a))))
     ∙ ap (by (held a) channel (s .args .limit)) (accepted a))
 
 returns-2 : tie.Need-returns-2

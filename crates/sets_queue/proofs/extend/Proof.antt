@@ -11,7 +11,7 @@ use Rattle.arrays.specs.Claims.{longest}
 use Rattle.decoder.specs.Candidate.{pastLargest, doubtful, extensions}
 use Rattle.decoder.proofs.Metric.{doubtful-most}
 use Rattle.sets_queue.specs.declared.Stem.{Stem}
-use Rattle.sets_queue.specs.Contracts.{keyOf, StemFits, keysWith, Inserted}
+use Rattle.sets_queue.specs.Contracts.{setKey, StemFits, keysWith, Inserted}
 use Rattle.sets_queue.proofs.Walking.{doubtful-more}
 use Rattle.sets_queue.proofs.Extending.{inserted-none, inserted-more, extension-keys, extensions-none, stem-fits}
 use Rattle.sets_queue.proofs.extend.Statement.{statement}
@@ -23,7 +23,7 @@ Inv-loop mask leaves set low count room keys₀ stem small₀ end₀ j₀ keys s
     × (j ≤ 8 * length mask)
     × (small ≡ doubtful mask leaves j)
     × (length keys ≡ length keys₀)
-    × Inserted low count room end (map keyOf (extensions mask leaves set j)) keys₀ keys
+    × Inserted low count room end (map setKey (extensions mask leaves set j)) keys₀ keys
 
 abbrev μ-loop : tie.MeasureT-loop
 μ-loop mask leaves set low count room keys₀ stem small₀ end₀ j₀ keys small end j = 8 * length mask - j
@@ -58,7 +58,7 @@ loop-holds c =
       c .doubtful .ensures,
       refl,
       subst (λ (new : List ℕ). Inserted (s t .args .low) (s t .args .count) (s t .args .room) (s t .args .count) new (now (s t .args .keys)) (now (s t .args .keys)))
-          (ap (map keyOf) (sym none)) (inserted-none (s t .pre .2)),
+          (ap (map setKey) (sym none)) (inserted-none (s t .pre .2)),
     )
 
 -- one index more is counted
@@ -87,7 +87,7 @@ loop-again c =
       more d,
       r .append .kept .1 .1 .1 .1 .1 .1 .1 .1 .0 ∙ i .3,
       subst (λ (new : List ℕ). Inserted (s p .args .low) (s p .args .count) (s p .args .room) (r .append .result) new (now (s p .args .keys)) (r .append .last .1 .1 .1 .1 .1 .1 .1 .1 .0))
-          (ap (λ (xs : List ℕ). map keyOf (extensions (mask p) (leaves p) (set p) (l d .loop .j)) ++ xs) keys-are
+          (ap (λ (xs : List ℕ). map setKey (extensions (mask p) (leaves p) (set p) (l d .loop .j)) ++ xs) keys-are
           ∙ sym (extension-keys (mask p) (leaves p) (set p) (l d .loop .j) (l d .loop .small + d .doubt .result) (s p .pre .1 .few) (i .0) (more d)))
           (inserted-more (i .4) (r .append .ensures)),
     )
@@ -98,7 +98,7 @@ returns c =
     let p = k .before .before in
     let i = k .loop .inv in
     let e : k .loop .j ≡ 8 * length (mask p) = omega (arith, i .1, c .loop-test .left) in
-    subst (λ (n : ℕ). Inserted (s p .args .low) (s p .args .count) (s p .args .room) (k .loop .end) (map keyOf (extensions (mask p) (leaves p) (set p) n)) (now (s p .args .keys)) (k .loop .keys)) e (i .4)
+    subst (λ (n : ℕ). Inserted (s p .args .low) (s p .args .count) (s p .args .room) (k .loop .end) (map setKey (extensions (mask p) (leaves p) (set p) n)) (now (s p .args .keys)) (k .loop .keys)) e (i .4)
 
 pub extend-spec : {M : Type 1} → statement M
 extend-spec =

@@ -7,7 +7,7 @@ use lib.IntN.{ℤ, pos, natAbs}
 use lib.ListN.{getD}
 use mir.Syntax.{w32, w64}
 use Rattle.laws.proofs.Signed.{back, back-is, back-small, cast-nat}
-use Rattle.flip_order.specs.Order.{magnitude}
+use Rattle.flip_order.specs.Order.{magnitudeAt}
 use Rattle.sets_queue.proofs.magnitude_at.Statement.{statement}
 use Rattle.sets_queue.proofs.magnitude_at.Tie as tie
 
@@ -15,7 +15,7 @@ use Rattle.sets_queue.proofs.magnitude_at.Tie as tie
 leaf-back : (s : tie.Start) → back w32 (getD (now (s .args .leaves)) (s .args .j) (pos 0)) ≡ getD (now (s .args .leaves)) (s .args .j) (pos 0)
 leaf-back s = back-small w32 _ (s .pre .1)
 
-magnitude-back : (c : tie.After-magnitude) → back w32 (c .magnitude .result) ≡ pos (magnitude (now (c .before .before .args .leaves)) (c .before .before .args .j))
+magnitude-back : (c : tie.After-magnitude) → back w32 (c .magnitude .result) ≡ pos (magnitudeAt (now (c .before .before .args .leaves)) (c .before .before .args .j))
 magnitude-back c =
     let s = c .before .before in
     back-is w32 (c .magnitude .result) (record { sfits = c .magnitude .ok }) ∙ c .magnitude .ensures ∙ ap (λ (z : ℤ). pos (natAbs z)) (leaf-back s)

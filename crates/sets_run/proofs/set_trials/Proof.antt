@@ -27,7 +27,7 @@ use Rattle.flip_run.specs.Contracts.{Ran}
 use Rattle.flip_run.proofs.LoopStep.{trial-on, ran-passed}
 use Rattle.decoder.specs.Candidate.{Candidate}
 use Rattle.decoder.proofs.Limit.{limit-fits}
-use Rattle.sets_queue.specs.Contracts.{keyOf, Inserted}
+use Rattle.sets_queue.specs.Contracts.{setKey, Inserted}
 use Rattle.sets_run.specs.Contracts.{resumedAt}
 use Rattle.sets_run.proofs.Searching.{Searching, search-starts, search-ends, search-next, next-some, next-indices, next-places, next-flips, search-passes, search-goes-on}
 use Rattle.sets_run.proofs.Held.{leaves-pre, generated-is}
@@ -227,7 +227,7 @@ loop-again c =
       (
         _,
         search-goes-on (on .0) (next (i (j (r t))) .2) (set-is (j (r t))) (took t) (sym (ok-is p) ∙ e .if1 .left) (few t)
-            (subst (λ (new : List Candidate). Inserted (b .loop .at + 1) (b .loop .end) (s b .args .search .limit - 1) (w .generate .result) (map keyOf new) (b .loop .keys) (w .generate .last .1 .1 .1 .1 .1 .1 .1 .1 .0))
+            (subst (λ (new : List Candidate). Inserted (b .loop .at + 1) (b .loop .end) (s b .args .search .limit - 1) (w .generate .result) (map setKey new) (b .loop .keys) (w .generate .last .1 .1 .1 .1 .1 .1 .1 .1 .0))
             (generated-is (on .0) (set-flips (j (r t))) (on .2) (made-is t) (coded-size t) (resumes-at t)) (w .generate .ensures)),
       ),
       plain-after (b .loop .inv .1) (on .1 .first-bits) (set-flips (j (r t))) (s b .args .search .restart) (coded-size t) (resumes (r t)) (t .later-trial .ensures .1) (size-fits b),

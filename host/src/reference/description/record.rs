@@ -47,7 +47,7 @@ fn mask_byte(ones: &[bool]) -> u8 {
 mod tests {
     use super::*;
     use crate::reference::description::LONGEST_DESCRIPTION;
-    use crate::reference::sizes::{DEEPEST, LONGEST, LONGEST_BYTES};
+    use crate::reference::sizes::{LARGEST_N, LONGEST, LONGEST_BYTES};
     use crate::testing::hex::parse;
     use crate::testing::paper::{D, D_WITH_START};
 
@@ -69,7 +69,7 @@ mod tests {
     /// Their length has a second byte that is not zero.
     #[test]
     fn the_longest_records() {
-        let longest = record(DEEPEST, 16, 0x8005, &[true; LONGEST]);
+        let longest = record(LARGEST_N, 16, 0x8005, &[true; LONGEST]);
         assert_eq!(longest[..8], parse("08 02 01 00 0C 10 05 80"));
         assert_eq!(longest[8..], [0xFF; LONGEST_BYTES]);
         let longest = with_start(&longest, 0);

@@ -105,7 +105,7 @@ mod tests {
     use super::*;
     use crate::reference::description::record_with_start;
     use crate::reference::hearing::MOST_HEARINGS;
-    use crate::reference::sizes::{DEEPEST, LAYERS, LONGEST};
+    use crate::reference::sizes::{LARGEST_N, LAYERS, LONGEST};
     use crate::testing::paper::{D, D_WITH_START, RIGHT, V};
     use crate::testing::samples;
 
@@ -170,7 +170,7 @@ mod tests {
 
     #[test]
     fn the_longest_code_fills_the_state() {
-        let longest = record_with_start(DEEPEST, 16, 0x8005, 0xFFFF, &[true; LONGEST]);
+        let longest = record_with_start(LARGEST_N, 16, 0x8005, 0xFFFF, &[true; LONGEST]);
         let state = state(&longest, &[-31; LONGEST], MOST_HEARINGS);
         assert_eq!(state[..COUNT], longest);
         assert_eq!(state[COUNT], 255);

@@ -3,7 +3,7 @@
 use crate::reference::description::{
     describe, has_start, header_length, mask_of, record, word, REFUSALS,
 };
-use crate::reference::sizes::{DEEPEST, LAYERS};
+use crate::reference::sizes::{LARGEST_N, LAYERS};
 use crate::testing::random::Random;
 use crate::testing::samples::{description, layers, mask};
 
@@ -80,7 +80,7 @@ fn put_fault(random: &mut Random, d: &mut Vec<u8>, refusal: usize) {
             put_word(d, 0, length);
         }
         3 => put_word(d, 2, other_kind(random)),
-        4 => d[4] = random.between(DEEPEST + 1, 255 + LAYERS.start()) as u8,
+        4 => d[4] = random.between(LARGEST_N + 1, 255 + LAYERS.start()) as u8,
         5 => put_other_length(random, d),
         6 => d[5] = wrong_width(random),
         7 if r < 16 && random.bit() => set_bit(d, 6, random.between(r, 15)),
