@@ -36,8 +36,8 @@ fn all_stay_against_themselves() {
 
 #[test]
 fn a_crate_with_another_name() {
-    let path = |path: String| path.replace("crates/sets_demands/", "crates/demands/");
-    let older = replaced("Rattle.sets_demands", "Rattle.demands");
+    let path = |path: String| path.replace("crates/hearing_demands/", "crates/demands/");
+    let older = replaced("Rattle.hearing_demands", "Rattle.demands");
     let older = older.into_iter().map(|(of, text)| (path(of), text));
     let changes = since(older.collect());
     assert_eq!(

@@ -43,10 +43,10 @@ const ALLOWED: [(&str, &str); 14] = [
     ("host/src/reference/sizes.rs", ""),
     ("host/tests/sizes.rs", ""),
     // the largest trial limit where sets may have two indices
-    ("crates/sets/", "512"),
+    ("crates/decoder/", "512"),
     ("crates/sets_decoder/", "512"),
+    ("crates/decoder_demands/proofs/", "512"),
     ("crates/vectors/proofs/Sets.antt", "512"),
-    ("crates/vectors/proofs/Half.antt", "512"),
     ("host/src/reference/sets.rs", "LIMITS_OF_SETS: "),
     ("host/bench/plain/sets.h", "MOST_LIMIT = 512"),
     ("host/plain/src/sets.rs", "MOST_LIMIT: usize = 512"),

@@ -26,7 +26,13 @@ fn judge_limit(limit: u32, code: Code) -> Judgement
 }
 
 // Decodes a channel's values into the packed payload, by the mask and the code of a description.
-pub fn decode_by(terms: Terms, mask: &[u8], code: Code, channel: &[u8], output: &mut [u8]) -> Decoded
+pub fn decode_by(
+    terms: Terms,
+    mask: &[u8],
+    code: Code,
+    channel: &[u8],
+    output: &mut [u8],
+) -> Decoded
     requires { ⌜ Coded (now mask) code ⌝ }
     ensures { λ a. ⌜ (a, now (output .exit))
         ≡ decodedUnder (single (terms .limit)) (terms .restart) (now (mask .entry)) code (now (channel .entry)) (now (output .entry)) ⌝ }

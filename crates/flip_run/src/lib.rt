@@ -193,7 +193,13 @@ fn run_trials(terms: Terms, mask: &[u8], code: Code, channel: &[u8], sums: &mut 
 }
 
 // Runs the trials and answers.
-pub fn decode_in(terms: Terms, mask: &[u8], code: Code, channel: &[u8], output: &mut [u8]) -> Decoded
+pub fn decode_in(
+    terms: Terms,
+    mask: &[u8],
+    code: Code,
+    channel: &[u8],
+    output: &mut [u8],
+) -> Decoded
     requires { ⌜ RunPre terms (now mask) code (now channel) (now output) ⌝ }
     ensures { λ a. ⌜ (a, now (output .exit)) ≡ answerBy terms (now (mask .entry)) code (now (channel .entry)) (now (output .entry)) ⌝ }
 {

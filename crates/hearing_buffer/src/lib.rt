@@ -130,7 +130,13 @@ fn decode_under(terms: Terms, code: Code, buffer: &[u8], output: &mut [u8]) -> D
         ≡ decodedAs (single (terms .limit)) (terms .restart) (descriptionOf (stateIn (now (buffer .entry))))
         (combined code (stateIn (now (buffer .entry)) .hearing)) (now (output .entry)) ⌝ }
 {
-    hearing_state::decode_values(terms, code, &buffer[..LONGEST], &buffer[VALUES_AT..], output)
+    hearing_state::decode_values(
+        terms,
+        code,
+        &buffer[..LONGEST],
+        &buffer[VALUES_AT..],
+        output,
+    )
 }
 
 // Decodes the hearing in a buffer. Its values are not copied.

@@ -70,7 +70,8 @@ pub fn decode_values(
 ) -> Decoded
     requires { ⌜ DecodePre code (now bytes) (now values) ⌝ }
     ensures { λ a. ⌜ (a, now (output .exit))
-        ≡ decodedAs (single (terms .limit)) (terms .restart) (recordIn (now (bytes .entry))) (take (codeLength code) (now (values .entry))) (now (output .entry)) ⌝ }
+        ≡ decodedAs (single (terms .limit)) (terms .restart) (recordIn (now (bytes .entry)))
+        (take (codeLength code) (now (values .entry))) (now (output .entry)) ⌝ }
 {
     let size = 1usize << code.n;
     flip_decoder::decode_by(
