@@ -143,7 +143,9 @@ fn code(name: &str) -> String {
 /// How often a word stands in some code.
 fn words(code: &str, word: &str) -> usize {
     let is_part = |c: char| c.is_alphanumeric() || c == '_';
-    code.split(|c| !is_part(c)).filter(|part| *part == word).count()
+    code.split(|c| !is_part(c))
+        .filter(|part| *part == word)
+        .count()
 }
 
 /// Contracts say that n looks are counted as n. They do not say that the mask is read by looks alone, or
@@ -151,11 +153,23 @@ fn words(code: &str, word: &str) -> usize {
 #[test]
 fn the_mask_is_read_in_one_place() {
     let placing = code("placing");
-    let uses = ["mask: &[u8]", "mask.len()", "placed_byte(mask, ", "walk.look(mask)"];
+    let uses = [
+        "mask: &[u8]",
+        "mask.len()",
+        "placed_byte(mask, ",
+        "walk.look(mask)",
+    ];
     let used = uses.map(|part| placing.matches(part).count());
-    assert_eq!(used.iter().sum::<usize>(), words(&placing, "mask"), "{used:?}");
+    assert_eq!(
+        used.iter().sum::<usize>(),
+        words(&placing, "mask"),
+        "{used:?}"
+    );
     let looks = words(&placing, "look");
-    assert_eq!(looks, placing.matches("let seen = walk.look(mask);").count());
+    assert_eq!(
+        looks,
+        placing.matches("let seen = walk.look(mask);").count()
+    );
     assert_eq!(looks, placing.matches("walk = seen.walk;").count());
     assert_eq!(words(&placing, "bits"), 0);
 

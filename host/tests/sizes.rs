@@ -3,7 +3,7 @@
 
 use host::reference::description::{record, LONGEST_DESCRIPTION};
 use host::reference::sizes::{
-    LARGEST_N, HEARING_SIZE, LAYERS, LONGEST, LONGEST_BYTES, MOST_STEPS, MOST_TRIALS,
+    HEARING_SIZE, LARGEST_N, LAYERS, LONGEST, LONGEST_BYTES, MOST_STEPS, MOST_TRIALS,
 };
 use host::testing::files::{below, text};
 
@@ -141,12 +141,18 @@ fn the_largest_n_is_the_same_everywhere() {
             "crates/arrays/specs/Sizes.antt",
             format!("largestN = {LARGEST_N}\n"),
         ),
-        ("host/plain/src/lib.rs", format!("LARGEST_N: u8 = {LARGEST_N};")),
+        (
+            "host/plain/src/lib.rs",
+            format!("LARGEST_N: u8 = {LARGEST_N};"),
+        ),
         (
             "host/bench/plain/code.h",
             format!("#define LARGEST_N {LARGEST_N}\n"),
         ),
-        ("include/polar.h", format!("n outside {least}..{LARGEST_N}\n")),
+        (
+            "include/polar.h",
+            format!("n outside {least}..{LARGEST_N}\n"),
+        ),
         ("include/polar.h", format!("at most {with_comma};")),
         (
             "include/polar.h",

@@ -3,7 +3,7 @@
 use host::reference::description::{describe, record, with_start};
 use host::reference::packing::packed_length;
 use host::reference::sets::{limits, MOST_FLIPS};
-use host::reference::sizes::{LARGEST_N, HEARING_SIZE, LONGEST, LONGEST_BYTES};
+use host::reference::sizes::{HEARING_SIZE, LARGEST_N, LONGEST, LONGEST_BYTES};
 use host::testing::files::text;
 use host::testing::library;
 use host::testing::random::Random;

@@ -15,7 +15,7 @@ use Rattle.refusal.proofs.Tests.{differs-past, outside-past, differs-no, outsid
 use Rattle.bits.specs.Packing.{bytesFor}
 use Rattle.code.specs.declared.Code.{Code}
 use Rattle.code.specs.declared.Description.{Description}
-use Rattle.code.specs.declared.Description.the-variants.{Accepted as Coding, Refused as NoCode}
+use Rattle.code.specs.declared.Description.the-variants as Description
 use Rattle.code.specs.Code.{informationCount}
 use Rattle.code.specs.Description.{maskOf, describe, onDescription}
 use Rattle.code.specs.Claims.{WellFormedUnder}
@@ -63,11 +63,11 @@ module _ (p : Decoder) (restart : Restart) (d channel output : List ℕ) where
   abbrev by : Description → Decoded × List ℕ
   by x = onDescription x (λ r. (Refused r, output)) (λ c. decodedUnder p restart (maskOf d) c channel output)
 
-  pub description-refused : (x : Refusal) → describe d ≡ NoCode x → decodedAs p restart d channel output ≡ (Refused x, output)
+  pub description-refused : (x : Refusal) → describe d ≡ Description.Refused x → decodedAs p restart d channel output ≡ (Refused x, output)
   unfolding decodedAs
   description-refused x e = ap by e
 
-  pub under-code : (c : Code) → describe d ≡ Coding c → decodedAs p restart d channel output ≡ decodedUnder p restart (maskOf d) c channel output
+  pub under-code : (c : Code) → describe d ≡ Description.Accepted c → decodedAs p restart d channel output ≡ decodedUnder p restart (maskOf d) c channel output
   unfolding decodedAs
   under-code c e = ap by e
 

@@ -12,7 +12,7 @@ use Rattle.bits.specs.Bit.{number}
 use Rattle.bits.specs.Mask.{onesBelow}
 use Rattle.bits.specs.Packing.{packed}
 use Rattle.code.specs.declared.Code.{Code}
-use Rattle.code.specs.declared.Description.the-variants.{Accepted as Coding}
+use Rattle.code.specs.declared.Description.the-variants as Description
 use Rattle.code.specs.Description.{maskOf, describeUpTo, describe}
 use Rattle.crc.specs.Check.{checkOf}
 use Rattle.transform.specs.Transform.{covers, parity, transformed, xors}
@@ -93,7 +93,7 @@ ten = (3 ∷ []) ∷ (3 ∷ 5 ∷ []) ∷ (3 ∷ 6 ∷ []) ∷ (5 ∷ []) ∷ (6
 -- whatever byte the output held
 pub record SetExamples (byte : ℕ) : Type 0 where
   -- the description is accepted
-  pub described : describe wideD ≡ Coding wideCode
+  pub described : describe wideD ≡ Description.Accepted wideCode
   -- single flips on V: trial 2 flips 5 and is accepted. Half restart resumes at 4 and restarted decoding at 6.
   pub by-single-flips :
       (flipOrder (maskOf wideD) wideCode (channelValues vector) ≡ 5 ∷ 3 ∷ 6 ∷ 7 ∷ [])

@@ -13,7 +13,7 @@ use Rattle.refusal.specs.declared.Judgement.the-variants.{Fine}
 use Rattle.refusal.specs.Judge.{differs, outside, judge, refusedOr}
 use Rattle.bits.specs.Packing.{bytesFor}
 use Rattle.code.specs.declared.Code.{Code}
-use Rattle.code.specs.declared.Description.the-variants.{Accepted as Coding}
+use Rattle.code.specs.declared.Description.the-variants as Description
 use Rattle.code.specs.Code.{informationCount}
 use Rattle.code.specs.Description.{maskOf, describe, onDescription}
 use Rattle.channel.specs.Channel.{channelValues, channelRefusals}
@@ -49,7 +49,7 @@ refusalsOf p c channel output = channelRefusals c channel ++ (ownRefusals p c ++
 -- a call is well-formed under the code c of d if no refusal before 16 applies: `well-formed-exactly` of proofs/Decoder.antt
 pub record WellFormed (p : Decoder) (d : List ℕ) (c : Code) (channel output : List ℕ) : Type 0 where
   -- d is accepted
-  pub described : describe d ≡ Coding c
+  pub described : describe d ≡ Description.Accepted c
   -- 12, 13, 26, 14 and 15 do not apply
   pub fine : judge (refusalsOf p c channel output) ≡ Fine
 

@@ -13,7 +13,7 @@ use Rattle.refusal.specs.Judge.{differs, judge}
 use Rattle.bits.specs.Packing.{bytesFor}
 use Rattle.code.specs.declared.Code.{Code}
 use Rattle.code.specs.declared.Description.{Description}
-use Rattle.code.specs.declared.Description.the-variants.{Accepted as Coding, Refused as NoCode}
+use Rattle.code.specs.declared.Description.the-variants as Description
 use Rattle.code.specs.Code.{codeLength}
 use Rattle.code.specs.Description.{maskOf, describe}
 use Rattle.code.specs.Claims.{Coded}
@@ -37,7 +37,7 @@ skipped-root mask c [] = refl
 skipped-root mask c (i ∷ is) = omega (arith, skipped-none (c .n), skipped-root mask c is)
 
 -- no refusal applies to outputs of this size
-module _ (p : Decoder) (d : List ℕ) (c : Code) (channel : List ℕ) (size : ℕ) (code : describe d ≡ Coding c)
+module _ (p : Decoder) (d : List ℕ) (c : Code) (channel : List ℕ) (size : ℕ) (code : describe d ≡ Description.Accepted c)
     (fine : (o : List ℕ) → length o ≡ size → judge (refusalsOf p c channel o) ≡ Fine) where
   abbrev mask : List ℕ
   mask = maskOf d
@@ -93,10 +93,10 @@ agreement p d channel size = go (describe d) refl
     sized : (c : Code) (o : List ℕ) → length o ≡ size → judge (refusalsOf p c channel o) ≡ judge (refusalsOf p c channel (replicate size 0))
     sized c o l = alike p c channel o (replicate size 0) (l ∙ sym (length-replicate size 0))
 
-    under : (c : Code) → describe d ≡ Coding c → (j : Judgement) → judge (refusalsOf p c channel (replicate size 0)) ≡ j → Agree p d channel size
+    under : (c : Code) → describe d ≡ Description.Accepted c → (j : Judgement) → judge (refusalsOf p c channel (replicate size 0)) ≡ j → Agree p d channel size
     under c e Fine h = inr (c, e, same-run p d c channel size e (λ o l. sized c o l ∙ h))
     under c e (Refusing r) h = inl (r, λ restart o l. under-code p restart d channel o c e ∙ refused-answer p restart (maskOf d) c channel o r (sized c o l ∙ h))
 
     go : (x : Description) → describe d ≡ x → Agree p d channel size
-    go (Coding c) e = under c e (judge (refusalsOf p c channel (replicate size 0))) refl
-    go (NoCode r) e = inl (r, λ restart o l. description-refused p restart d channel o r e)
+    go (Description.Accepted c) e = under c e (judge (refusalsOf p c channel (replicate size 0))) refl
+    go (Description.Refused r) e = inl (r, λ restart o l. description-refused p restart d channel o r e)

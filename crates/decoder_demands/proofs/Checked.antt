@@ -10,7 +10,7 @@ use Rattle.bits.specs.Claims.{Bits}
 use Rattle.bits.specs.Mask.{maskBit}
 use Rattle.bits.specs.Packing.{packed}
 use Rattle.code.specs.declared.Code.{Code}
-use Rattle.code.specs.declared.Description.the-variants.{Accepted as Coding}
+use Rattle.code.specs.declared.Description.the-variants as Description
 use Rattle.code.specs.Code.{codeLength}
 use Rattle.code.specs.Description.{maskOf, describe}
 use Rattle.channel.specs.Channel.{channelValues}
@@ -60,7 +60,7 @@ module _ (mask : List ℕ) (c : Code) (v : List ℤ) (restart : Restart) where
 
 -- the trial that passed, in full
 pub passed-at : (p : Decoder) (restart : Restart) (d : List ℕ) (c : Code) (channel output : List ℕ) (trial steps : ℕ) (payload : List ℕ)
-    → describe d ≡ Coding c → decodedAs p restart d channel output ≡ (Accepted trial steps, payload)
+    → describe d ≡ Description.Accepted c → decodedAs p restart d channel output ≡ (Accepted trial steps, payload)
     → (bits : List ℕ) × PassedAt (trialPasses (maskOf d) c) (trialsOf p restart (maskOf d) c (channelValues channel)) trial steps bits × (payload ≡ packed (take (c .k) (messageIn (maskOf d) c bits)))
 passed-at p restart d c channel output trial steps payload code e =
     run-accepts (maskOf d) c output (trialsOf p restart (maskOf d) c (channelValues channel)) trial steps payload

@@ -21,7 +21,7 @@ use Rattle.bits.specs.Bit.{number}
 use Rattle.bits.specs.Mask.{maskBit, onesBelow}
 use Rattle.bits.specs.Packing.{packed, unpacked}
 use Rattle.code.specs.declared.Code.{Code}
-use Rattle.code.specs.declared.Description.the-variants.{Accepted as Coding}
+use Rattle.code.specs.declared.Description.the-variants as Description
 use Rattle.code.specs.Description.{maskOf, describeUpTo, describe}
 use Rattle.crc.specs.Check.{checkOf}
 use Rattle.transform.specs.Transform.{covers, parity, transformed}
@@ -54,11 +54,11 @@ use Rattle.decoder_demands.proofs.Noiseless.{noiseless, noiseless-decod
 use Rattle.decoder_demands.proofs.Checked.{only-checked, after-all}
 use Rattle.decoder_demands.proofs.Larger.{stays-accepted}
 
-pub describes : describe wideD ≡ Coding wideCode
+pub describes : describe wideD ≡ Description.Accepted wideCode
 describes = set-examples 0 .described
 
-same-code : {c : Code} → describe wideD ≡ Coding c → c ≡ wideCode
-same-code {c} e = let same : Coding c ≡ Coding wideCode = sym e ∙ describes in cc
+same-code : {c : Code} → describe wideD ≡ Description.Accepted c → c ≡ wideCode
+same-code {c} e = let same : Description.Accepted c ≡ Description.Accepted wideCode = sym e ∙ describes in cc
 
 -- the kind of an answer
 abbrev kindOf : Decoded × List ℕ → ℕ

@@ -15,7 +15,7 @@ use Rattle.bits.proofs.Lists.{bits-unpacked}
 use Rattle.bits.proofs.Mask.{mask-cases}
 use Rattle.bits.proofs.Packing.{length-unpacked, packed-unpacked}
 use Rattle.code.specs.declared.Code.{Code}
-use Rattle.code.specs.declared.Description.the-variants.{Accepted as Coding}
+use Rattle.code.specs.declared.Description.the-variants as Description
 use Rattle.code.specs.Code.{codeLength, informationCount, divisor, startBits}
 use Rattle.code.specs.Description.{maskOf, describe}
 use Rattle.code.specs.Claims.{Described}
@@ -98,7 +98,7 @@ module _ (mask : List ℕ) (c : Code) (payload : List ℕ) (ones : onesBelow mas
       ∙ packed-unpacked payload (c .k) small size clear
 
 -- trials that begin with trial 1, whatever follows: the first one passes, with the payload
-pub first-answer : (d : List ℕ) (c : Code) (payload channel output : List ℕ) → describe d ≡ Coding c → Received (codeLength c) d payload channel → (later : List Out)
+pub first-answer : (d : List ℕ) (c : Code) (payload channel output : List ℕ) → describe d ≡ Description.Accepted c → Received (codeLength c) d payload channel → (later : List Out)
     → answerOf (maskOf d) c output (run (trialPasses (maskOf d) c) 0 0 (firstTrial (maskOf d) c (channelValues channel) ∷ later)) ≡ (Accepted 1 (c .n * codeLength c), payload)
 first-answer d c payload channel output code r later =
     let mask : List ℕ = maskOf d in

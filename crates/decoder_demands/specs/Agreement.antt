@@ -8,7 +8,7 @@ use lib.IntN.{ℤ}
 use lib.ListN.{length, take}
 use Rattle.refusal.specs.declared.Refusal.{Refusal}
 use Rattle.code.specs.declared.Code.{Code}
-use Rattle.code.specs.declared.Description.the-variants.{Accepted as Coding}
+use Rattle.code.specs.declared.Description.the-variants as Description
 use Rattle.code.specs.Code.{codeLength}
 use Rattle.code.specs.Description.{maskOf, describe}
 use Rattle.channel.specs.Channel.{channelValues}
@@ -77,7 +77,7 @@ pub record SameRun (p : Decoder) (d : List ℕ) (c : Code) (channel : List ℕ) 
 abbrev pub Agree : Decoder → List ℕ → List ℕ → ℕ → Type 0
 Agree p d channel size =
     ((r : Refusal) × Answers p d channel size (λ restart output. (Refused r, output)))
-    ⊎ ((c : Code) × (describe d ≡ Coding c) × SameRun p d c channel size)
+    ⊎ ((c : Code) × (describe d ≡ Description.Accepted c) × SameRun p d c channel size)
 
 -- every decoder, and any input at all
 abbrev pub Agreement : Type 0

@@ -8,7 +8,7 @@ use lib.IntN.{ℤ}
 use lib.ListN.{length, getD}
 use Rattle.bits.specs.Packing.{packed}
 use Rattle.code.specs.declared.Code.{Code}
-use Rattle.code.specs.declared.Description.the-variants.{Accepted as Coding}
+use Rattle.code.specs.declared.Description.the-variants as Description
 use Rattle.code.specs.Code.{codeLength}
 use Rattle.code.specs.Description.{maskOf, describe}
 use Rattle.transform.specs.Transform.{transformed}
@@ -28,7 +28,7 @@ bitsOf p restart mask c v t = getD (map (λ o. o .bits) (trialsOf p restart mask
 abbrev pub OnlyChecked : Type 0
 OnlyChecked =
     (p : Decoder) (restart : Restart) (d : List ℕ) (c : Code) (channel output : List ℕ) (trial steps : ℕ) (payload : List ℕ)
-    → describe d ≡ Coding c → decodedAs p restart d channel output ≡ (Accepted trial steps, payload)
+    → describe d ≡ Description.Accepted c → decodedAs p restart d channel output ≡ (Accepted trial steps, payload)
     → let bits = bitsOf p restart (maskOf d) c (channelValues channel) trial in
     (trialPasses (maskOf d) c bits ≡ true)
     × ((codeword : List ℕ) → length codeword ≡ codeLength c / 8 → encoded d payload codeword ≡ (Done, packed (transformed (c .n) bits)))
@@ -37,6 +37,6 @@ OnlyChecked =
 abbrev pub AfterAll : Type 0
 AfterAll =
     (p : Decoder) (restart : Restart) (d : List ℕ) (c : Code) (channel output : List ℕ) (made steps : ℕ) (bytes : List ℕ)
-    → describe d ≡ Coding c → decodedAs p restart d channel output ≡ (Refused16 made steps, bytes)
+    → describe d ≡ Description.Accepted c → decodedAs p restart d channel output ≡ (Refused16 made steps, bytes)
     → (made ≡ length (trialsOf p restart (maskOf d) c (channelValues channel)))
     × ((t : ℕ) → 1 ≤ t → t ≤ made → trialPasses (maskOf d) c (bitsOf p restart (maskOf d) c (channelValues channel) t) ≡ false)

@@ -7,7 +7,7 @@ use lib.ListN.{length}
 use Rattle.refusal.specs.declared.Judgement.the-variants.{Fine}
 use Rattle.refusal.specs.Judge.{judge}
 use Rattle.code.specs.declared.Code.{Code}
-use Rattle.code.specs.declared.Description.the-variants.{Accepted as Coding}
+use Rattle.code.specs.declared.Description.the-variants as Description
 use Rattle.code.specs.Description.{describe}
 use Rattle.flip_trial.specs.declared.Restart.{Restart}
 use Rattle.flip_run.specs.declared.Decoded.the-variants.{Accepted}
@@ -22,6 +22,6 @@ pub data GoesOn : Decoder → Decoder → Type 0 where
 abbrev pub StaysAccepted : Type 0
 StaysAccepted =
     (p p′ : Decoder) (restart : Restart) (d : List ℕ) (c : Code) (channel output output′ : List ℕ) (trial steps : ℕ) (payload : List ℕ)
-    → describe d ≡ Coding c → GoesOn p p′ → judge (ownRefusals p′ c) ≡ Fine → length output′ ≡ length output
+    → describe d ≡ Description.Accepted c → GoesOn p p′ → judge (ownRefusals p′ c) ≡ Fine → length output′ ≡ length output
     → decodedAs p restart d channel output ≡ (Accepted trial steps, payload)
     → decodedAs p′ restart d channel output′ ≡ (Accepted trial steps, payload)

@@ -14,7 +14,7 @@ use Rattle.refusal.specs.Judge.{judge, refusedOr}
 use Rattle.arrays.specs.Sizes.{largestN}
 use Rattle.arrays.proofs.Zeros.{length-padded}
 use Rattle.code.specs.declared.Code.{Code}
-use Rattle.code.specs.declared.Description.the-variants.{Accepted as Coding}
+use Rattle.code.specs.declared.Description.the-variants as Description
 use Rattle.code.specs.Description.{describe}
 use Rattle.code.specs.Code.{longestDescription}
 use Rattle.hearing.specs.Hearing.{fresh, addRefusals}
@@ -33,7 +33,7 @@ record InBuffer (b : List ℕ) (s : State) : Type 0 where
   size : length b ≡ hearingSize
   reads : stateIn b ≡ s
 
-module _ (d : List ℕ) (c : Code) (code : describe d ≡ Coding c) where
+module _ (d : List ℕ) (c : Code) (code : describe d ≡ Description.Accepted c) where
   -- a state that calls leave is read back from its bytes
   written : {s : State} {vectors : List (List ℕ)} → Invariant d c code s vectors → InBuffer (bytesOf s) s
   written {s} k =

@@ -11,7 +11,7 @@ use Rattle.arrays.specs.Padded.{padded, allZero}
 use Rattle.arrays.proofs.Zeros.{are-zeros, take-padded, drop-padded}
 use Rattle.code.specs.declared.Code.{Code}
 use Rattle.code.specs.declared.Description.{Description}
-use Rattle.code.specs.declared.Description.the-variants.{Accepted as Coding}
+use Rattle.code.specs.declared.Description.the-variants as Description
 use Rattle.code.specs.Description.{word, describe, onDescription}
 use Rattle.code.specs.Claims.{Laid, accepts}
 use Rattle.code.specs.Code.{longestDescription}
@@ -26,7 +26,7 @@ use Rattle.hearing.specs.Hearing.{Hearing, combined, fresh, isHearing}
 use Rattle.hearing_state.specs.State.{State, stateOf, noState, descriptionOf, codeOfState, refusedIn, opened, decodedHeldWith}
 use Rattle.hearing_state.proofs.States.{code-by}
 
-module _ (d : List ℕ) (c : Code) (code : describe d ≡ Coding c) where
+module _ (d : List ℕ) (c : Code) (code : describe d ≡ Description.Accepted c) where
   pub description-room : length d ≤ longestDescription
   description-room = description-most (described d c code)
 
@@ -45,7 +45,7 @@ module _ (d : List ℕ) (c : Code) (code : describe d ≡ Coding c) where
         ap (λ (k : ℕ). take k (padded longestDescription d)) (field ∙ laid .length-field) ∙ take-padded longestDescription d description-room
 
     -- zeros follow it
-    pub code-of : isHearing c h ≡ true → codeOfState (stateOf d h) ≡ Coding c
+    pub code-of : isHearing c h ≡ true → codeOfState (stateOf d h) ≡ Description.Accepted c
     code-of is =
         let s : State = stateOf d h in
         let zeros : allZero (drop (length (descriptionOf s)) (s .description)) ≡ true =

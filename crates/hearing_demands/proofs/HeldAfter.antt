@@ -15,7 +15,7 @@ use Rattle.refusal.proofs.Judge.{refused-fine, refused-by}
 use Rattle.arrays.specs.Sizes.{largestN}
 use Rattle.arrays.proofs.Sizes.{fits}
 use Rattle.code.specs.declared.Code.{Code}
-use Rattle.code.specs.declared.Description.the-variants.{Accepted as Coding}
+use Rattle.code.specs.declared.Description.the-variants as Description
 use Rattle.code.specs.Code.{codeLength}
 use Rattle.code.specs.Description.{describe}
 use Rattle.code.proofs.Facts.{described}
@@ -38,7 +38,7 @@ fold-snoc : (size : ℕ) (sums : List ℤ) (vectors : List (List ℕ)) (channel 
 fold-snoc size sums [] channel = refl
 fold-snoc size sums (v ∷ vectors) channel = fold-snoc size _ vectors channel
 
-module _ (d : List ℕ) (c : Code) (code : describe d ≡ Coding c) where
+module _ (d : List ℕ) (c : Code) (code : describe d ≡ Description.Accepted c) where
   abbrev N : ℕ
   N = codeLength c
 

@@ -25,7 +25,7 @@ use Rattle.bits.specs.Mask.{onesBelow}
 use Rattle.bits.specs.Packing.{packed}
 use Rattle.code.specs.declared.Code.{Code}
 use Rattle.code.specs.declared.Description.{Description}
-use Rattle.code.specs.declared.Description.the-variants.{Accepted as Coding}
+use Rattle.code.specs.declared.Description.the-variants as Description
 use Rattle.code.specs.Description.{maskOf, describeUpTo, describe, onDescription}
 use Rattle.code.specs.Code.{longestDescription}
 use Rattle.crc.specs.Check.{checkOf}
@@ -62,7 +62,7 @@ d = 0x09 ∷ 0x00 ∷ 0x01 ∷ 0x00 ∷ 0x03 ∷ 0x03 ∷ 0x03 ∷ 0x00 ∷ 0xE8
 abbrev c : Code
 c = record { n = 3; r = 3; polynomial = 3; start = 0; k = 1 }
 
-describes : describe d ≡ Coding c
+describes : describe d ≡ Description.Accepted c
 unfolding judge refusedOr onesBelow describeUpTo
 describes = refl
 
@@ -228,7 +228,7 @@ values-bytes : Each Byte 0 (twice .hearing .values)
 unfolding below
 values-bytes = padded-bytes (2 ^ largestN) sumsV refl
 
-twice-coded : codeOfState twice ≡ Coding c
+twice-coded : codeOfState twice ≡ Description.Accepted c
 twice-coded = code-of d c describes (hearingOf sumsV 2) (heard-hearing c sumsV sums-inside 1 (omega arith))
 
 -- as a state

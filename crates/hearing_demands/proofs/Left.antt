@@ -21,7 +21,7 @@ use Rattle.arrays.specs.Sizes.{largestN}
 use Rattle.arrays.specs.Padded.{padded, allZero}
 use Rattle.arrays.proofs.Zeros.{and-true, zeros-are, zeros-past}
 use Rattle.code.specs.declared.Code.{Code}
-use Rattle.code.specs.declared.Description.the-variants.{Accepted as Coding}
+use Rattle.code.specs.declared.Description.the-variants as Description
 use Rattle.code.specs.Code.{codeLength, longestDescription}
 use Rattle.code.specs.Description.{word, describe}
 use Rattle.code.proofs.Facts.{described}
@@ -56,7 +56,7 @@ zero-and b l small =
 abbrev Byte : ℕ → Type 0
 Byte b = b < 256
 
-module _ (d : List ℕ) (c : Code) (code : describe d ≡ Coding c) where
+module _ (d : List ℕ) (c : Code) (code : describe d ≡ Description.Accepted c) where
   abbrev N : ℕ
   N = codeLength c
 
@@ -106,7 +106,7 @@ padded-is size k w long {from} l e =
 
 -- ---- the state
 
-module _ (s : State) (c : Code) (z : FitsBuffer s) (e : codeOfState s ≡ Coding c) where
+module _ (s : State) (c : Code) (z : FitsBuffer s) (e : codeOfState s ≡ Description.Accepted c) where
   abbrev d : List ℕ
   d = descriptionOf s
 
@@ -116,7 +116,7 @@ module _ (s : State) (c : Code) (z : FitsBuffer s) (e : codeOfState s ≡ Coding
   abbrev v : List ℕ
   v = combined c h
 
-  code : describe d ≡ Coding c
+  code : describe d ≡ Description.Accepted c
   code = state-is s c e .0
 
   parts : (allZero (drop (length d) (s .description)) ≡ true) × (isHearing c h ≡ true)

@@ -8,7 +8,7 @@ use Rattle.refusal.specs.declared.Judgement.the-variants.{Fine, Refused}
 use Rattle.refusal.specs.Judge.{judge, refusedOr}
 use Rattle.code.specs.declared.Code.{Code}
 use Rattle.code.specs.declared.Description.{Description}
-use Rattle.code.specs.declared.Description.the-variants.{Accepted as Coding, Refused as NoCode}
+use Rattle.code.specs.declared.Description.the-variants as Description
 use Rattle.code.specs.Description.{onDescription}
 use Rattle.hearing.specs.Hearing.{addRefusals}
 use Rattle.hearing_state.specs.State.{State, codeOfState, refusedIn}
@@ -30,8 +30,8 @@ module _ (s : State) (x : Refusal) where
   judged-keeps (Refused y) after e = refl
 
   coded-keeps : (a : Description) (go : Code → Judgement × State) → ((c : Code) → Keeps (go c)) → Keeps (onDescription a (refusedIn s) go)
-  coded-keeps (Coding c) go keeps e = keeps c e
-  coded-keeps (NoCode y) go keeps e = refl
+  coded-keeps (Description.Accepted c) go keeps e = keeps c e
+  coded-keeps (Description.Refused y) go keeps e = refl
 
 pub refused-keeps : RefusedKeeps
 refused-keeps s (add channel) x =

@@ -7,7 +7,7 @@ use Rattle.refusal.specs.declared.Refusal.{Refusal}
 use Rattle.refusal.specs.declared.Judgement.the-variants.{Refused}
 use Rattle.arrays.specs.Sizes.{largestN}
 use Rattle.code.specs.declared.Code.{Code}
-use Rattle.code.specs.declared.Description.the-variants.{Accepted as Coding}
+use Rattle.code.specs.declared.Description.the-variants as Description
 use Rattle.code.specs.Code.{codeLength, longestDescription}
 use Rattle.code.specs.Description.{describe}
 use Rattle.channel.specs.Channel.{firstOutside}
@@ -27,7 +27,7 @@ pub record Bounds (c : Code) (s : State) (vectors : List (List ℕ)) : Type 0 wh
 
 -- any code, and any list of adds and clears from a fresh hearing: `held-bounds` of proofs/HeldAfter.antt
 abbrev pub HeldBounds : Type 0
-HeldBounds = (d : List ℕ) (c : Code) (calls : List Call) → describe d ≡ Coding c → Bounds c (after (opened d .1) calls) (acceptedIn c [] calls)
+HeldBounds = (d : List ℕ) (c : Code) (calls : List Call) → describe d ≡ Description.Accepted c → Bounds c (after (opened d .1) calls) (acceptedIn c [] calls)
 
 -- a refused call changes nothing: `refused-keeps`
 abbrev pub RefusedKeeps : Type 0
@@ -42,10 +42,10 @@ pub record FitsBuffer (s : State) : Type 0 where
 -- Refusal 40 is for what no list of calls leaves: a state that is not refused is left by some adds, from a fresh hearing of its description.
 -- `left-by-some` of proofs/Left.antt. That what calls leave is not refused is `Holds .code-is`.
 abbrev pub LeftBySome : Type 0
-LeftBySome = (s : State) (c : Code) → FitsBuffer s → codeOfState s ≡ Coding c → (calls : List Call) × (after (opened (descriptionOf s) .1) calls ≡ s)
+LeftBySome = (s : State) (c : Code) → FitsBuffer s → codeOfState s ≡ Description.Accepted c → (calls : List Call) × (after (opened (descriptionOf s) .1) calls ≡ s)
 
 -- So are the bytes of a buffer whose state is not refused: `bytes-left` of proofs/Left.antt.
 abbrev pub BytesLeft : Type 0
 BytesLeft =
-    (b : List ℕ) (c : Code) → length b ≡ hearingSize → ((i : ℕ) → getD b i 0 < 256) → codeOfState (stateIn b) ≡ Coding c
+    (b : List ℕ) (c : Code) → length b ≡ hearingSize → ((i : ℕ) → getD b i 0 < 256) → codeOfState (stateIn b) ≡ Description.Accepted c
     → (calls : List Call) × (bytesOf (after (opened (descriptionOf (stateIn b)) .1) calls) ≡ b)

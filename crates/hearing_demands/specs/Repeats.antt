@@ -9,7 +9,7 @@ use Rattle.laws.specs.Table.{table}
 use Rattle.refusal.specs.declared.Judgement.{Judgement}
 use Rattle.refusal.specs.Judge.{judge, refusedOr}
 use Rattle.code.specs.declared.Code.{Code}
-use Rattle.code.specs.declared.Description.the-variants.{Accepted as Coding}
+use Rattle.code.specs.declared.Description.the-variants as Description
 use Rattle.code.specs.Code.{codeLength}
 use Rattle.code.specs.Description.{describe}
 use Rattle.channel.specs.Channel.{clip, channelValues}
@@ -54,7 +54,7 @@ pub record Holds (d : List ℕ) (c : Code) (s : State) (vectors : List (List ℕ
   -- it holds the description
   pub description-is : descriptionOf s ≡ d
   -- it is a state of that code: no later call is refused as 40
-  pub code-is : codeOfState s ≡ Coding c
+  pub code-is : codeOfState s ≡ Description.Accepted c
   -- the count is the number of the vectors
   pub count-is : s .hearing .count ≡ length vectors
   -- the held values are the fold of clipped sums
@@ -67,7 +67,7 @@ pub record Holds (d : List ℕ) (c : Code) (s : State) (vectors : List (List ℕ
 
 -- any code, and any list of adds and clears from a fresh hearing
 abbrev pub HeldAfter : Type 0
-HeldAfter = (d : List ℕ) (c : Code) (calls : List Call) → describe d ≡ Coding c → Holds d c (after (opened d .1) calls) (acceptedIn c [] calls)
+HeldAfter = (d : List ℕ) (c : Code) (calls : List Call) → describe d ≡ Description.Accepted c → Holds d c (after (opened d .1) calls) (acceptedIn c [] calls)
 
 -- for C: what a call leaves in a buffer
 abbrev pub calledIn : List ℕ → Call → List ℕ
@@ -84,4 +84,4 @@ bufferAfter b (call ∷ calls) = bufferAfter (calledIn b call) calls
 abbrev pub BufferAfter : Type 0
 BufferAfter =
     (d b : List ℕ) (c : Code) (calls : List Call)
-    → describe d ≡ Coding c → length b ≡ hearingSize → stateIn (bufferAfter (openedIn d b .1) calls) ≡ after (opened d .1) calls
+    → describe d ≡ Description.Accepted c → length b ≡ hearingSize → stateIn (bufferAfter (openedIn d b .1) calls) ≡ after (opened d .1) calls

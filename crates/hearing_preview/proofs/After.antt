@@ -9,7 +9,7 @@ use Rattle.refusal.specs.Judge.{judge, refusedOr}
 use Rattle.refusal.proofs.Judge.{refused-fine}
 use Rattle.code.specs.declared.Code.{Code}
 use Rattle.code.specs.declared.Description.{Description}
-use Rattle.code.specs.declared.Description.the-variants.{Accepted as Coding}
+use Rattle.code.specs.declared.Description.the-variants as Description
 use Rattle.code.specs.Description.{describe, onDescription}
 use Rattle.flip_trial.specs.declared.Restart.the-variants.{AfterFlip}
 use Rattle.flip_run.specs.declared.Decoded.the-variants.{Refused}
@@ -39,7 +39,7 @@ module _ (channel : List ℕ) where
   accepted-more c vectors (add other ∷ calls) e = accepted-more c _ calls e
   accepted-more c vectors (clear ∷ calls) e = accepted-more c [] calls e
 
-module _ (d : List ℕ) (c : Code) (calls : List Call) (channel : List ℕ) (code : describe d ≡ Coding c) where
+module _ (d : List ℕ) (c : Code) (calls : List Call) (channel : List ℕ) (code : describe d ≡ Description.Accepted c) where
   abbrev s : State
   s = after (opened d .1) calls
 

@@ -8,7 +8,7 @@ use Rattle.refusal.specs.declared.Judgement.the-variants.{Fine, Refused}
 use Rattle.refusal.specs.Judge.{judge, refusedOr}
 use Rattle.code.specs.declared.Code.{Code}
 use Rattle.code.specs.declared.Description.{Description}
-use Rattle.code.specs.declared.Description.the-variants.{Accepted as Coding, Refused as NoCode}
+use Rattle.code.specs.declared.Description.the-variants as Description
 use Rattle.code.specs.Description.{onDescription}
 use Rattle.flip_trial.specs.declared.Restart.the-variants.{AfterFlip}
 use Rattle.flip_run.specs.declared.Decoded.{Decoded}
@@ -31,7 +31,7 @@ module _ (b channel : List ℕ) (limit : ℕ) (output : List ℕ) where
   abbrev Alike : Judgement × State → Type 0
   Alike a = thenRestartedIn (answerIn a b) limit output ≡ refusedOr (a .0) (λ x. (decode.Refused x, output)) (decodedHeldWith AfterFlip (a .1) limit output)
 
-  judged : (c : Code) → codeOfState s ≡ Coding c → (j : Judgement) → judge (addRefusals c (s .hearing .count) channel) ≡ j
+  judged : (c : Code) → codeOfState s ≡ Description.Accepted c → (j : Judgement) → judge (addRefusals c (s .hearing .count) channel) ≡ j
       → Alike (refusedOr j (refusedIn s) (Fine, withHearing s (addedTo c (s .hearing) channel)))
   unfolding refusedOr
   judged c e Fine f =
@@ -42,8 +42,8 @@ module _ (b channel : List ℕ) (limit : ℕ) (output : List ℕ) where
 
   coded : (a : Description) → codeOfState s ≡ a → Alike (onDescription a (refusedIn s) (λ c. addedUnder c s channel))
   unfolding refusedOr
-  coded (Coding c) e = judged c e (judge (addRefusals c (s .hearing .count) channel)) refl
-  coded (NoCode x) e = refl
+  coded (Description.Accepted c) e = judged c e (judge (addRefusals c (s .hearing .count) channel)) refl
+  coded (Description.Refused x) e = refl
 
   -- the preview in the buffer, by what is judged: no code, or under its code the refusals of the add
   abbrev in-copy : Description → Decoded × List ℕ
@@ -52,16 +52,16 @@ module _ (b channel : List ℕ) (limit : ℕ) (output : List ℕ) where
   abbrev under : Code → Judgement → Decoded × List ℕ
   under c j = thenRestartedIn (answerIn (refusedOr j (refusedIn s) (Fine, withHearing s (addedTo c (s .hearing) channel))) b) limit output
 
-  pub preview-no-code : (x : Refusal) → codeOfState s ≡ NoCode x → previewedIn b channel limit output ≡ (decode.Refused x, output)
+  pub preview-no-code : (x : Refusal) → codeOfState s ≡ Description.Refused x → previewedIn b channel limit output ≡ (decode.Refused x, output)
   unfolding refusedOr
   preview-no-code x e = ap in-copy e
 
-  pub preview-refused : (c : Code) (x : Refusal) → codeOfState s ≡ Coding c → judge (addRefusals c (s .hearing .count) channel) ≡ Refused x
+  pub preview-refused : (c : Code) (x : Refusal) → codeOfState s ≡ Description.Accepted c → judge (addRefusals c (s .hearing .count) channel) ≡ Refused x
       → previewedIn b channel limit output ≡ (decode.Refused x, output)
   unfolding refusedOr
   preview-refused c x e f = ap in-copy e ∙ ap (under c) f
 
-  pub preview-fine : (c : Code) → codeOfState s ≡ Coding c → judge (addRefusals c (s .hearing .count) channel) ≡ Fine
+  pub preview-fine : (c : Code) → codeOfState s ≡ Description.Accepted c → judge (addRefusals c (s .hearing .count) channel) ≡ Fine
       → previewedIn b channel limit output ≡ decodedHeldWith AfterFlip (withHearing s (addedTo c (s .hearing) channel)) limit output
   unfolding refusedOr
   preview-fine c e f = ap in-copy e ∙ ap (under c) f ∙ judged c e Fine f

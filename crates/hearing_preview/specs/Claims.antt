@@ -7,7 +7,7 @@ use Rattle.refusal.specs.declared.Refusal.{Refusal}
 use Rattle.refusal.specs.declared.Judgement.the-variants as judgement
 use Rattle.refusal.specs.Judge.{judge, refusedOr}
 use Rattle.code.specs.declared.Code.{Code}
-use Rattle.code.specs.declared.Description.the-variants.{Accepted as Coding}
+use Rattle.code.specs.declared.Description.the-variants as Description
 use Rattle.code.specs.Description.{describe}
 use Rattle.flip_trial.specs.declared.Restart.the-variants.{AfterFlip}
 use Rattle.flip_run.specs.declared.Decoded.{Decoded}
@@ -45,11 +45,11 @@ pub record Previews (d : List ℕ) (c : Code) (s : State) (vectors : List (List 
 abbrev pub PreviewAfter : Type 0
 PreviewAfter =
     (d : List ℕ) (c : Code) (calls : List Call) (channel : List ℕ)
-    → describe d ≡ Coding c → Previews d c (after (opened d .1) calls) (acceptedIn c [] calls) channel
+    → describe d ≡ Description.Accepted c → Previews d c (after (opened d .1) calls) (acceptedIn c [] calls) channel
 
 -- in any buffer of the right size in which a hearing is opened, the answer is that of the state of `after`: `preview-in-after`
 abbrev pub PreviewInAfter : Type 0
 PreviewInAfter =
     (d b : List ℕ) (c : Code) (calls : List Call) (channel : List ℕ) (limit : ℕ) (output : List ℕ)
-    → describe d ≡ Coding c → length b ≡ hearingSize
+    → describe d ≡ Description.Accepted c → length b ≡ hearingSize
     → previewedIn (bufferAfter (openedIn d b .1) calls) channel limit output ≡ previewed (after (opened d .1) calls) channel limit output

@@ -14,7 +14,7 @@ use Rattle.bits.specs.Claims.{Bits}
 use Rattle.bits.specs.Mask.{onesBelow}
 use Rattle.bits.specs.Packing.{packed}
 use Rattle.code.specs.declared.Code.{Code}
-use Rattle.code.specs.declared.Description.the-variants.{Accepted as Coding}
+use Rattle.code.specs.declared.Description.the-variants as Description
 use Rattle.code.specs.Description.{maskOf, describeUpTo, describe}
 use Rattle.crc.specs.Check.{checkOf}
 use Rattle.transform.specs.Transform.{covers, parity, transformed, xors}
@@ -43,7 +43,7 @@ D4 = 0x0B ∷ 0x00 ∷ 0x04 ∷ 0x00 ∷ 0x03 ∷ 0x01 ∷ 0x01 ∷ 0x00 ∷ 0x0
 abbrev pub code4 : Code
 code4 = record { n = 3; r = 1; polynomial = 1; start = 1; k = 3 }
 
-describes : describe D4 ≡ Coding code4
+describes : describe D4 ≡ Description.Accepted code4
 unfolding describeUpTo judge refusedOr onesBelow
 describes = refl
 

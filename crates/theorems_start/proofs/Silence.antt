@@ -26,7 +26,7 @@ use Rattle.bits.specs.Claims.{Bits}
 use Rattle.bits.proofs.Lists.{bits-take, bits-of}
 use Rattle.bits.proofs.Mask.{mask-cases}
 use Rattle.code.specs.declared.Code.{Code}
-use Rattle.code.specs.declared.Description.the-variants.{Accepted as Coding}
+use Rattle.code.specs.declared.Description.the-variants as Description
 use Rattle.code.specs.Code.{codeLength, informationCount, divisor, startBits}
 use Rattle.code.specs.Description.{maskOf, describe}
 use Rattle.code.specs.Claims.{Described}

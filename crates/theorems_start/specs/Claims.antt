@@ -10,7 +10,7 @@ use Rattle.bits.specs.Bit.{bitsOf}
 use Rattle.bits.specs.Claims.{Bits}
 use Rattle.bits.specs.Packing.{packed, unpacked}
 use Rattle.code.specs.declared.Code.{Code}
-use Rattle.code.specs.declared.Description.the-variants.{Accepted as Coding}
+use Rattle.code.specs.declared.Description.the-variants as Description
 use Rattle.code.specs.Code.{codeLength, divisor}
 use Rattle.code.specs.Description.{maskOf, describe, onDescription}
 use Rattle.code.specs.Claims.{describeKind1}
@@ -52,7 +52,7 @@ TrialsAlike =
 -- Given bits pass with at most one start: `one-start` of proofs/Silence.antt. So of all starts of a code at most one for each trial accepts silence.
 abbrev pub OneStart : Type 0
 OneStart =
-    (d : List ℕ) (c : Code) (bits : List ℕ) (s s′ : ℕ) → describe d ≡ Coding c → Bits bits → s < 2 ^ c .r → s′ < 2 ^ c .r
+    (d : List ℕ) (c : Code) (bits : List ℕ) (s s′ : ℕ) → describe d ≡ Description.Accepted c → Bits bits → s < 2 ^ c .r → s′ < 2 ^ c .r
     → trialPasses (maskOf d) (startingAt s c) bits ≡ true → trialPasses (maskOf d) (startingAt s′ c) bits ≡ true → s ≡ s′
 
 -- Document 01's operations by themselves: a description of kind 1, its mask from byte 8 on, and the check with start 0, which is the one of

@@ -11,7 +11,7 @@ use Rattle.bits.specs.Bit.{number}
 use Rattle.bits.specs.Mask.{onesBelow}
 use Rattle.bits.specs.Packing.{packed}
 use Rattle.code.specs.declared.Code.{Code}
-use Rattle.code.specs.declared.Description.the-variants.{Accepted as Coding}
+use Rattle.code.specs.declared.Description.the-variants as Description
 use Rattle.code.specs.Description.{maskOf, describeUpTo, describe}
 use Rattle.crc.specs.Check.{checkOf}
 use Rattle.transform.specs.Transform.{covers, parity, transformed, xors}
@@ -44,7 +44,7 @@ middlePairV = 0xF8 ∷ 0xFC ∷ 0xFF ∷ 0xF7 ∷ 0x02 ∷ 0x05 ∷ 0xFC ∷ 0x0
 
 -- whatever byte the output held
 pub record HalfExamples (byte : ℕ) : Type 0 where
-  pub described : describe middleD ≡ Coding middleCode
+  pub described : describe middleD ≡ Description.Accepted middleCode
   -- trials 2, 3 and 4 flip 3, 4 and 5. Half restart takes 24 + 24 + 12 + 12 steps.
   pub by-single-flips :
       (flipOrder (maskOf middleD) middleCode (channelValues middleV) ≡ 3 ∷ 4 ∷ 5 ∷ 6 ∷ 7 ∷ [])

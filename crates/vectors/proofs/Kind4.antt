@@ -12,7 +12,7 @@ use Rattle.bits.specs.Bit.{number}
 use Rattle.bits.specs.Mask.{onesBelow}
 use Rattle.bits.specs.Packing.{packed}
 use Rattle.code.specs.declared.Code.{Code}
-use Rattle.code.specs.declared.Description.the-variants.{Accepted as Coding, Refused as NoCode}
+use Rattle.code.specs.declared.Description.the-variants as Description
 use Rattle.code.specs.Description.{describeUpTo, describe}
 use Rattle.code.specs.Claims.{withStart}
 use Rattle.crc.specs.Check.{checkOf}
@@ -47,18 +47,18 @@ ofKind kind = 0x09 ∷ 0x00 ∷ kind ∷ 0x00 ∷ 0x03 ∷ 0x01 ∷ 0x01 ∷ 0x0
 -- from the length field. Kinds 0, 2, 3 and 5 are no descriptions. With a polynomial of 0 and start 2, 7 comes before 25; with start 2 and
 -- one information index, 25 before 8.
 pub kind-4-rows :
-    (describe (D4 1) ≡ Coding code4)
+    (describe (D4 1) ≡ Description.Accepted code4)
     × (withStart 1 D ≡ D4 1)
-    × (describe (D4 2) ≡ NoCode (Alone 25))
-    × (describe (take 8 (D4 1)) ≡ NoCode (Alone 1))
-    × (describe (take 9 (D4 1)) ≡ NoCode (Alone 1))
-    × (describe (take 10 (D4 1)) ≡ NoCode (Alone 2))
-    × (describe (ofKind 0) ≡ NoCode (Alone 3))
-    × (describe (ofKind 2) ≡ NoCode (Alone 3))
-    × (describe (ofKind 3) ≡ NoCode (Alone 3))
-    × (describe (ofKind 5) ≡ NoCode (Alone 3))
-    × (describe (0x0B ∷ 0x00 ∷ 0x04 ∷ 0x00 ∷ 0x03 ∷ 0x01 ∷ 0x00 ∷ 0x00 ∷ 0x02 ∷ 0x00 ∷ 0xE8 ∷ []) ≡ NoCode (Alone 7))
-    × (describe (0x0B ∷ 0x00 ∷ 0x04 ∷ 0x00 ∷ 0x03 ∷ 0x01 ∷ 0x01 ∷ 0x00 ∷ 0x02 ∷ 0x00 ∷ 0x80 ∷ []) ≡ NoCode (Alone 25))
+    × (describe (D4 2) ≡ Description.Refused (Alone 25))
+    × (describe (take 8 (D4 1)) ≡ Description.Refused (Alone 1))
+    × (describe (take 9 (D4 1)) ≡ Description.Refused (Alone 1))
+    × (describe (take 10 (D4 1)) ≡ Description.Refused (Alone 2))
+    × (describe (ofKind 0) ≡ Description.Refused (Alone 3))
+    × (describe (ofKind 2) ≡ Description.Refused (Alone 3))
+    × (describe (ofKind 3) ≡ Description.Refused (Alone 3))
+    × (describe (ofKind 5) ≡ Description.Refused (Alone 3))
+    × (describe (0x0B ∷ 0x00 ∷ 0x04 ∷ 0x00 ∷ 0x03 ∷ 0x01 ∷ 0x00 ∷ 0x00 ∷ 0x02 ∷ 0x00 ∷ 0xE8 ∷ []) ≡ Description.Refused (Alone 7))
+    × (describe (0x0B ∷ 0x00 ∷ 0x04 ∷ 0x00 ∷ 0x03 ∷ 0x01 ∷ 0x01 ∷ 0x00 ∷ 0x02 ∷ 0x00 ∷ 0x80 ∷ []) ≡ Description.Refused (Alone 25))
 unfolding describeUpTo judge refusedOr onesBelow
 kind-4-rows = (refl, refl, refl, refl, refl, refl, refl, refl, refl, refl, refl, refl)
 

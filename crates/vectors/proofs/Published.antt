@@ -17,7 +17,7 @@ use Rattle.bits.specs.Bit.{bitsOf, number}
 use Rattle.bits.specs.Mask.{onesBelow}
 use Rattle.bits.specs.Packing.{packed, unpacked}
 use Rattle.code.specs.declared.Code.{Code}
-use Rattle.code.specs.declared.Description.the-variants.{Accepted as Coding}
+use Rattle.code.specs.declared.Description.the-variants as Description
 use Rattle.code.specs.Description.{describeUpTo, describe}
 use Rattle.crc.specs.Check.{checkOf}
 use Rattle.transform.specs.Transform.{covers, parity, transformed}
@@ -48,7 +48,7 @@ digits = 0x31 ∷ 0x32 ∷ 0x33 ∷ 0x34 ∷ 0x35 ∷ 0x36 ∷ 0x37 ∷ 0x38 ∷
 abbrev sent : List ℕ
 sent = 0x57 ∷ 0x08 ∷ 0xF8 ∷ 0xE3 ∷ 0x57 ∷ 0xA2 ∷ 0x07 ∷ 0x2A ∷ 0x07 ∷ 0xA2 ∷ 0x07 ∷ 0xE6 ∷ 0x07 ∷ 0x08 ∷ 0xF8 ∷ 0x2F ∷ []
 
-pub ibm-3740-code : describe description ≡ Coding code
+pub ibm-3740-code : describe description ≡ Description.Accepted code
 unfolding describeUpTo judge refusedOr onesBelow
 ibm-3740-code = refl
 

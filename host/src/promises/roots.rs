@@ -23,10 +23,7 @@ const OPERATIONS: [(&str, &str); 16] = [
 ];
 
 /// The exports for tests that promise the numbers of an answer that C does not get.
-const NUMBERED: [(&str, &str); 2] = [
-    ("probe", "probe_description"),
-    ("probe", "probe_quantise"),
-];
+const NUMBERED: [(&str, &str); 2] = [("probe", "probe_description"), ("probe", "probe_quantise")];
 
 /// The crate whose exports are public operations too.
 const EXPORTING: &str = "polar";

@@ -1,7 +1,7 @@
 //! States that calls have not left: 40 answers each of them, and nothing is changed.
 
 use host::reference::hearing::{Hearing, MOST_HEARINGS};
-use host::reference::sizes::{LARGEST_N, HEARING_SIZE, LAYERS};
+use host::reference::sizes::{HEARING_SIZE, LARGEST_N, LAYERS};
 use host::testing::cab::Cab;
 use host::testing::hearing::{damage, refusal, Call, Tally};
 use host::testing::random::Random;
