@@ -2,10 +2,10 @@
 use mathlib.Core.Path.{_≡_, refl, sym, ap, _∙_, subst}
 use mathlib.Core.Bool.{true}
 use mathlib.Core.List.{List, [], _∷_, map}
-use Prim.Native.Nat.{ℕ, zero, suc, _+_, _-_, _<_, _≤_}
+use Prim.Native.Nat.{ℕ, zero, suc, _-_, _<_, _≤_}
 use native.Mathlib.Omega.{arith}
 use lib.IntN.{ℤ}
-use lib.ListN.{length, getD, take, length-map}
+use lib.ListN.{length, getD, take}
 use Rattle.bits.specs.Claims.{Bits}
 use Rattle.bits.specs.Mask.{maskBit}
 use Rattle.bits.specs.Packing.{packed}
@@ -17,13 +17,13 @@ use Rattle.channel.specs.Channel.{channelValues}
 use Rattle.pass_tree.specs.Node.{Out}
 use Rattle.encoder.specs.Encode.{encoded}
 use Rattle.flip_trial.specs.declared.Restart.{Restart}
-use Rattle.flip_trial.specs.Trial.{firstTrial, lowest, restartAt, laterTrial, messageIn, trialPasses}
+use Rattle.flip_trial.specs.Trial.{lowest, restartAt, laterTrial, messageIn, trialPasses}
 use Rattle.flip_trial.proofs.Bounds.{first-bits, later-bits}
 use Rattle.flip_run.specs.declared.Decoded.the-variants.{Accepted, Refused16}
 use Rattle.decoder.specs.Decoder.{Decoder, flipsOf, trialsOf, decodedAs}
 use Rattle.decoder.proofs.Decoder.{answer-fine, under-code}
-use Rattle.decoder_demands.specs.Checked.{bitsOf, OnlyChecked, AfterAll}
-use Rattle.decoder_demands.specs.Claims.{PassedAt, AllFailed, bitsOfTrial}
+use Rattle.decoder_demands.specs.Checked.{trialBits, OnlyChecked, AfterAll}
+use Rattle.decoder_demands.specs.Claims.{PassedAt, bitsOfTrial}
 use Rattle.decoder_demands.proofs.Answers.{run-accepts, run-fails}
 use Rattle.decoder_demands.proofs.Codeword.{length-first-bits, length-later-bits, first-frozen, later-frozen, encodes-back}
 use Rattle.decoder_demands.proofs.Flips.{flips-each}
@@ -49,7 +49,7 @@ module _ (mask : List ℕ) (c : Code) (v : List ℤ) (restart : Restart) where
   later-placed (is ∷ flips) f (suc a) l = later-placed flips (λ b k. f (suc b) (omega arith)) a (omega arith)
 
   -- those of every trial
-  trial-placed : (p : Decoder) (t : ℕ) → 1 ≤ t → t ≤ length (trialsOf p restart mask c v) → Placed mask c (bitsOf p restart mask c v t)
+  trial-placed : (p : Decoder) (t : ℕ) → 1 ≤ t → t ≤ length (trialsOf p restart mask c v) → Placed mask c (trialBits p restart mask c v t)
   trial-placed p zero l m = absurd (omega arith)
   trial-placed p (suc zero) l m =
       record { size = length-first-bits mask c v; bits = first-bits mask c v; frozen = first-frozen mask c v }
@@ -78,12 +78,12 @@ only-checked p restart d c channel output trial steps payload code e =
     let mask : List ℕ = maskOf d in
     let v : List ℤ = channelValues channel in
     let x = passed-at p restart d c channel output trial steps payload code e in
-    let same : x .0 ≡ bitsOf p restart mask c v trial = x .1 .bits-are ∙ from-one (trialsOf p restart mask c v) trial (x .1 .least) in
-    let passes : trialPasses mask c (bitsOf p restart mask c v trial) ≡ true = sym (ap (trialPasses mask c) same) ∙ x .1 .passes in
+    let same : x .0 ≡ trialBits p restart mask c v trial = x .1 .bits-are ∙ from-one (trialsOf p restart mask c v) trial (x .1 .least) in
+    let passes : trialPasses mask c (trialBits p restart mask c v trial) ≡ true = sym (ap (trialPasses mask c) same) ∙ x .1 .passes in
     let u = trial-placed mask c v restart p trial (x .1 .least) (x .1 .most) in
     let written = x .2 ∙ ap (λ (bits : List ℕ). packed (take (c .k) (messageIn mask c bits))) same in (
       passes,
-      λ o l. ap (λ (y : List ℕ). encoded d y o) written ∙ encodes-back d code (bitsOf p restart mask c v trial) (u .size) (u .bits) (u .frozen) passes o l,
+      λ o l. ap (λ (y : List ℕ). encoded d y o) written ∙ encodes-back d code (trialBits p restart mask c v trial) (u .size) (u .bits) (u .frozen) passes o l,
     )
 
 pub after-all : AfterAll

@@ -4,7 +4,7 @@ use mathlib.Core.Path.{_≡_, refl, sym, ap, ap₂, _∙_, subst}
 use mathlib.Core.Bool.{true, false}
 use mathlib.Core.Logic.{⊎-elim}
 use mathlib.Core.List.{List, [], _∷_, map, List·Memᴰ, Forall₂, Forall₂·nil, Forall₂·cons}
-use Prim.Native.Nat.{ℕ, zero, suc, _+_, _-_, _*_, _<_, _≤_}
+use Prim.Native.Nat.{ℕ, zero, suc, _+_, _-_, _<_, _≤_}
 use native.Mathlib.Omega.{arith}
 use lib.IntN.{ℤ, natAbs}
 use lib.ListN.{length, getD, take, length-map, List·getD-map}
@@ -26,7 +26,7 @@ use Rattle.code.specs.Description.{maskOf, describeUpTo, describe}
 use Rattle.crc.specs.Check.{checkOf}
 use Rattle.transform.specs.Transform.{covers, parity, transformed}
 use Rattle.placing.specs.Place.{placed}
-use Rattle.values.specs.Values.{hard, f, g}
+use Rattle.values.specs.Values.{hard, f}
 use Rattle.channel.specs.Channel.{channelValue, channelValues, firstOutside}
 use Rattle.encoder.specs.declared.Encoded.{Encoded}
 use Rattle.encoder.specs.declared.Encoded.the-variants.{Done}
@@ -40,7 +40,7 @@ use Rattle.flip_trial.specs.FirstAfter.{FirstAfter}
 use Rattle.flip_run.specs.declared.Decoded.{Decoded}
 use Rattle.flip_run.specs.declared.Decoded.the-variants.{Accepted, Refused16, Refused}
 use Rattle.flip_run.specs.Trials.{flipOrder}
-use Rattle.decoder.specs.Decoder.{Decoder, single, sets, mostLimit, WellFormed, flipsOf, decodedAs, decodedFull, decodedHalf, decodedRestarted, setsFull, setsHalf, setsRestarted}
+use Rattle.decoder.specs.Decoder.{Decoder, single, sets, mostLimit, WellFormed, flipsOf, decodedAs, decodedFull, decodedHalf, decodedRestarted, setsFull, setsRestarted}
 use Rattle.decoder.specs.Claims.{Allowed}
 use Rattle.decoder.proofs.Decoder.{spelt-out}
 use Rattle.decoder.proofs.Examples.{wideD, wideCode, vector, pairV, usedUpV, bitsOn, ten, set-examples}
@@ -276,8 +276,8 @@ received : Received 8 wideD (0x80 ∷ []) noiseless80
 unfolding channelValue
 received = record {
   bytes = small;
+  buffer = 0 ∷ [];
   codeword = 0xA5 ∷ [];
-  before = 0 ∷ [];
   encodes = encodes-80;
   sign = λ j l. sym (List·getD-map (λ b. hard (channelValue b)) noiseless80 j 0) ∙ ap (λ (x : List ℕ). getD x j 0) signs;
   strength = λ j l.

@@ -29,8 +29,7 @@ use Rattle.values.specs.Values.{Rule, maskRule, hard}
 use Rattle.values.proofs.Rules.{rule-usual, rule-frozen}
 use Rattle.values.proofs.Favours.{Favours}
 use Rattle.channel.specs.Channel.{channelValue, channelValues}
-use Rattle.encoder.specs.declared.Encoded.the-variants.{Done}
-use Rattle.encoder.specs.Encode.{messageOf, codeword, encoded}
+use Rattle.encoder.specs.Encode.{messageOf, codeword}
 use Rattle.encoder.proofs.Message.{length-message, bits-message}
 use Rattle.encoder.proofs.Codeword.{unpacked-codeword, EncodedFrom, encoded-from}
 use Rattle.pass_tree.specs.Node.{Out}
@@ -104,7 +103,7 @@ first-answer d c payload channel output code r later =
     let mask : List ℕ = maskOf d in
     let v : List ℤ = channelValues channel in
     let p : Described d c = described d c code in
-    let e : EncodedFrom mask c payload (r .before) (r .codeword) = encoded-from d c payload (r .before) (r .codeword) code (r .encodes) in
+    let e : EncodedFrom mask c payload (r .buffer) (r .codeword) = encoded-from d c payload (r .buffer) (r .codeword) code (r .encodes) in
     let ones : onesBelow mask (codeLength c) ≡ informationCount c = ap (onesBelow mask) (sym (p .coded .mask-size)) ∙ p .coded .K-is in
     let first : firstTrial mask c v .bits ≡ u mask c payload ones =
     first-recovers mask c payload ones channel (λ j l. r .sign j l ∙ ap (λ (x : List ℕ). getD (unpacked x (codeLength c)) j 0) (sym (e .gives))) (r .strength) in

@@ -3,7 +3,7 @@
 use mathlib.Core.Path.{_≡_}
 use mathlib.Core.Bool.{true, false}
 use mathlib.Core.List.{List, [], map}
-use Prim.Native.Nat.{ℕ, _-_, _/_, _<_, _≤_}
+use Prim.Native.Nat.{ℕ, _-_, _/_, _≤_}
 use lib.IntN.{ℤ}
 use lib.ListN.{length, getD}
 use Rattle.bits.specs.Packing.{packed}
@@ -21,15 +21,15 @@ use Rattle.flip_run.specs.declared.Decoded.the-variants.{Accepted, Refused16}
 use Rattle.decoder.specs.Decoder.{Decoder, trialsOf, decodedAs}
 
 -- the bits of trial t, from 1
-abbrev pub bitsOf : Decoder → Restart → List ℕ → Code → List ℤ → ℕ → List ℕ
-bitsOf p restart mask c v t = getD (map (λ o. o .bits) (trialsOf p restart mask c v)) (t - 1) []
+abbrev pub trialBits : Decoder → Restart → List ℕ → Code → List ℤ → ℕ → List ℕ
+trialBits p restart mask c v t = getD (map (λ o. o .bits) (trialsOf p restart mask c v)) (t - 1) []
 
 -- the check of the trial that is accepted passes; and it is the codeword of what is written: encode gives the transform of its bits
 abbrev pub OnlyChecked : Type 0
 OnlyChecked =
     (p : Decoder) (restart : Restart) (d : List ℕ) (c : Code) (channel output : List ℕ) (trial steps : ℕ) (payload : List ℕ)
     → describe d ≡ Description.Accepted c → decodedAs p restart d channel output ≡ (Accepted trial steps, payload)
-    → let bits = bitsOf p restart (maskOf d) c (channelValues channel) trial in
+    → let bits = trialBits p restart (maskOf d) c (channelValues channel) trial in
     (trialPasses (maskOf d) c bits ≡ true)
     × ((codeword : List ℕ) → length codeword ≡ codeLength c / 8 → encoded d payload codeword ≡ (Done, packed (transformed (c .n) bits)))
 
@@ -39,4 +39,4 @@ AfterAll =
     (p : Decoder) (restart : Restart) (d : List ℕ) (c : Code) (channel output : List ℕ) (made steps : ℕ) (bytes : List ℕ)
     → describe d ≡ Description.Accepted c → decodedAs p restart d channel output ≡ (Refused16 made steps, bytes)
     → (made ≡ length (trialsOf p restart (maskOf d) c (channelValues channel)))
-    × ((t : ℕ) → 1 ≤ t → t ≤ made → trialPasses (maskOf d) c (bitsOf p restart (maskOf d) c (channelValues channel) t) ≡ false)
+    × ((t : ℕ) → 1 ≤ t → t ≤ made → trialPasses (maskOf d) c (trialBits p restart (maskOf d) c (channelValues channel) t) ≡ false)

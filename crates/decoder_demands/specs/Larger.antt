@@ -15,7 +15,9 @@ use Rattle.decoder.specs.Decoder.{Decoder, single, sets, ownRefusals, decodedAs
 
 -- the second decoder goes on after the first, with a larger limit
 pub data GoesOn : Decoder → Decoder → Type 0 where
+  -- by single flips
   single-more : {limit limit′ : ℕ} → limit ≤ limit′ → GoesOn (single limit) (single limit′)
+  -- by sets of at most as many indices
   sets-more : {w limit limit′ : ℕ} → limit ≤ limit′ → GoesOn (sets w limit) (sets w limit′)
 
 -- each call has its own output, and both are of one size

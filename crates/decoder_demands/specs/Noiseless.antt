@@ -20,10 +20,12 @@ use Rattle.decoder.specs.Decoder.{Decoder, single, WellFormed, decodedAs, decod
 pub record Received (N : ℕ) (d payload channel : List ℕ) : Type 0 where
   -- the payload's bytes
   pub bytes : (m : ℕ) → getD payload m 0 < 256
-  -- what encode writes, and what the buffer held before
+  -- what encode's buffer holds before
+  pub buffer : List ℕ
+  -- what it holds afterwards
   pub codeword : List ℕ
-  pub before : List ℕ
-  pub encodes : encoded d payload before ≡ (Done, codeword)
+  -- encode accepts the payload
+  pub encodes : encoded d payload buffer ≡ (Done, codeword)
   -- the signs are right
   pub sign : (j : ℕ) → j < N → hard (channelValue (getD channel j 0)) ≡ getD (unpacked codeword N) j 0
   -- no strength is zero

@@ -5,7 +5,7 @@ use mathlib.Core.List.{List}
 use Prim.Native.Nat.{ℕ, _-_, _/_, _<_, _≤_}
 use lib.Dec.{leb, ltb}
 use lib.IntN.{ℤ, pos}
-use lib.ListN.{length, getD}
+use lib.ListN.{getD}
 use Rattle.bits.specs.Mask.{maskBit}
 use Rattle.code.specs.declared.Code.{Code}
 use Rattle.pass_tree.specs.Node.{Out, node}

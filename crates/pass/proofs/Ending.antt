@@ -47,7 +47,7 @@ module _ {room layer size base q : ℕ} {a : Arrays} {v : List ℤ} (rules : Lis
           laid =
               subst (λ (o : Out). StoredSums o base at (resultsOf a) (results (a .bits) sums (a .leaves)) done) (sym forced-is)
               (record {
-                placed = record {
+                stored = record {
                   bits = sym (splice-segment (a .bits) base size (omega (arith, p .fits, p .whole .bits)));
                   leaves = sym (splice-nil (a .leaves) at);
                   work = of;

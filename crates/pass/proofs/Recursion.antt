@@ -152,8 +152,8 @@ module _ {room layer size n h base q : ℕ} {a : Arrays} {v : List ℤ} (rules :
           combine-at = by-halves.combine-at rules v split left-own (c₂ .node) right-own (c₄ .node)
 
           module _ {done : Work} (total : done ≡ plusWork (plusWork done₁ done₂) (plusWork done₃ done₄)) where
-            pub placed : Stored (nodeOf layer size base q rules (a .bits) v) base (base + length F) (resultsOf a) (resultsOf a₄) done
-            placed = by-halves.placed rules v split left-own (c₂ .node) right-own (c₄ .node) (c₁ .counted) (c₃ .counted) total
+            pub stored : Stored (nodeOf layer size base q rules (a .bits) v) base (base + length F) (resultsOf a) (resultsOf a₄) done
+            stored = by-halves.stored rules v split left-own (c₂ .node) right-own (c₄ .node) (c₁ .counted) (c₃ .counted) total
 
             -- after the sums are combined
             pub worked : {sums : List ℕ} → sums ≡ splice (a₄ .sums) base (xors h (segment (a₄ .sums) base h) (segment (a₄ .sums) (base + h) h)) → NodePost layer size base q rules v a (arrays (a₄ .work) (a₄ .bits) sums (a₄ .leaves)) done

@@ -1,5 +1,5 @@
 -- A whole pass, call by call: the root is a node whose indices start at 0 and whose values are the channel's.
-use mathlib.Core.Path.{_≡_, refl, sym, ap, ap₂, _∙_, subst}
+use mathlib.Core.Path.{_≡_, sym, ap, ap₂, _∙_, subst}
 use mathlib.Core.List.{List, []}
 use Prim.Native.Nat.{ℕ, _+_, _-_, _^_, _≤_, _<_}
 use native.Mathlib.Nat.{zero-add}
@@ -26,7 +26,7 @@ use Rattle.pass_tree.proofs.Node.{node-forced}
 use Rattle.pass_halves.specs.Contracts.{RootPre, ValuesPost}
 use Rattle.pass_ends.specs.Contracts.{ruleAt, Arrays, arrays, forcedBits, nodeOf}
 use Rattle.pass.specs.Contracts.{NodePre, NodePost, PassPre, passOf, PassPost}
-use Rattle.pass.proofs.Recursion.{left-at, whole₂, whole₄, right-at, placed, left-few, right-few}
+use Rattle.pass.proofs.Recursion.{left-at, whole₂, whole₄, right-at, stored, left-few, right-few}
 
 module _ {room q : ℕ} {c : Code} {channel : List ℕ} {a : Arrays} (rules : List ℕ) (p : PassPre room c q channel a) (fits : codeLength c ≤ room) where
   abbrev o : Out
@@ -123,7 +123,7 @@ module _ {room q m h : ℕ} {c : Code} {channel : List ℕ} {a : Arrays} (rules 
 
           pub passed : {done : Work} → done ≡ plusWork (plusWork done₁ done₂) (plusWork done₃ done₄) → PassPost room (passOf c q channel rules (a .bits)) q a a₄ done
           passed total =
-              let r = placed rules d on more c₁ c₂ c₃ c₄ total in
+              let r = stored rules d on more c₁ c₂ c₃ c₄ total in
               let is = root-is rules (t .pre) (t .fits) in
               let start : 0 + length (forcedBits (a .bits) 0 (length channel) q) ≡ q =
               zero-add _ ∙ ap length (forced-at-root rules (t .pre) (t .fits)) ∙ prefix-long rules (t .pre) (t .fits) in

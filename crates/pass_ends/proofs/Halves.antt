@@ -50,14 +50,14 @@ laid-sized {room} {layer} {size} {base} {q} {rules} {v} {r} pow fits z l =
     let ns = length-sums layer P rule v in
     let nl = length-leaves layer P rule v short in
     record {
-      bits = ap length (l .laid .placed .bits) ∙ length-splice (r .bits) base (o .bits) _ refl (omega arith) ∙ zb;
+      bits = ap length (l .laid .stored .bits) ∙ length-splice (r .bits) base (o .bits) _ refl (omega arith) ∙ zb;
       sums = ap length (l .laid .sums) ∙ length-splice (r .sums) base (o .sums) _ refl (omega arith) ∙ zs;
-      leaves = ap length (l .laid .placed .leaves) ∙ length-splice (r .leaves) (base + length P) (o .leaves) _ refl (omega arith) ∙ zl;
+      leaves = ap length (l .laid .stored .leaves) ∙ length-splice (r .leaves) (base + length P) (o .leaves) _ refl (omega arith) ∙ zl;
     }
 
 pub laid-most : {layer size base q : ℕ} {rules : List ℕ} {v : List ℤ} {r r′ : Results} {done : Work} → NodeStored layer size base q rules v r r′ done → done .steps ≤ layer * 2 ^ layer
 laid-most {layer} {size} {base} {q} {rules} {v} {r} l =
-    subst (λ (w : Work). w .steps ≤ layer * 2 ^ layer) (sym (l .laid .placed .work)) (steps-most layer (forcedBits (r .bits) base size q) (rulesFrom rules base) v)
+    subst (λ (w : Work). w .steps ≤ layer * 2 ^ layer) (sym (l .laid .stored .work)) (steps-most layer (forcedBits (r .bits) base size q) (rulesFrom rules base) v)
 
 -- if no bit of a node is forced it does not matter which earlier ones are
 pub none-forced : {layer size base q q′ : ℕ} {rules : List ℕ} {v : List ℤ} {r r′ : Results} {done : Work} → q ≤ base → q′ ≤ base → NodeStored layer size base q rules v r r′ done → NodeStored layer size base q′ rules v r r′ done
@@ -153,7 +153,7 @@ module _ {room layer size n h base q : ℕ} {r : Results} (rules : List ℕ) (v 
     right-forced =
         let e : q - (base + h) ≡ q - base - h = omega arith in
         let kept : segment (r₁ .bits) (base + h) h ≡ drop h (segment (r .bits) base size) =
-        ap (λ (b : List ℕ). segment b (base + h) h) (left-laid .placed .bits)
+        ap (λ (b : List ℕ). segment b (base + h) h) (left-laid .stored .bits)
         ∙ ap (take h) (drop-splice (r .bits) base (L .bits) h length-L-bits (omega (arith, d .two, s .fits, z .bits)))
         ∙ sym (segment-back (r .bits) base h) ∙ ap (λ (k : ℕ). drop h (segment (r .bits) base k)) (sym (d .two)) in
         ap₂ take e kept ∙ sym (drop-of-take h (q - base) (segment (r .bits) base size))
@@ -179,7 +179,7 @@ module _ {room layer size n h base q : ℕ} {r : Results} (rules : List ℕ) (v 
 
       both-bits : r₂ .bits ≡ splice (r .bits) base (L .bits ++ R .bits)
       both-bits =
-          right-laid .placed .bits ∙ ap (λ (b : List ℕ). splice b (base + h) (R .bits)) (left-laid .placed .bits)
+          right-laid .stored .bits ∙ ap (λ (b : List ℕ). splice b (base + h) (R .bits)) (left-laid .stored .bits)
           ∙ splice-next (r .bits) base (L .bits) (R .bits) h h length-L-bits length-R-bits (omega (arith, d .two, s .fits, z .bits))
 
       both-sums : r₂ .sums ≡ splice (r .sums) base (L .sums ++ R .sums)
@@ -190,8 +190,8 @@ module _ {room layer size n h base q : ℕ} {r : Results} (rules : List ℕ) (v 
       -- the leaf values of the left half end where those of the right half begin, or there are none
       both-leaves : r₂ .leaves ≡ splice (r .leaves) (base + length F) (L .leaves ++ R .leaves)
       both-leaves =
-          right-laid .placed .leaves
-          ∙ ap (λ (x : List ℤ). splice x (base + h + length (drop h F)) (R .leaves)) (left-laid .placed .leaves) ∙ go (leb h (length F)) refl
+          right-laid .stored .leaves
+          ∙ ap (λ (x : List ℤ). splice x (base + h + length (drop h F)) (R .leaves)) (left-laid .stored .leaves) ∙ go (leb h (length F)) refl
         where
           left-many : length (take h F) + length (L .leaves) ≡ h
           left-many = length-leaves n (take h F) rule (leftOf h F v) (omega (arith, length-take h F, d .pow)) ∙ sym (d .pow)
@@ -224,19 +224,19 @@ module _ {room layer size n h base q : ℕ} {r : Results} (rules : List ℕ) (v 
       -- each half's values were counted, if they were computed
       module _ {done₁ done₃ done : Work} (counted₁ : done₁ ≡ workOf (computedUnless (leb (base + h) q) (leftValues h v))) (counted₃ : done₃ ≡ workOf (rightValues h v (segment (r₁ .sums) base h)))
           (total : done ≡ plusWork (plusWork done₁ done₂) (plusWork done₃ done₄)) where
-        all-placed : Stored (halves n h F rule v) base (base + length F) r r₂ done
-        all-placed = record {
+        all-stored : Stored (halves n h F rule v) base (base + length F) r r₂ done
+        all-stored = record {
           bits = both-bits;
           leaves = both-leaves;
           work =
               total
               ∙ ap₂ plusWork
-              (ap₂ plusWork (counted₁ ∙ ap (λ (t : Bool). workOf (computedUnless t (leftValues h v))) test) (left-laid .placed .work))
-              (ap₂ plusWork (counted₃ ∙ ap (λ (x : List ℕ). workOf (rightValues h v x)) left-sums) (right-laid .placed .work));
+              (ap₂ plusWork (counted₁ ∙ ap (λ (t : Bool). workOf (computedUnless t (leftValues h v))) test) (left-laid .stored .work))
+              (ap₂ plusWork (counted₃ ∙ ap (λ (x : List ℕ). workOf (rightValues h v x)) left-sums) (right-laid .stored .work));
         }
 
-        pub placed : Stored (nodeOf layer size base q rules (r .bits) v) base (base + length F) r r₂ done
-        placed = subst (λ (o : Out). Stored o base (base + length F) r r₂ done) (sym halves-are) all-placed
+        pub stored : Stored (nodeOf layer size base q rules (r .bits) v) base (base + length F) r r₂ done
+        stored = subst (λ (o : Out). Stored o base (base + length F) r r₂ done) (sym halves-are) all-stored
 
         -- after the sums are combined
         pub halves-laid : {sums : List ℕ} → sums ≡ splice (r₂ .sums) base (xors h (segment (r₂ .sums) base h) (segment (r₂ .sums) (base + h) h)) → NodeStored layer size base q rules v r (results (r₂ .bits) sums (r₂ .leaves)) done
@@ -244,7 +244,7 @@ module _ {room layer size n h base q : ℕ} {r : Results} (rules : List ℕ) (v 
           laid =
               subst (λ (o : Out). StoredSums o base (base + length F) r (results (r₂ .bits) sums (r₂ .leaves)) done) (sym halves-are)
               (record {
-                placed = let p = all-placed in record { bits = p .bits; leaves = p .leaves; work = p .work };
+                stored = let p = all-stored in record { bits = p .bits; leaves = p .leaves; work = p .work };
                 sums = combined-sums (r .sums) base (L .sums) (R .sums) length-L-sums length-R-sums (omega (arith, d .two, s .fits, z .sums)) both-sums e;
               });
         }

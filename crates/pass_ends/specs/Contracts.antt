@@ -68,7 +68,7 @@ pub record Stored (o : Out) (base at : ℕ) (r r′ : Results) (done : Work) : T
 
 -- the results of a node in their places, its sums among them
 pub record StoredSums (o : Out) (base at : ℕ) (r r′ : Results) (done : Work) : Type 0 where
-  pub placed : Stored o base at r r′ done
+  pub stored : Stored o base at r r′ done
   pub sums : r′ .sums ≡ splice (r .sums) base (o .sums)
 
 -- a node of `size` indices from `base` on in its place: its leaf values stand after the indices that are forced. If q is `base` none is forced.

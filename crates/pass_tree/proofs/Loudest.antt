@@ -2,7 +2,7 @@
 -- those above it.
 use mathlib.Core.Path.{_≡_, sym, ap, ap₂, _∙_, subst}
 use mathlib.Core.List.{List, [], _∷_, _++_}
-use Prim.Native.Nat.{ℕ, zero, suc, _+_, _-_, _*_, _%_, _^_, _<_, min}
+use Prim.Native.Nat.{ℕ, zero, suc, _+_, _-_, _*_, _%_, _^_, _<_}
 use native.Mathlib.Nat.{two-pow-succ, add-mul, mul-add}
 use native.Mathlib.Omega.{arith}
 use lib.IntN.{ℤ, pos}

@@ -5,7 +5,7 @@ use Prim.Native.Nat.{ℕ, _^_}
 use native.Mathlib.Omega.{arith}
 use lib.Dec.{eqb}
 use lib.IntN.{pos}
-use lib.ListN.{getD, replicate, getD-replicate, List·getD-map}
+use lib.ListN.{replicate, getD-replicate, List·getD-map}
 use Rattle.laws.proofs.Choice.{cond-ind}
 use Rattle.bits.specs.Mask.{maskBit}
 use Rattle.values.specs.Values.{Rule, usual, frozen, decided, maskRule}

@@ -28,7 +28,7 @@ use Rattle.bits.proofs.Mask.{mask-cases}
 use Rattle.code.specs.declared.Code.{Code}
 use Rattle.code.specs.declared.Description.the-variants as Description
 use Rattle.code.specs.Code.{codeLength, informationCount, divisor, startBits}
-use Rattle.code.specs.Description.{maskOf, describe}
+use Rattle.code.specs.Description.{maskOf}
 use Rattle.code.specs.Claims.{Described}
 use Rattle.code.proofs.Facts.{described}
 use Rattle.crc.specs.Check.{checkOf, passes}

@@ -95,8 +95,8 @@ module _ (s : State) (h : Holds wideD wideCode s (firstV ∷ secondV ∷ [])) (b
   unfolding channelValue
   received = record {
     bytes = small;
+    buffer = 0 ∷ [];
     codeword = 0xA5 ∷ [];
-    before = 0 ∷ [];
     encodes = encodes-80;
     sign = λ j l. sym (List·getD-map (λ b. hard (channelValue b)) held j 0) ∙ ap (λ (x : List ℕ). getD x j 0) signs;
     strength = λ j l.

@@ -93,8 +93,8 @@ with-signs : Received 128 description digits received
 unfolding channelValue
 with-signs = record {
   bytes = small digits refl;
+  buffer = replicate 16 0;
   codeword = sent;
-  before = replicate 16 0;
   encodes = ibm-3740-encoded (replicate 16 0) refl;
   sign = λ j l. sym (List·getD-map (λ b. hard (channelValue b)) received j 0) ∙ ap (λ (x : List ℕ). getD x j 0) signs;
   strength = λ j l.

@@ -47,7 +47,7 @@ returns c =
       sym (getD-set-same (now (s .args .sums)) base _ 0 (omega (arith, s .pre .1, z .sums))),
       leaf-laid rules base (s .args .value)
           (record {
-            placed = record {
+            stored = record {
               bits = stored (now (s .args .bits)) base _ _ (omega (arith, s .pre .1, z .bits)) bit;
               leaves = stored (now (s .args .leaves)) base _ _ (omega (arith, s .pre .1, z .leaves)) same;
               work = refl;

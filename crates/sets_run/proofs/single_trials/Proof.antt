@@ -1,5 +1,4 @@
 -- `sets_run::single_trials` meets its contract: the keys are those of the sets that trial 1 generated.
-use mathlib.Core.Path.{refl}
 use native.Mathlib.Omega.{arith}
 use borrow.Author.Needs.{needs}
 use Rattle.arrays.proofs.Sizes.{fits}
