@@ -103,6 +103,10 @@ pub record SetExamples (byte : ℕ) : Type 0 where
       × (decodedFull wideD vector 1 (byte ∷ []) ≡ (Refused16 1 24, byte ∷ []))
       × (decodedFull wideD vector 6 (byte ∷ []) ≡ (Refused (Alone 14), byte ∷ []))
       × (decodedRestarted wideD vector 2 (byte ∷ []) ≡ (Accepted 2 32, 0x00 ∷ []))
+  -- no single flip is accepted: all four are tried
+  pub all-fail :
+      (flipOrder (maskOf wideD) wideCode (channelValues pairV) ≡ 3 ∷ 5 ∷ 6 ∷ 7 ∷ [])
+      × (decodedFull wideD pairV 5 (byte ∷ []) ≡ (Refused16 5 120, byte ∷ []))
   -- w = 1: the sixes reorder single flips. On V the magnitudes at 3, 5, 6 and 7 are 3, 2, 3 and 11, so the old decoder flips 5 first. The
   -- metrics are 3 + 6, 2 + 12, 3 + 18 and 11 + 24, so 3 comes first,
   -- and 5, which is accepted, on trial 3.
@@ -185,6 +189,7 @@ unfolding judge refusedOr table number onesBelow packed describeUpTo checkOf cov
 set-examples byte = record {
   described = refl;
   by-single-flips = (refl, refl, refl, refl, refl, refl, refl);
+  all-fail = (refl, refl);
   by-metric = (refl, refl, refl, refl);
   by-own-trial = (refl, refl, refl, refl, refl, refl, refl, refl, refl, refl);
   by-first-entry = (refl, refl, refl, refl, refl);

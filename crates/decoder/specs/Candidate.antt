@@ -50,7 +50,7 @@ extensions mask leaves is (suc n) =
     extensions mask leaves is n
     ++ cond (eqb (maskBit mask n) 1 && leb (pastLargest is) n) (candidate mask leaves (is ++ (n ∷ [])) ∷ []) []
 
--- whether x comes before y: order is metric, then the list of indices
+-- whether x comes before y: lower metric first, and of equal metrics the lower list of indices
 abbrev pub precedes : Candidate → Candidate → Bool
 precedes x y = ltb (x .metric) (y .metric) || (eqb (x .metric) (y .metric) && earlier (x .flips) (y .flips))
 

@@ -46,7 +46,8 @@ ownRefusals (sets w limit) c = (outside w 1 3, Alone 26) ∷ (outside limit 1 (m
 abbrev pub refusalsOf : Decoder → Code → List ℕ → List ℕ → List (Bool × Refusal)
 refusalsOf p c channel output = channelRefusals c channel ++ (ownRefusals p c ++ ((differs (length output) (bytesFor (c .k)), Alone 15) ∷ []))
 
--- a call is well-formed under the code c of d if no refusal before 16 applies: `well-formed-exactly` of proofs/Decoder.antt
+-- a call is well-formed under the code c of d if no refusal before 16 applies. Exactly then its answer is an acceptance or 16: `well-formed-exactly` of
+-- proofs/Decoder.antt.
 pub record WellFormed (p : Decoder) (d : List ℕ) (c : Code) (channel output : List ℕ) : Type 0 where
   -- d is accepted
   pub described : describe d ≡ Description.Accepted c

@@ -11,7 +11,7 @@ ghost use Rattle.decoder.specs.Contracts.{outputRefusals, JudgesRest, Ju
 
 // How to search for the set of a trial that passes.
 pub struct Search {
-    // Where later trials resume.
+    // At which index later trials resume.
     pub restart: Restart,
     // The most flips of a trial.
     pub w: u32,

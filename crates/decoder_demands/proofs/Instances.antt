@@ -1,5 +1,5 @@
--- The main statements on frames of eight values. Every premise is met, and each field gives an answer or a number that is computed apart, so no premise can
--- become one that nothing meets, and no field one that says less.
+-- The main statements on frames of eight values. Every premise is met, and from each field an answer or a number follows that is computed apart. So no
+-- premise can become one that nothing meets, and no field one that says less.
 use mathlib.Core.Path.{_≡_, refl, sym, ap, ap₂, _∙_, subst}
 use mathlib.Core.Bool.{true, false}
 use mathlib.Core.Logic.{⊎-elim}
@@ -37,6 +37,7 @@ use Rattle.flip_trial.specs.declared.Restart.the-variants.{Root, Half, AfterFli
 use Rattle.flip_trial.specs.Trial.{firstTrial, lowest, restartAt, laterTrial, trialPasses}
 use Rattle.flip_trial.specs.Flips.{Flips}
 use Rattle.flip_trial.specs.FirstAfter.{FirstAfter}
+use Rattle.flip_trial.proofs.After.{after-3, after-5, after-6, after-7}
 use Rattle.flip_run.specs.declared.Decoded.{Decoded}
 use Rattle.flip_run.specs.declared.Decoded.the-variants.{Accepted, Refused16, Refused}
 use Rattle.flip_run.specs.Trials.{flipOrder}
@@ -186,6 +187,10 @@ vector-inside : firstOutside vector ≡ 8
 unfolding firstWhere channelValue
 vector-inside = refl
 
+pair-inside : firstOutside pairV ≡ 8
+unfolding firstWhere channelValue
+pair-inside = refl
+
 -- ---- demand 3, on V
 
 -- for every T, whatever bytes the outputs held
@@ -195,12 +200,6 @@ both-decode T byte byte′ least most =
 
 abbrev Each : List ℕ → List ℕ → Type 0
 Each = Forall₂ (FirstAfter (maskOf wideD) 8)
-
--- the first information index after 5 is 6
-after-5 : {q : ℕ} → FirstAfter (maskOf wideD) 8 5 q → q ≡ 6
-after-5 {q} f =
-    let one : maskBit (maskOf wideD) 6 ≡ 1 = refl in
-    lt-cases 6 q (λ l. absurd (omega (arith, f .between 6 (omega arith) l))) (λ l. omega (arith, f .above))
 
 skipped-after-5 : {qs : List ℕ} → Each (5 ∷ []) qs → skippedOver 3 qs ≡ 16
 unfolding skipped
@@ -241,6 +240,26 @@ module _ (byte byte′ : ℕ) where
       x .2 ∙ ap₂ (λ (a : Decoded) (b : List ℕ). (a, b)) (ap₂ Accepted made steps) (sym (ap (λ (z : Decoded × List ℕ). z .1) e)))
       (λ x. absurd (omega (arith, one-kind (set-examples byte .by-single-flips .1) (x .1))))
       (both .answers)
+
+-- On `pairV` all four flips fail, and the q are 5, 6, 7 and, since no information index follows 7, 8.
+skipped-after-all : {qs : List ℕ} → Each (3 ∷ 5 ∷ 6 ∷ 7 ∷ []) qs → skippedOver 3 qs ≡ 70
+unfolding skipped
+skipped-after-all (Forall₂·cons a (Forall₂·cons b (Forall₂·cons c (Forall₂·cons d Forall₂·nil)))) =
+    ap (λ (qs : List ℕ). skippedOver 3 qs)
+    (ap₂ (λ (x : ℕ) (xs : List ℕ). x ∷ xs) (after-3 a)
+    (ap₂ (λ (x : ℕ) (xs : List ℕ). x ∷ xs) (after-5 b) (ap₂ (λ (x y : ℕ). x ∷ y ∷ []) (after-6 c) (after-7 d))))
+
+pub restarted-fails : (byte byte′ : ℕ) → decodedRestarted wideD pairV 5 (byte′ ∷ []) ≡ (Refused16 5 50, byte′ ∷ [])
+restarted-fails byte byte′ =
+    let on : (b : ℕ) → WellFormed (single 5) wideD wideCode pairV (b ∷ []) = well-formed (single 5) pairV refl pair-inside (omega arith, omega arith) in
+    let both = demand-3 wideD wideCode pairV 5 (byte ∷ []) (byte′ ∷ []) (on byte) (on byte′) in
+    ⊎-elim (λ x. absurd (omega (arith, one-kind (set-examples byte .all-fail .1) (x .1))))
+    (λ x.
+    let flipped = ap₂ (λ (t : ℕ) (order : List ℕ). take (t - 1) order) (x .0) (set-examples byte .all-fail .0) in
+    let saved = skipped-after-all (subst (λ (is : List ℕ). Each is (both .qs)) flipped (both .q-is)) in
+    let steps : both .restarted ≡ 50 = omega (arith, both .full-steps, both .exceeds, x .0, saved) in
+    x .2 ∙ ap₂ (λ (t s : ℕ). (Refused16 t s, byte′ ∷ [])) (x .0) steps)
+    (both .answers)
 
 -- with T = 1 one trial is made, and there is no q
 pub no-q : (byte : ℕ) → length (both-decode 1 byte byte (omega arith) (omega arith) .qs) ≡ 0

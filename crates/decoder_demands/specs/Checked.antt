@@ -1,5 +1,6 @@
--- Document 01, "Flip decoding, full and restarted": what is accepted passed its check, and a frame is refused as 16 only if it "still fails its check
--- after every permitted trial". `only-checked` and `after-all` of proofs/Checked.antt prove it of every decoder at every restart.
+-- Document 01, "Flip decoding, full and restarted", and the owner's reason for the demands: what is accepted passed its check, and 16 is answered only to
+-- "a frame that still fails its check after every permitted trial". `only-checked` and `after-all` of proofs/Checked.antt prove it of every decoder at
+-- every restart.
 use mathlib.Core.Path.{_≡_}
 use mathlib.Core.Bool.{true, false}
 use mathlib.Core.List.{List, [], map}
@@ -24,7 +25,8 @@ use Rattle.decoder.specs.Decoder.{Decoder, trialsOf, decodedAs}
 abbrev pub trialBits : Decoder → Restart → List ℕ → Code → List ℤ → ℕ → List ℕ
 trialBits p restart mask c v t = getD (map (λ o. o .bits) (trialsOf p restart mask c v)) (t - 1) []
 
--- the check of the trial that is accepted passes; and it is the codeword of what is written: encode gives the transform of its bits
+-- The accepted trial passes its check, and it is the codeword of what is written: encode writes the transform of its bits for that payload. That it is one
+-- of the trials made is `SameRun .answers` and `.each`.
 abbrev pub OnlyChecked : Type 0
 OnlyChecked =
     (p : Decoder) (restart : Restart) (d : List ℕ) (c : Code) (channel output : List ℕ) (trial steps : ℕ) (payload : List ℕ)

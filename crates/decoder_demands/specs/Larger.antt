@@ -13,11 +13,11 @@ use Rattle.flip_trial.specs.declared.Restart.{Restart}
 use Rattle.flip_run.specs.declared.Decoded.the-variants.{Accepted}
 use Rattle.decoder.specs.Decoder.{Decoder, single, sets, ownRefusals, decodedAs}
 
--- the second decoder goes on after the first, with a larger limit
+-- the second decoder goes on after the first: its limit is as large or larger
 pub data GoesOn : Decoder → Decoder → Type 0 where
   -- by single flips
   single-more : {limit limit′ : ℕ} → limit ≤ limit′ → GoesOn (single limit) (single limit′)
-  -- by sets of at most as many indices
+  -- by sets, with one w
   sets-more : {w limit limit′ : ℕ} → limit ≤ limit′ → GoesOn (sets w limit) (sets w limit′)
 
 -- each call has its own output, and both are of one size

@@ -16,7 +16,7 @@ use Rattle.flip_trial.specs.declared.Restart.{Restart}
 use Rattle.flip_run.specs.declared.Decoded.the-variants.{Accepted}
 use Rattle.decoder.specs.Decoder.{Decoder, single, WellFormed, decodedAs, decodedFull, decodedRestarted}
 
--- channel values of the codeword that encode gives for a payload under d, of N values
+-- N channel values, of the codeword that encode writes for a payload under d
 pub record Received (N : ℕ) (d payload channel : List ℕ) : Type 0 where
   -- the payload's bytes
   pub bytes : (m : ℕ) → getD payload m 0 < 256

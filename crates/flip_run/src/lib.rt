@@ -15,7 +15,7 @@ ghost use Rattle.flip_run.specs.Contracts.{FramePre, LimitPre, RunPre, F
 
 // The terms of a run of trials: at which index later trials resume, and how long the run goes on.
 pub struct Terms {
-    // Where later trials resume.
+    // At which index later trials resume.
     pub restart: Restart,
     // How many trials may be made, trial 1 included.
     pub limit: u32,

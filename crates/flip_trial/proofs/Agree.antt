@@ -1,4 +1,4 @@
--- A later trial gives the same bits and leaf values wherever it may resume, and takes the fewer steps the later it resumes.
+-- A later trial has one list of bits, and its leaf values, wherever it may resume, and takes the fewer steps the later it resumes.
 use mathlib.Core.Path.{_≡_, refl, sym, ap, _∙_}
 use mathlib.Core.List.{List, []}
 use Prim.Native.Nat.{ℕ, _+_, _-_, _*_, _<_, _≤_}

@@ -6,3 +6,4 @@ pub mod Bounds
 pub mod Rules
 pub mod Passes
 pub mod Message
+pub mod After

@@ -59,7 +59,7 @@ pub half-at-most : (N i : ℕ) → halfAt N i ≤ i
 half-at-most N i = half-cases (λ q. q ≤ i) N i (λ l. l) (λ l. omega arith)
 
 -- of eight indices 3 is below N/2, 4 is N/2 and 5 is above
-pub half-of-8 : halfAt 8 3 ∷ halfAt 8 4 ∷ halfAt 8 5 ∷ halfAt 8 7 ∷ [] ≡ 0 ∷ 4 ∷ 4 ∷ 4 ∷ []
+pub half-of-8 : restartAt Half [] 8 3 ∷ restartAt Half [] 8 4 ∷ restartAt Half [] 8 5 ∷ restartAt Half [] 8 7 ∷ [] ≡ 0 ∷ 4 ∷ 4 ∷ 4 ∷ []
 half-of-8 = refl
 
 module _ {mask : List ℕ} {size : ℕ} {is : List ℕ} (p : Flips mask size is) where

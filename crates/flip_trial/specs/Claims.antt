@@ -15,7 +15,7 @@ use Rattle.flip_trial.specs.Trial.{firstTrial, flipRule, lowest, forcedP
 abbrev pub trialFrom : ℕ → List ℕ → Code → List ℤ → List ℕ → Out
 trialFrom q mask c v is = node (c .n) (forcedPrefix (firstTrial mask c v .bits) (lowest is) q) (flipRule mask is) v
 
--- the index at which half restart resumes, if i is the lowest flipped index: `half-of-8` of proofs/Restartable.antt has its edges
+-- the index at which half restart resumes, if i is the lowest flipped index
 abbrev pub halfAt : ℕ → ℕ → ℕ
 halfAt N i = cond (leb (N / 2) i) (N / 2) 0
 

@@ -6,9 +6,13 @@ use mathlib.Core.List.{List}
 use Prim.Native.Nat.{ℕ, _<_, _≤_}
 use Rattle.bits.specs.Mask.{maskBit}
 
--- q lies after i, no information index lies between, and q is one or N
+-- the q of a trial whose flipped index is i, of N indices
 pub record FirstAfter (mask : List ℕ) (N i q : ℕ) : Type 0 where
+  -- q lies after i
   pub above : i < q
+  -- q is at most N
   pub most : q ≤ N
+  -- no information index lies between
   pub between : (j : ℕ) → i < j → j < q → maskBit mask j ≡ 0
+  -- q is N or an information index
   pub ends : (q ≡ N) ⊎ (maskBit mask q ≡ 1)

@@ -29,7 +29,7 @@ member j (i ∷ is) = eqb j i || member j is
 abbrev pub flipRule : List ℕ → List ℕ → ℕ → Rule
 flipRule mask is j = cond (member j is) opposite (maskRule mask j)
 
--- the lowest of them
+-- the lowest of ascending indices, which is the first; 0 if there is none
 abbrev pub lowest : List ℕ → ℕ
 lowest [] = 0
 lowest (i ∷ is) = i
@@ -58,6 +58,6 @@ laterTrial restart mask c v is =
 abbrev pub messageIn : List ℕ → Code → List ℕ → List ℕ
 messageIn mask c bits = taken mask bits (codeLength c)
 
--- a trial passes when the check of its payload, from the code's start on, equals its check bits
+-- a trial passes if the check of its payload, with the code's start value, equals its check bits
 abbrev pub trialPasses : List ℕ → Code → List ℕ → Bool
 trialPasses mask c bits = passes (divisor c) (startBits c) (c .k) (messageIn mask c bits)

@@ -24,13 +24,13 @@ const OPPOSITE: u8 = 3;
 // The rule of any other information index.
 const USUAL: u8 = 1;
 
-// Where later trials resume.
+// At which index later trials resume.
 pub enum Restart {
     // At index 0.
     Root,
     // At N/2 if the lowest flipped index is at least N/2, else at index 0.
     Half,
-    // At the first information index after the lowest flipped one.
+    // At the first information index after the lowest flipped one, or at N if there is none.
     AfterFlip,
 }
 

@@ -47,8 +47,7 @@ abbrev pub addRefusals : Code → ℕ → List ℕ → List (Bool × Refusal)
 addRefusals c count channel = channelRefusals c channel ++ ((eqb count 255, Alone 27) ∷ [])
 
 -- whether a list of adds and clears can leave this hearing under a code: a count of at most 255, values in −31..31, and zeros after the N of its code, or
--- zeros alone if the count is 0.
--- `held-after` and `left-by-some` of crate `hearing_demands` prove that these are the ones.
+-- zeros alone if the count is 0. Adds and clears leave exactly these: `held-after` and `left-by-some` of crate `hearing_demands`.
 abbrev pub isHearing : Code → Hearing → Bool
 isHearing c h =
     leb (h .count) 255

@@ -16,7 +16,7 @@ use Rattle.hearing_state.specs.State.{State, descriptionOf, codeOfState, opened
 use Rattle.hearing_buffer.specs.Lent.{hearingSize, bytesOf, stateIn}
 use Rattle.hearing_demands.specs.Repeats.{Call, called, after, acceptedIn}
 
--- what the state s of a code c holds is within bounds, which its code says too: no call refuses it as 40
+-- what the state s of a code c holds is within bounds; this follows from `Holds .code-is`
 pub record Bounds (c : Code) (s : State) (vectors : List (List ℕ)) : Type 0 where
   -- at most 255 vectors
   pub count-most : length vectors ≤ 255

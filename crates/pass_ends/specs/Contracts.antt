@@ -56,7 +56,7 @@ forcedBits bits base size q = take (q - base) (segment bits base size)
 abbrev pub rulesFrom : List ℕ → ℕ → ℕ → Rule
 rulesFrom rules base i = ruleAt rules (base + i)
 
--- what the definition gives for a node of `size` values v, whose indices start at `base`, in a pass whose first q bits are forced
+-- what the definition says of a node of `size` values v, whose indices start at `base`, in a pass whose first q bits are forced
 abbrev pub nodeOf : ℕ → ℕ → ℕ → ℕ → List ℕ → List ℕ → List ℤ → Out
 nodeOf layer size base q rules bits v = node layer (forcedBits bits base size q) (rulesFrom rules base) v
 

@@ -1,7 +1,7 @@
 -- What the theorems of this crate state of its definitions.
 use Prim.Native.Nat.{ℕ, _%_, _^_, _/_, _<_}
 use mathlib.Core.Path.{_≡_}
-use Rattle.polar_number.specs.Number.{Parts, number}
+use Rattle.polar_number.specs.Number.{Parts, packedParts}
 
 -- bits 0-7 of a number, as POLAR_REFUSAL of include/polar.h takes them
 abbrev pub refusalIn : ℕ → ℕ
@@ -24,4 +24,4 @@ pub record Fields (p : Parts) (x : ℕ) : Type 0 where
 
 -- these parts can be read back from their number
 abbrev pub Read : Parts → Type 0
-Read p = Fields p (number p)
+Read p = Fields p (packedParts p)

@@ -27,12 +27,12 @@ abbrev pub parts : ℕ → ℕ → ℕ → Parts
 parts refusal value steps = record { refusal = refusal; value = value; steps = steps }
 
 -- the parts side by side
-abbrev pub number : Parts → ℕ
-number p = p .refusal + p .value * 2 ^ 8 + p .steps * 2 ^ 32
+abbrev pub packedParts : Parts → ℕ
+packedParts p = p .refusal + p .value * 2 ^ 8 + p .steps * 2 ^ 32
 
 -- the number of an answer, and the bytes that the output holds afterwards
 abbrev pub numbered : {A : Type 0} → (A → Parts) → A × List ℕ → ℕ × List ℕ
-numbered partsOf answer = (number (partsOf (answer .0)), answer .1)
+numbered partsOf answer = (packedParts (partsOf (answer .0)), answer .1)
 
 -- the parts of a refusal
 abbrev pub refusalParts : Refusal → Parts

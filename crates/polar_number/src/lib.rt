@@ -6,13 +6,13 @@ use pass_resume::Resumed;
 use refusal::Refusal;
 ghost use mathlib.Core.Path.{_≡_};
 ghost use Prim.Native.Nat.{_<_, _^_};
-ghost use Rattle.polar_number.specs.Number.{parts, number, refusalParts, encodedParts, resumedParts, decodedParts, keptParts};
+ghost use Rattle.polar_number.specs.Number.{parts, packedParts, refusalParts, encodedParts, resumedParts, decodedParts, keptParts};
 ghost use Rattle.polar_number.specs.Contracts.{Fitting};
 
 // The number that comes back: refusal, then trial or index, then steps.
 fn answer(refusal: u8, value: u64, steps: u64) -> u64
-    requires { ⌜ number (parts refusal value steps) < 2 ^ 64 ⌝ }
-    ensures { λ x. ⌜ x ≡ number (parts refusal value steps) ⌝ }
+    requires { ⌜ packedParts (parts refusal value steps) < 2 ^ 64 ⌝ }
+    ensures { λ x. ⌜ x ≡ packedParts (parts refusal value steps) ⌝ }
 {
     refusal as u64 + value * 0x100 + steps * 0x1_0000_0000
 }
@@ -20,7 +20,7 @@ fn answer(refusal: u8, value: u64, steps: u64) -> u64
 // The number of a refusal.
 fn refusal_answer(refused: Refusal) -> u64
     requires { ⌜ Fitting (refusalParts refused) ⌝ }
-    ensures { λ x. ⌜ x ≡ number (refusalParts refused) ⌝ }
+    ensures { λ x. ⌜ x ≡ packedParts (refusalParts refused) ⌝ }
 {
     match refused {
         Refusal::Alone(i) => answer(i, 0, 0),
@@ -31,7 +31,7 @@ fn refusal_answer(refused: Refusal) -> u64
 // The number of an encoder's answer.
 pub fn encoded_answer(encoded: Encoded) -> u64
     requires { ⌜ Fitting (encodedParts encoded) ⌝ }
-    ensures { λ x. ⌜ x ≡ number (encodedParts encoded) ⌝ }
+    ensures { λ x. ⌜ x ≡ packedParts (encodedParts encoded) ⌝ }
 {
     match encoded {
         Encoded::Done => answer(0, 0, 0),
@@ -42,7 +42,7 @@ pub fn encoded_answer(encoded: Encoded) -> u64
 // The number of a resumed pass's answer.
 pub fn resumed_answer(resumed: Resumed) -> u64
     requires { ⌜ Fitting (resumedParts resumed) ⌝ }
-    ensures { λ x. ⌜ x ≡ number (resumedParts resumed) ⌝ }
+    ensures { λ x. ⌜ x ≡ packedParts (resumedParts resumed) ⌝ }
 {
     match resumed {
         Resumed::Done { steps } => answer(0, 0, steps as u64),
@@ -53,7 +53,7 @@ pub fn resumed_answer(resumed: Resumed) -> u64
 // The number of a decoder's answer.
 pub fn decoded_answer(decoded: Decoded) -> u64
     requires { ⌜ Fitting (decodedParts decoded) ⌝ }
-    ensures { λ x. ⌜ x ≡ number (decodedParts decoded) ⌝ }
+    ensures { λ x. ⌜ x ≡ packedParts (decodedParts decoded) ⌝ }
 {
     match decoded {
         Decoded::Accepted { trial, steps } => answer(0, trial as u64, steps as u64),
@@ -65,7 +65,7 @@ pub fn decoded_answer(decoded: Decoded) -> u64
 // The number of an answer to a call on a lent state.
 pub fn kept_answer(kept: Kept) -> u64
     requires { ⌜ Fitting (keptParts kept) ⌝ }
-    ensures { λ x. ⌜ x ≡ number (keptParts kept) ⌝ }
+    ensures { λ x. ⌜ x ≡ packedParts (keptParts kept) ⌝ }
 {
     match kept {
         Kept::Done { count } => answer(0, count as u64, 0),

@@ -15,5 +15,5 @@ pub record Rooms (longest : ℕ) (bytes held output : List ℕ) : Type 0 where
   pub output-most : length output < 65536
 
 -- the stream is over, or has had all turns
-pub record Ended (s : Stream) : Type 0 where
+pub record StreamOver (s : Stream) : Type 0 where
   pub over : 0 < s .wanted → mostTurns ≤ s .turns

@@ -4,7 +4,7 @@ use code::LONGEST;
 use libc::STDIN_FILENO;
 use libc::STDOUT_FILENO;
 use receive_stream::Stream;
-ghost use Rattle.receive.specs.Contracts.{Rooms, Ended};
+ghost use Rattle.receive.specs.Contracts.{Rooms, StreamOver};
 
 // The longest record.
 const RECORD: usize = 65535;
@@ -15,7 +15,7 @@ const OUTPUT: usize = 16384;
 // Reads and writes until the stream is over. No input is long enough for the turns to reach their bound.
 fn receive(bytes: &mut [u8], held: &mut [u8], output: &mut [u8]) -> Stream
     requires { do ⌜ Rooms (← ⟦LONGEST⟧) (now bytes) (now held) (now output) ⌝ }
-    ensures { λ s. ⌜ Ended s ⌝ }
+    ensures { λ s. ⌜ StreamOver s ⌝ }
 {
     let mut stream = receive_stream::start();
     while stream.turns < u64::MAX {

@@ -51,8 +51,8 @@ pub starts : (held output : List ℕ) → room ≤ length output → Between sta
 starts held output k = record { there-is = refl; wanted-is = λ _. refl; wanted-fits = omega arith; held-most = omega arith; counts = omega arith; output-room = k }
 
 -- what `advance` promises: if its conditions hold it answers, and its buffers keep their sizes
-abbrev Answers : ℕ → Type 0
-Answers longest =
+abbrev AdvanceAnswers : ℕ → Type 0
+AdvanceAnswers longest =
     (s : Stream) (got : ℕ) (bytes held output : List ℕ) → AdvancePre longest s got bytes held output
     → (held′ : List ℕ) × (output′ : List ℕ) × (s′ : Stream) × (length held′ ≡ length held) × AdvancePost s got bytes held output held′ output′ s′
 
@@ -66,7 +66,7 @@ record CanRun (longest : ℕ) (s : Stream) (bytes held output input : List ℕ) 
 abbrev Runs : Stream → List ℕ → List ℕ → List ℕ → List ℕ → Type 0
 Runs s bytes held output input = (turns : ℕ) × (text : List ℕ) × Run AdvancePost turns s bytes held output input text
 
-module _ {longest : ℕ} (answers : Answers longest) (size : ℕ → ℕ) (some : (wanted : ℕ) → 0 < wanted → (0 < size wanted) × (size wanted ≤ wanted)) where
+module _ {longest : ℕ} (answers : AdvanceAnswers longest) (size : ℕ → ℕ) (some : (wanted : ℕ) → 0 < wanted → (0 < size wanted) × (size wanted ≤ wanted)) where
   -- the input is at its end
   last-turn : (s : Stream) (bytes held output : List ℕ) → 0 < s .wanted → CanRun longest s bytes held output [] → Runs s bytes held output []
   last-turn s bytes held output going can =

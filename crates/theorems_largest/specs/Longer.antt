@@ -9,9 +9,9 @@ use Rattle.code.specs.declared.Code.{Code}
 use Rattle.code.specs.declared.Description.the-variants.{Refused}
 use Rattle.code.specs.Description.{describeUpTo, onDescription}
 
--- An operation is what it does with a refusal and with a code: encode, resume, every decoder at every restart, and opening a hearing are each
--- `onDescription (describe d) ..`, and `describe` is `describeUpTo largestN`. With n up to `small` and with n up to `large` an operation has one answer to
--- the bytes d, output and steps included, unless d is refused as 4 with n up to `small`. Document 01's largest n is 10.
+-- An operation is what it does with a refusal and with a code: encode, resume and every decoder at every restart are each `onDescription (describe d) ..`,
+-- and `describe` is `describeUpTo largestN`. (A hearing has the largest n in the sizes of its parts besides.) With n up to `small` and with n up to `large`
+-- an operation has one answer to the bytes d, output and steps included, unless d is refused as 4 with n up to `small`. Document 01's largest n is 10.
 abbrev pub OldAnswers : Type 1
 OldAnswers =
     (X : Type 0) (refuse : Refusal → X) (go : Code → X) (small large : ℕ) (d : List ℕ)

@@ -1,4 +1,4 @@
--- Silence under a description of kind 4 with start 1: every premise is met, and each statement gives an answer or a number that is computed apart.
+-- Silence under a description of kind 4 with start 1: every premise is met, and from each statement an answer or a number follows that is computed apart.
 use mathlib.Core.Path.{_≡_, refl, sym, ap, _∙_}
 use mathlib.Core.Bool.{true, false}
 use mathlib.Core.List.{List, [], _∷_}

@@ -28,7 +28,7 @@ use Rattle.bits.proofs.Mask.{mask-cases}
 use Rattle.code.specs.declared.Code.{Code}
 use Rattle.code.specs.declared.Description.the-variants as Description
 use Rattle.code.specs.Code.{codeLength, informationCount, divisor, startBits}
-use Rattle.code.specs.Description.{maskOf}
+use Rattle.code.specs.Description.{maskOf, describe}
 use Rattle.code.specs.Claims.{Described}
 use Rattle.code.proofs.Facts.{described}
 use Rattle.crc.specs.Check.{checkOf, passes}
@@ -45,10 +45,11 @@ use Rattle.pass_tree.specs.Node.{node}
 use Rattle.pass_tree.proofs.Decisions.{bit-decided}
 use Rattle.pass_tree.proofs.Leaves.{within-leaves}
 use Rattle.pass_tree.proofs.Steps.{steps-whole}
+use Rattle.flip_trial.specs.declared.Restart.{Restart}
 use Rattle.flip_trial.specs.Trial.{firstTrial, restartAt, messageIn, trialPasses}
 use Rattle.flip_run.specs.declared.Decoded.the-variants.{Accepted, Refused16}
 use Rattle.flip_run.specs.Trials.{answerOf}
-use Rattle.decoder.specs.Decoder.{single, sets, ownRefusals, refusalsOf, trialsOf}
+use Rattle.decoder.specs.Decoder.{Decoder, single, sets, ownRefusals, refusalsOf, trialsOf, decodedAs}
 use Rattle.decoder.proofs.Decoder.{fine-answer, under-code}
 use Rattle.decoder_demands.specs.Agreement.{skippedOver, lowestOfEach, SameRun}
 use Rattle.decoder_demands.specs.Claims.{PassedAt}
@@ -217,14 +218,19 @@ silence-accepted p restart d c output none w =
     ∙ ap₂ (λ (s : ℕ) (x : List ℕ). (Accepted 1 s, packed x)) (steps-whole (c .n) (maskRule mask) v)
     (ap (take (c .k)) message ∙ take-replicate (c .k) (informationCount c) 0 (omega arith))
 
-pub silence-later : SilenceLater
-silence-later p restart d c output trial steps payload code some e = later trial (passed-at p restart d c (silence c) output trial steps payload code e .1)
+-- whatever trial accepts silence, it is not trial 1
+not-first : (p : Decoder) (restart : Restart) (d : List ℕ) (c : Code) (output : List ℕ) (trial steps : ℕ) (payload : List ℕ)
+    → describe d ≡ Description.Accepted c → 0 < c .start → decodedAs p restart d (silence c) output ≡ (Accepted trial steps, payload) → 2 ≤ trial
+not-first p restart d c output trial steps payload code some e = later trial (passed-at p restart d c (silence c) output trial steps payload code e .1)
   where
     later : (trial : ℕ) {steps : ℕ} {bits : List ℕ} → PassedAt (trialPasses (maskOf d) c) (trialsOf p restart (maskOf d) c (channelValues (silence c))) trial steps bits → 2 ≤ trial
     later zero x = absurd (omega (arith, x .least))
     later (suc zero) x =
         absurd (true≢false (sym (x .passes) ∙ ap (trialPasses (maskOf d) c) (x .bits-are) ∙ trial-1-fails d c code some))
     later (suc (suc trial)) x = omega arith
+
+pub silence-later : SilenceLater
+silence-later p restart d c output trial steps payload code some e = not-first p restart d c output trial steps payload code some e
 
 -- no q, and so nothing is skipped
 none-skipped : (n : ℕ) (qs : List ℕ) → length qs ≡ 0 → skippedOver n qs ≡ 0
@@ -235,7 +241,7 @@ none-skipped n (q ∷ qs) e = absurd (omega arith)
 pub silence-fails : SilenceFails
 silence-fails p restart d c output code some limit own size =
     ⊎-elim
-    (λ a. absurd (omega (arith, x .most, limit, silence-later p restart d c output (x .made) (x .steps restart) (a .0) code some (a .1 restart output refl))))
+    (λ a. absurd (omega (arith, x .most, limit, not-first p restart d c output (x .made) (x .steps restart) (a .0) code some (a .1 restart output refl))))
     (λ a.
     let one : x .made ≡ 1 = omega (arith, x .most, limit, x .each) in
     let is : List ℕ = lowestOfEach p d c (silence c) (x .made) in

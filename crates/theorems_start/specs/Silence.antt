@@ -29,7 +29,8 @@ Trial1Fails =
     (d : List ℕ) (c : Code) → describe d ≡ Description.Accepted c → 0 < c .start
     → trialPasses (maskOf d) c (firstTrial (maskOf d) c (channelValues (silence c)) .bits) ≡ false
 
--- so every decoder with T = 1, if 26 does not apply, answers refusal 16 with one trial and n · N steps, and any output of the right size stays as it was
+-- so every decoder with T = 1, if 26 and 14 do not apply, answers refusal 16 with one trial and n · N steps, and any output of the right size stays as it
+-- was
 abbrev pub SilenceFails : Type 0
 SilenceFails =
     (p : Decoder) (restart : Restart) (d : List ℕ) (c : Code) (output : List ℕ) → describe d ≡ Description.Accepted c → 0 < c .start
