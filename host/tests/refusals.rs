@@ -120,7 +120,7 @@ fn listed(comment: &str) -> Vec<usize> {
 fn readme() {
     let text = text("README.md");
     let (_, table) = text
-        .split_once("| number | refused where | by |")
+        .split_once("| number | refused if | by |")
         .expect("a table");
     let rows = table
         .lines()
