@@ -14,17 +14,17 @@ use Rattle.code.specs.declared.Description.the-variants.{Accepted}
 use Rattle.code.specs.Description.{onDescription}
 use Rattle.channel.specs.Channel.{channelValue}
 use Rattle.hearing.specs.Hearing.{fresh}
-use Rattle.hearing_state.specs.State.{State, codeOfState, refusedIn, withHearing, cleared}
-use Rattle.hearing_state.specs.Contracts.{addedUnder}
+use Rattle.hearing_state.specs.State.{State, codeOfState, refusedIn, withHearing, added, cleared}
 
 -- a code of eight values
 abbrev eight : Code
 eight = record { n = 3; r = 1; polynomial = 1; start = 0; k = 3 }
 
 pub record StateExamples (s : State) : Type 0 where
-  -- a vector that is too short, and one with a value out of range, change nothing
-  pub short : addedUnder eight s (1 ∷ []) ≡ (Refused (Alone 12), s)
-  pub outside : addedUnder eight s (1 ∷ 32 ∷ 0 ∷ 0 ∷ 0 ∷ 0 ∷ 0 ∷ 0 ∷ []) ≡ (Refused (At 13 1), s)
+  -- under that code a vector that is too short changes nothing
+  pub short : codeOfState s ≡ Accepted eight → added s (1 ∷ []) ≡ (Refused (Alone 12), s)
+  -- nor does one with a value out of range
+  pub outside : codeOfState s ≡ Accepted eight → added s (1 ∷ 32 ∷ 0 ∷ 0 ∷ 0 ∷ 0 ∷ 0 ∷ 0 ∷ []) ≡ (Refused (At 13 1), s)
   -- a clear leaves the description, zeros and count 0
   pub clear : (c : Code) → codeOfState s ≡ Accepted c
       → cleared s ≡ (Fine, record { description = s .description; hearing = record { values = replicate (2 ^ largestN) 0; count = 0 } })
@@ -32,7 +32,7 @@ pub record StateExamples (s : State) : Type 0 where
 pub state-examples : (s : State) → StateExamples s
 unfolding firstWhere judge refusedOr channelValue
 state-examples s = record {
-  short = refl;
-  outside = refl;
+  short = λ e. rw e;
+  outside = λ e. rw e;
   clear = λ c e. ap (λ (a : Description). onDescription a (refusedIn s) (λ c. (Fine, withHearing s fresh))) e;
 }
