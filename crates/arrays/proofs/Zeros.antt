@@ -8,9 +8,9 @@ use borrow.Author.Tests.{eqb-true}
 use lib.Dec.{eqb}
 use lib.ListN.{length, take, drop, replicate, length-append, length-drop, length-replicate}
 use lib.Seq.{take_at, drop_at, drop-drop}
-use Rattle.laws.specs.Contracts.{splice}
-use Rattle.laws.proofs.Choice.{and-true}
-use Rattle.arrays.specs.Padded.{padded, allZero}
+use Rattle.laws.specs.Clauses.{splice}
+use Rattle.laws.proofs.Choice.{and_true}
+use Rattle.arrays.specs.Padded.{padded, all_zero}
 
 -- ---- lists that are all zero
 
@@ -20,24 +20,24 @@ drop-replicate (suc n) zero a = let e : 0 ≡ 0 - suc n = omega arith in ap (λ 
 drop-replicate (suc n) (suc m) a =
     let e : m - n ≡ suc m - suc n = omega arith in drop-replicate n m a ∙ ap (λ (k : ℕ). replicate k a) e
 
-pub zeros-are : (xs : List ℕ) → allZero xs ≡ true → xs ≡ replicate (length xs) 0
-unfolding allZero
-zeros-are [] e = refl
-zeros-are (x ∷ xs) e =
-    let p = and-true (eqb x 0) (allZero xs) e in
-    λ i. eqb-true x 0 p.0 i ∷ zeros-are xs p.1 i
+pub zeros_are : (xs : List ℕ) → all_zero xs ≡ true → xs ≡ replicate (length xs) 0
+unfolding all_zero
+zeros_are [] e = refl
+zeros_are (x ∷ xs) e =
+    let p = and_true (eqb x 0) (all_zero xs) e in
+    λ i. eqb-true x 0 p.0 i ∷ zeros_are xs p.1 i
 
-pub are-zeros : (n : ℕ) → allZero (replicate n 0) ≡ true
-unfolding allZero
-are-zeros zero = refl
-are-zeros (suc n) = are-zeros n
+pub are_zeros : (n : ℕ) → all_zero (replicate n 0) ≡ true
+unfolding all_zero
+are_zeros zero = refl
+are_zeros (suc n) = are_zeros n
 
 -- zeros from one place on are zeros from every later one on
-pub zeros-past : (w : List ℕ) (from at : ℕ) → from ≤ at → allZero (drop from w) ≡ true → drop at w ≡ replicate (length w - at) 0
+pub zeros-past : (w : List ℕ) (from at : ℕ) → from ≤ at → all_zero (drop from w) ≡ true → drop at w ≡ replicate (length w - at) 0
 zeros-past w from at l e =
     let q : from + (at - from) ≡ at = omega arith in
     let left : length (drop from w) - (at - from) ≡ length w - at = omega (arith, length-drop from w) in
-    ap (λ (k : ℕ). drop k w) (sym q) ∙ sym (drop-drop (at - from) from w) ∙ ap (drop (at - from)) (zeros-are (drop from w) e)
+    ap (λ (k : ℕ). drop k w) (sym q) ∙ sym (drop-drop (at - from) from w) ∙ ap (drop (at - from)) (zeros_are (drop from w) e)
     ∙ drop-replicate (at - from) (length (drop from w)) 0 ∙ ap (λ (k : ℕ). replicate k 0) left
 
 -- ---- lists with zeros after them

@@ -2,5 +2,5 @@
 use Rattle.std.specs.Prelude.{ℕ}
 
 -- the largest n
-abbrev pub largestN : ℕ
-largestN = 12
+abbrev pub largest_n : ℕ
+largest_n = 12

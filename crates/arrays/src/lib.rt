@@ -1,7 +1,7 @@
 // The longest code, the working arrays that are made for it, and lists with zeros after them.
 ghost use Rattle.std.specs.Prelude.{◌≡◌, ◌+◌, ◌≤◌, min, max, length, drop};
-ghost use Rattle.laws.specs.Contracts.{splice, segment};
-ghost use Rattle.arrays.specs.Padded.{allZero};
+ghost use Rattle.laws.specs.Clauses.{splice, segment};
+ghost use Rattle.arrays.specs.Padded.{all_zero};
 
 // The largest n: a code has at most 2^n bits.
 pub const LARGEST_N: u32 = 12;
@@ -60,7 +60,7 @@ pub fn clamped(x: u32, least: u32, most: u32) -> u32
 // Whether every byte from an index on is zero. No branch depends on a byte, so the loop takes many at once.
 pub fn is_zero_from(bytes: &[u8], start: usize) -> bool
     requires { start ≤ length bytes.now }
-    ensures { result ≡ allZero (drop start bytes.now) }
+    ensures { result ≡ all_zero (drop start bytes.now) }
 {
     let mut any = 0u8;
     let mut i = start;

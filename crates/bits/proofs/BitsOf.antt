@@ -5,30 +5,30 @@ use Prim.Native.Nat.{ℕ, zero, suc, ◌+◌, ◌-◌, ◌%◌, ◌^◌, ◌≤�
 use native.Mathlib.Omega.{arith}
 use lib.ListN.{length, get_or, replicate}
 use Rattle.laws.specs.Table.{table}
-use Rattle.laws.proofs.Table.{getD-table, table-ext}
+use Rattle.laws.proofs.Table.{get_or-table, table_ext}
 use Rattle.bits.specs.Bit.{bit, bits_of}
 use Rattle.bits.proofs.Bitwise.{bit-mod, bit-zero}
-use Rattle.bits.proofs.Number.{number-ext, number_bit}
+use Rattle.bits.proofs.Number.{number_ext, number_bit}
 
-pub length-bitsOf : (w x : ℕ) → length (bits_of w x) ≡ w
-length-bitsOf zero x = refl
-length-bitsOf (suc w) x = ap suc (length-bitsOf w x)
+pub length-bits_of : (w x : ℕ) → length (bits_of w x) ≡ w
+length-bits_of zero x = refl
+length-bits_of (suc w) x = ap suc (length-bits_of w x)
 
-pub bitsOf-zero : (w : ℕ) → bits_of w 0 ≡ replicate w 0
-bitsOf-zero zero = refl
-bitsOf-zero (suc w) = ap₂ (λ (x : ℕ) (l : List ℕ). x ∷ l) (bit-zero w) (bitsOf-zero w)
+pub bits_of-zero : (w : ℕ) → bits_of w 0 ≡ replicate w 0
+bits_of-zero zero = refl
+bits_of-zero (suc w) = ap₂ (λ (x : ℕ) (l : List ℕ). x ∷ l) (bit-zero w) (bits_of-zero w)
 
 -- the bits above the w low ones do not matter
-pub bitsOf-mod : (w k x : ℕ) → w ≤ k → bits_of w (x % 2 ^ k) ≡ bits_of w x
-bitsOf-mod zero k x h = refl
-bitsOf-mod (suc w) k x h = ap₂ (λ (y : ℕ) (l : List ℕ). y ∷ l) (bit-mod x w k h) (bitsOf-mod w k x (omega arith))
+pub bits_of-mod : (w k x : ℕ) → w ≤ k → bits_of w (x % 2 ^ k) ≡ bits_of w x
+bits_of-mod zero k x h = refl
+bits_of-mod (suc w) k x h = ap₂ (λ (y : ℕ) (l : List ℕ). y ∷ l) (bit-mod x w k h) (bits_of-mod w k x (omega arith))
 
 -- the list by its elements
-pub bitsOf-table : (w x : ℕ) → table (λ j. bit x (w - (j + 1))) w ≡ bits_of w x
+pub bits_of-table : (w x : ℕ) → table (λ j. bit x (w - (j + 1))) w ≡ bits_of w x
 unfolding table
-bitsOf-table zero x = refl
-bitsOf-table (suc w) x =
-    ap₂ (λ (y : ℕ) (l : List ℕ). y ∷ l) (first w x) (table-ext _ (λ j. bit x (w - (j + 1))) w (rest w x) ∙ bitsOf-table w x)
+bits_of-table zero x = refl
+bits_of-table (suc w) x =
+    ap₂ (λ (y : ℕ) (l : List ℕ). y ∷ l) (first w x) (table_ext _ (λ j. bit x (w - (j + 1))) w (rest w x) ∙ bits_of-table w x)
   where
     first : (w x : ℕ) → bit x (suc w - (0 + 1)) ≡ bit x w
     first w x = let e : suc w - (0 + 1) ≡ w = omega arith in ap (bit x) e
@@ -37,11 +37,11 @@ bitsOf-table (suc w) x =
     rest w x j l = let e : suc w - (suc j + 1) ≡ w - (j + 1) = omega arith in ap (bit x) e
 
 -- a number below 2^w is known by its w bits
-pub bitsOf-only : (w x y : ℕ) → x < 2 ^ w → y < 2 ^ w → bits_of w x ≡ bits_of w y → x ≡ y
-bitsOf-only w x y l k e = sym (number_bit w x l) ∙ number-ext _ _ w each ∙ number_bit w y k
+pub bits_of-only : (w x y : ℕ) → x < 2 ^ w → y < 2 ^ w → bits_of w x ≡ bits_of w y → x ≡ y
+bits_of-only w x y l k e = sym (number_bit w x l) ∙ number_ext _ _ w each ∙ number_bit w y k
   where
     at : (z j : ℕ) → j < w → get_or (bits_of w z) j 0 ≡ bit z (w - (j + 1))
-    at z j h = ap (λ (l : List ℕ). get_or l j 0) (sym (bitsOf-table w z)) ∙ getD-table (λ i. bit z (w - (i + 1))) w j 0 h
+    at z j h = ap (λ (l : List ℕ). get_or l j 0) (sym (bits_of-table w z)) ∙ get_or-table (λ i. bit z (w - (i + 1))) w j 0 h
 
     each : (j : ℕ) → j < w → bit x (w - (j + 1)) ≡ bit y (w - (j + 1))
     each j h = sym (at x j h) ∙ ap (λ (l : List ℕ). get_or l j 0) e ∙ at y j h

@@ -8,7 +8,7 @@ use Rattle.laws.proofs.Each.{each_append, each_take, each-drop, each-table}
 use Rattle.bits.specs.Bit.{bits_of}
 use Rattle.bits.specs.Claims.{Bits}
 use Rattle.bits.specs.Packing.{unpacked}
-use Rattle.bits.proofs.Bitwise.{bit-lt}
+use Rattle.bits.proofs.Bitwise.{bit_lt}
 
 pub bits-nil : Bits []
 bits-nil = record { at = λ i. omega arith }
@@ -20,8 +20,8 @@ bits-cons {x} {xs} h p = record { at = each }
     each zero = h
     each (suc i) = p.at i
 
-pub bits-tail : {x : ℕ} {xs : List ℕ} → Bits (x ∷ xs) → Bits xs
-bits-tail p = record { at = λ i. p.at (suc i) }
+pub bits_tail : {x : ℕ} {xs : List ℕ} → Bits (x ∷ xs) → Bits xs
+bits_tail p = record { at = λ i. p.at (suc i) }
 
 pub bits-append : (xs ys : List ℕ) → Bits xs → Bits ys → Bits (xs ++ ys)
 bits-append xs ys p q = record { at = each_append (λ b. b < 2) 0 xs ys p.at q.at }
@@ -35,10 +35,10 @@ bits-drop n xs p = record { at = each-drop (λ b. b < 2) 0 n xs p.at }
 pub bits-table : (f : ℕ → ℕ) (n : ℕ) → ((i : ℕ) → f i < 2) → Bits (table f n)
 bits-table f n h = record { at = each-table (λ b. b < 2) 0 (omega arith) f n h }
 
-pub bits-of : (w x : ℕ) → Bits (bits_of w x)
-bits-of zero x = bits-nil
-bits-of (suc w) x = bits-cons (bit-lt x w) (bits-of w x)
+pub bits_of_lem : (w x : ℕ) → Bits (bits_of w x)
+bits_of_lem zero x = bits-nil
+bits_of_lem (suc w) x = bits-cons (bit_lt x w) (bits_of_lem w x)
 
 pub bits-unpacked : (bytes : List ℕ) (k : ℕ) → Bits (unpacked bytes k)
 unfolding unpacked
-bits-unpacked bytes k = bits-table _ k (λ i. bit-lt _ _)
+bits-unpacked bytes k = bits-table _ k (λ i. bit_lt _ _)

@@ -31,10 +31,10 @@ bit-number f (suc w) i h l = go (w - i) refl (bit-number f w i h)
         ap (bit (number f w * 2 + f w)) z ∙ bit_up (number f w) (f w) (w - (i + 1)) (h w) ∙ below (omega arith)
 
 -- numbers made of the same bits
-pub number-ext : (f g : ℕ → ℕ) (w : ℕ) → ((i : ℕ) → i < w → f i ≡ g i) → number f w ≡ number g w
+pub number_ext : (f g : ℕ → ℕ) (w : ℕ) → ((i : ℕ) → i < w → f i ≡ g i) → number f w ≡ number g w
 unfolding number
-number-ext f g zero h = refl
-number-ext f g (suc w) h = ap₂ (λ (x y : ℕ). x * 2 + y) (number-ext f g w (λ i l. h i (omega arith))) (h w (omega arith))
+number_ext f g zero h = refl
+number_ext f g (suc w) h = ap₂ (λ (x y : ℕ). x * 2 + y) (number_ext f g w (λ i l. h i (omega arith))) (h w (omega arith))
 
 -- a number of w digits is made of its bits
 pub number_bit : (w x : ℕ) → x < 2 ^ w → number (λ i. bit x (w - (i + 1))) w ≡ x
@@ -43,7 +43,7 @@ number_bit zero x h = let h' : x < 1 = h in omega arith
 number_bit (suc w) x h =
     let half : x / 2 < 2 ^ w = shr_lt w 1 (subst (λ (k : ℕ). x < 2 ^ k) (sym (add-one w)) h) in
     let high : number (λ i. bit x (suc w - (i + 1))) w ≡ x / 2 =
-    number-ext _ _ w (λ i l. later i l) ∙ number_bit w (x / 2) half in
+    number_ext _ _ w (λ i l. later i l) ∙ number_bit w (x / 2) half in
     let z : suc w - (w + 1) ≡ 0 = omega arith in
     let low : bit x (suc w - (w + 1)) ≡ x % 2 = ap (bit x) z ∙ ap (λ (y : ℕ). y % 2) (div-one x) in
     ap₂ (λ (a b : ℕ). a * 2 + b) high low ∙ omega arith

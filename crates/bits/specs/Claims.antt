@@ -3,9 +3,9 @@ use Rattle.std.specs.Prelude.{List, ℕ, zero, suc, ◌+◌, ◌<◌, get_or}
 use Rattle.std.specs.Int.Count.{ones}
 
 -- the counts of ones in the first m bytes, added up; at m = length mask this is `ones_in mask` (`byteCounts-is` of proofs/Mask.antt)
-unfoldable pub byteCounts : List ℕ → ℕ → ℕ
-byteCounts mask zero = 0
-byteCounts mask (suc m) = byteCounts mask m + ones (get_or mask m 0)
+unfoldable pub byte_counts : List ℕ → ℕ → ℕ
+byte_counts mask zero = 0
+byte_counts mask (suc m) = byte_counts mask m + ones (get_or mask m 0)
 
 -- each element is 0 or 1 (`get_or` is 0 at an index outside the list)
 pub record Bits (xs : List ℕ) : Type 0 where

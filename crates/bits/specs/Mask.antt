@@ -3,14 +3,14 @@ use Rattle.std.specs.Prelude.{List, ℕ, zero, suc, ◌+◌, ◌*◌, ◌/◌, �
 use Rattle.bits.specs.Bit.{bit}
 
 -- one at an information index, zero at a frozen one
-abbrev pub maskBit : List ℕ → ℕ → ℕ
-maskBit mask i = bit (get_or mask (i / 8) 0) (i % 8)
+abbrev pub mask_bit : List ℕ → ℕ → ℕ
+mask_bit mask i = bit (get_or mask (i / 8) 0) (i % 8)
 
 -- how many of the indices below n are information indices: each bit is 0 or 1, so their sum
-unfoldable pub onesBelow : List ℕ → ℕ → ℕ
-onesBelow mask zero = 0
-onesBelow mask (suc n) = onesBelow mask n + maskBit mask n
+unfoldable pub ones_below : List ℕ → ℕ → ℕ
+ones_below mask zero = 0
+ones_below mask (suc n) = ones_below mask n + mask_bit mask n
 
 -- K: how many information indices the mask has
 abbrev pub ones_in : List ℕ → ℕ
-ones_in mask = onesBelow mask (8 * length mask)
+ones_in mask = ones_below mask (8 * length mask)

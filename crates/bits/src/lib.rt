@@ -2,8 +2,8 @@
 ghost use Rattle.std.specs.Prelude.{◌≡◌, ◌*◌, ◌<◌, ◌≤◌, length, get_or};
 ghost use Rattle.bits.specs.Bit.{bit};
 ghost use Rattle.bits.specs.Claims.{Bits};
-ghost use Rattle.bits.specs.Mask.{maskBit, ones_in};
-ghost use Rattle.bits.specs.Packing.{bytesFor, packedByte, packed, unpacked};
+ghost use Rattle.bits.specs.Mask.{mask_bit, ones_in};
+ghost use Rattle.bits.specs.Packing.{bytes_for, packed_byte, packed, unpacked};
 
 // Bit i of a byte, 0 being the least.
 fn bit_of(byte: u8, i: usize) -> u8
@@ -16,7 +16,7 @@ fn bit_of(byte: u8, i: usize) -> u8
 // 1 if index i is an information index, else 0.
 pub fn mask_bit(mask: &[u8], i: usize) -> u8
     requires { i < 8 * length mask.now }
-    ensures { result ≡ maskBit mask.now i }
+    ensures { result ≡ mask_bit mask.now i }
 {
     bit_of(mask[i / 8], i % 8)
 }
@@ -45,7 +45,7 @@ fn bit_or_zero(bits: &[u8], i: usize) -> u8
 // Byte m of the packed bits.
 fn packed_byte(bits: &[u8], m: usize) -> u8
     requires { Bits bits.now × (8 * m < length bits.now) }
-    ensures { result ≡ packedByte bits.now m }
+    ensures { result ≡ packed_byte bits.now m }
 {
     let mut byte: u8 = 0;
     let mut b: usize = 0;
@@ -58,14 +58,14 @@ fn packed_byte(bits: &[u8], m: usize) -> u8
 
 // How many bytes k bits take.
 pub fn bytes_for(k: usize) -> usize
-    ensures { result ≡ bytesFor k }
+    ensures { result ≡ bytes_for k }
 {
     k / 8 + (k % 8 + 7) / 8
 }
 
 // Packs bits, one a byte, highest bit first.
 pub fn pack(bits: &[u8], bytes: &mut [u8])
-    requires { Bits bits.now × (length bytes.old ≡ bytesFor (length bits.now)) }
+    requires { Bits bits.now × (length bytes.old ≡ bytes_for (length bits.now)) }
     ensures { bytes.new ≡ packed bits.now }
 {
     let mut m = 0;

@@ -6,10 +6,10 @@ use native.Mathlib.Omega.{arith}
 use borrow.Author.Tests.{ltb-true, ltb-false, eqb-true, eqb-false, lt-ltb, le-ltb, le-leb, lt-leb, eq-eqb, ne_eqb}
 use lib.Dec.{ltb, leb, eqb, ltb→lt, nltb→le}
 use lib.IntN.{ℤ, pos, nat_abs, ◌-ℤ◌}
-use Rattle.laws.specs.First.{firstWhere}
+use Rattle.laws.specs.First.{first_where}
 use Rattle.laws.proofs.Choice.{cond_ind}
-use Rattle.laws.proofs.First.{first-le, first-before, first_holds}
-use Rattle.channel.specs.Channel.{channelValue}
+use Rattle.laws.proofs.First.{first_le, first-before, first_holds}
+use Rattle.channel.specs.Channel.{channel_value}
 
 -- ---- one value: its byte, 31 higher, is below 63
 
@@ -20,8 +20,8 @@ same_test x y small large = go (ltb 31 y) refl
     go true e = le-ltb x 63 (large (ltb-true 31 y e))
     go false e = lt-ltb x 63 (small (ltb-false 31 y e))
 
-pub inside_is : (b : ℕ) → b < 256 → ltb ((b + 31) % 256) 63 ≡ not (ltb 31 (nat_abs (channelValue b)))
-unfolding channelValue
+pub inside_is : (b : ℕ) → b < 256 → ltb ((b + 31) % 256) 63 ≡ not (ltb 31 (nat_abs (channel_value b)))
+unfolding channel_value
 inside_is b l =
     cond_ind (λ (z : ℤ). ltb ((b + 31) % 256) 63 ≡ not (ltb 31 (nat_abs z))) (ltb b 128) (pos b) (pos b -ℤ pos 256)
     (λ t. let below : b < 128 = ltb→lt b 128 t in same_test ((b + 31) % 256) b (λ m. omega arith) (λ m. omega arith))
@@ -31,7 +31,7 @@ inside_is b l =
 
 module _ (test : ℕ → Bool) (n : ℕ) where
   abbrev first : ℕ
-  first = firstWhere test n
+  first = first_where test n
 
   pub none-next : (i : ℕ) → i < n → (leb i first && not (test i)) ≡ leb (i + 1) first
   none-next i l = go (ltb i first) refl
@@ -64,4 +64,4 @@ module _ (test : ℕ → Bool) (n : ℕ) where
           lt-leb n first m ∙ sym (ne_eqb first n (λ same. omega arith))
       go false e =
           let m : n ≤ first = ltb-false first n e in
-          le-leb n first m ∙ sym (eq-eqb first n (omega (arith, first-le test n)))
+          le-leb n first m ∙ sym (eq-eqb first n (omega (arith, first_le test n)))

@@ -7,23 +7,23 @@ use borrow.Author.Tests.{ltb-false, le-ltb}
 use lib.ListN.{length}
 use Rattle.refusal.specs.declared.Judgement.TheVariants.{Fine}
 use Rattle.refusal.specs.Judge.{judge}
-use Rattle.refusal.proofs.Judge.{judge-none, judge-no, judge-past}
-use Rattle.refusal.proofs.Tests.{differs-past, differs-no}
+use Rattle.refusal.proofs.Judge.{judge-none, judge_no, judge-past}
+use Rattle.refusal.proofs.Tests.{differs-past, differs_no}
 use Rattle.code.specs.declared.Code.{Code}
-use Rattle.code.specs.Code.{codeLength}
-use Rattle.channel.specs.Channel.{firstOutside, channelRefusals}
-use Rattle.channel.proofs.Outside.{first-outside-le}
+use Rattle.code.specs.Code.{code_length}
+use Rattle.channel.specs.Channel.{first_outside, channel_refusals}
+use Rattle.channel.proofs.Outside.{first_outside_le}
 
 module _ (c : Code) (channel : List ℕ) where
-  pub channel-fine : length channel ≡ codeLength c → firstOutside channel ≡ length channel → judge (channelRefusals c channel) ≡ Fine
-  channel-fine long inside =
-      judge-no _ _ _ (differs-no (length channel) (codeLength c) long)
-      ∙ judge-no _ _ _ (le-ltb (firstOutside channel) (length channel) (omega arith)) ∙ judge-none
+  pub channel_fine : length channel ≡ code_length c → first_outside channel ≡ length channel → judge (channel_refusals c channel) ≡ Fine
+  channel_fine long inside =
+      judge_no _ _ _ (differs_no (length channel) (code_length c) long)
+      ∙ judge_no _ _ _ (le-ltb (first_outside channel) (length channel) (omega arith)) ∙ judge-none
 
-  pub fine-channel : judge (channelRefusals c channel) ≡ Fine → (length channel ≡ codeLength c) × (firstOutside channel ≡ length channel)
-  fine-channel e =
+  pub fine_channel : judge (channel_refusals c channel) ≡ Fine → (length channel ≡ code_length c) × (first_outside channel ≡ length channel)
+  fine_channel e =
       let s12 = judge-past _ _ _ e in
       let s13 = judge-past _ _ _ s12.1 in (
-        differs-past (length channel) (codeLength c) s12.0,
-        omega (arith, ltb-false (firstOutside channel) (length channel) s13.0, first-outside-le channel),
+        differs-past (length channel) (code_length c) s12.0,
+        omega (arith, ltb-false (first_outside channel) (length channel) s13.0, first_outside_le channel),
       )

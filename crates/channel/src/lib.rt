@@ -1,15 +1,15 @@
 // Channel values: bytes in two's complement, their range, and refusals 12 and 13.
 ghost use Rattle.std.specs.Prelude.{◌≡◌, not, ◌≤◌, ltb, eqb, nat_abs, length};
 ghost use Rattle.refusal.specs.Judge.{judge};
-ghost use Rattle.arrays.specs.Sizes.{largestN};
-ghost use Rattle.channel.specs.Channel.{channelValue, firstOutside, channelRefusals};
+ghost use Rattle.arrays.specs.Sizes.{largest_n};
+ghost use Rattle.channel.specs.Channel.{channel_value, first_outside, channel_refusals};
 
 use code::Code;
 use refusal::{Judgement, Refusal};
 
 // A channel byte in two's complement.
 pub fn channel_value(byte: u8) -> i32
-    ensures { result ≡ channelValue byte }
+    ensures { result ≡ channel_value byte }
 {
     let x = byte as i32;
     if byte < 128 { x } else { x - 256 }
@@ -17,14 +17,14 @@ pub fn channel_value(byte: u8) -> i32
 
 // Whether a byte is a value in −31..31.
 fn is_inside(byte: u8) -> bool
-    ensures { result ≡ not (ltb 31 (nat_abs (channelValue byte))) }
+    ensures { result ≡ not (ltb 31 (nat_abs (channel_value byte))) }
 {
     (byte as u32 + 31) % 256 < 63
 }
 
 // Whether all values lie in −31..31. No branch depends on a value: the loop takes many at once.
 pub fn are_inside(channel: &[u8]) -> bool
-    ensures { result ≡ eqb (firstOutside channel.now) (length channel.now) }
+    ensures { result ≡ eqb (first_outside channel.now) (length channel.now) }
 {
     let mut inside = true;
     let mut i = 0;
@@ -37,7 +37,7 @@ pub fn are_inside(channel: &[u8]) -> bool
 
 // The first index of a channel value outside −31..31, or the channel's length if there is none: value by value.
 fn find_outside(channel: &[u8]) -> usize
-    ensures { result ≡ firstOutside channel.now }
+    ensures { result ≡ first_outside channel.now }
 {
     let mut i = 0;
     while i < channel.len() {
@@ -52,7 +52,7 @@ fn find_outside(channel: &[u8]) -> usize
 // The first index of a channel value outside −31..31, or the channel's length if there is none. Most channels have none, so all values are
 // tested at once before one is searched for.
 fn first_outside(channel: &[u8]) -> usize
-    ensures { result ≡ firstOutside channel.now }
+    ensures { result ≡ first_outside channel.now }
 {
     if are_inside(channel) {
         return channel.len();
@@ -62,8 +62,8 @@ fn first_outside(channel: &[u8]) -> usize
 
 // Judges a channel: refusals 12 and 13.
 pub fn judge_channel(code: Code, channel: &[u8]) -> Judgement
-    requires { code.n ≤ largestN }
-    ensures { result ≡ judge (channelRefusals code channel.now) }
+    requires { code.n ≤ largest_n }
+    ensures { result ≡ judge (channel_refusals code channel.now) }
 {
     if channel.len() != 1usize << code.n {
         return Judgement::Refused(Refusal::Alone(12));

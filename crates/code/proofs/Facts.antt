@@ -5,15 +5,15 @@ use Prim.Native.Nat.{ℕ, ◌+◌, ◌-◌, ◌*◌, ◌/◌, ◌^◌, ◌≤◌
 use native.Mathlib.Omega.{arith}
 use lib.ListN.{length, get_or, length-drop}
 use lib.Pow.{pow-add}
-use Rattle.refusal.proofs.Judge.{refused-fine}
+use Rattle.refusal.proofs.Judge.{refused_fine}
 use Rattle.bits.specs.Bit.{bit}
 use Rattle.bits.specs.Mask.{ones_in}
-use Rattle.bits.proofs.Mask.{ones-le}
+use Rattle.bits.proofs.Mask.{ones_le}
 use Rattle.code.specs.declared.Code.{Code}
 use Rattle.code.specs.declared.Description.TheVariants.{Accepted, Refused}
-use Rattle.code.specs.Description.{word, maskAt, mask_of, start_of, code_of, describeUpTo, describe}
+use Rattle.code.specs.Description.{word, mask_at, mask_of, start_of, code_of, describe_up_to, describe}
 use Rattle.code.specs.Claims.{Laid, WellFormed, accepts, Described}
-use Rattle.code.proofs.WellFormed.{well-formed-fine, well-formed-exactly}
+use Rattle.code.proofs.WellFormed.{well_formed_fine, well_formed_exactly}
 
 -- eight indices to a byte
 eight-bytes : (n : ℕ) → 3 ≤ n → 8 * (2 ^ n / 8) ≡ 2 ^ n
@@ -24,22 +24,22 @@ eight-bytes n h =
 
 -- the mask has a bit for each index
 pub mask_size : {d : List ℕ} → Laid d → 8 * length (mask_of d) ≡ 2 ^ get_or d 4 0
-mask_size {d} w = omega (arith, length-drop (maskAt (word d 2)) d, eight-bytes (get_or d 4 0) w.n-least, w.size)
+mask_size {d} w = omega (arith, length-drop (mask_at (word d 2)) d, eight-bytes (get_or d 4 0) w.n_least, w.size)
 
 module _ (d : List ℕ) (c : Code) (e : describe d ≡ Accepted c) where
-  well-formed : WellFormed d
-  well-formed = (well-formed-exactly d).1 (ap accepts e)
+  well_formed : WellFormed d
+  well_formed = (well_formed_exactly d).1 (ap accepts e)
 
   -- the code is the one in the fields
   code_is : code_of d ≡ c
-  unfolding describeUpTo
+  unfolding describe_up_to
   code_is =
-      let f : Accepted (code_of d) ≡ Accepted c = sym (refused-fine Refused (Accepted (code_of d)) _ (well-formed-fine d well-formed)) ∙ e in
+      let f : Accepted (code_of d) ≡ Accepted c = sym (refused_fine Refused (Accepted (code_of d)) _ (well_formed_fine d well_formed)) ∙ e in
       cc
 
   pub described : Described d c
   described =
-      let w = well-formed in
+      let w = well_formed in
       let en : get_or d 4 0 ≡ c.n = ap (λ (x : Code). x.n) code_is in
       let er : get_or d 5 0 ≡ c.r = ap (λ (x : Code). x.r) code_is in
       let ep : word d 6 ≡ c.polynomial = ap (λ (x : Code). x.polynomial) code_is in
@@ -49,17 +49,17 @@ module _ (d : List ℕ) (c : Code) (e : describe d ≡ Accepted c) where
       let size = mask_size l in
       record {
         coded = record {
-          n-least = omega (arith, l.n-least);
-          n-most = omega (arith, l.n-most);
-          r-least = omega arith;
-          r-most = omega arith;
+          n_least = omega (arith, l.n_least);
+          n_most = omega (arith, l.n_most);
+          r_least = omega arith;
+          r_most = omega arith;
           start_fits = subst₂ (λ (x y : ℕ). x < 2 ^ y) es er w.start_fits;
           mask_size = size ∙ ap (λ (x : ℕ). 2 ^ x) en;
-          k-least = omega arith;
-          K-is = omega arith;
-          K-most = omega (arith, ones-le (mask_of d) (8 * length (mask_of d)), ap (λ (x : ℕ). 2 ^ x) en);
+          k_least = omega arith;
+          K_is = omega arith;
+          K_most = omega (arith, ones_le (mask_of d) (8 * length (mask_of d)), ap (λ (x : ℕ). 2 ^ x) en);
         };
-        polynomial-odd = ap (λ (x : ℕ). bit x 0) (sym ep) ∙ w.polynomial-odd;
-        polynomial-fits = subst₂ (λ (x y : ℕ). x < 2 ^ y) ep er w.polynomial-fits;
+        polynomial_odd = ap (λ (x : ℕ). bit x 0) (sym ep) ∙ w.polynomial_odd;
+        polynomial_fits = subst₂ (λ (x y : ℕ). x < 2 ^ y) ep er w.polynomial_fits;
         header = l.header;
       }

@@ -7,19 +7,19 @@ use mathlib.Core.List.{List}
 use Prim.Native.Nat.{ℕ}
 use Rattle.refusal.specs.declared.Refusal.{Refusal}
 use Rattle.refusal.specs.declared.Judgement.TheVariants.{Fine}
-use Rattle.refusal.specs.Judge.{judge, refusedOr}
+use Rattle.refusal.specs.Judge.{judge, refused_or}
 use Rattle.refusal.proofs.Judge.{accepts-exactly}
 use Rattle.code.specs.declared.Code.{Code}
 use Rattle.code.specs.declared.Description.{Description}
 use Rattle.code.specs.declared.Description.TheVariants.{Accepted, Refused}
-use Rattle.code.specs.Description.{describe, onDescription}
+use Rattle.code.specs.Description.{describe, on_description}
 use Rattle.code.specs.Claims.{WellFormedUnder}
 
 module _ {X : Type 0} (accepts : X → Bool) (refuse : Refusal → X) (refuses : (x : Refusal) → accepts (refuse x) ≡ false)
     (tests : Code → List (Bool × Refusal)) (answer : Code → X) (answers : (c : Code) → accepts (answer c) ≡ true)
     {W : Code → Type 0} (fine : (c : Code) → W c ↔ (judge (tests c) ≡ Fine)) (d : List ℕ) where
   abbrev operation : Description → X
-  operation x = onDescription x refuse (λ c. refusedOr (judge (tests c)) refuse (answer c))
+  operation x = on_description x refuse (λ c. refused_or (judge (tests c)) refuse (answer c))
 
   -- under a code
   exactly : (c : Code) → W c ↔ (accepts (operation (Accepted c)) ≡ true)

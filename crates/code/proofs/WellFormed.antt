@@ -9,20 +9,20 @@ use native.Mathlib.Omega.{arith}
 use borrow.Author.Tests.{ltb-false, le-ltb, eqb-false, ne_eqb, not-false}
 use lib.ListN.{length, get_or, take, drop}
 use lib.Pow.{pow_pos}
-use Rattle.laws.proofs.Choice.{or-false}
+use Rattle.laws.proofs.Choice.{or_false}
 use Rattle.refusal.specs.declared.Judgement.TheVariants.{Fine}
 use Rattle.refusal.specs.declared.Refusal.{Refusal}
 use Rattle.refusal.specs.Judge.{judge}
-use Rattle.refusal.proofs.Judge.{judge-none, judge-no, judge-past, append-fine, append-past, accepts-exactly}
-use Rattle.refusal.proofs.Tests.{differs-past, outside-past, differs-no, outside-no}
-use Rattle.arrays.specs.Sizes.{largestN}
+use Rattle.refusal.proofs.Judge.{judge-none, judge_no, judge-past, append-fine, append-past, accepts-exactly}
+use Rattle.refusal.proofs.Tests.{differs-past, outside-past, differs_no, outside_no}
+use Rattle.arrays.specs.Sizes.{largest_n}
 use Rattle.bits.specs.Bit.{bit}
 use Rattle.bits.specs.Mask.{ones_in}
-use Rattle.bits.proofs.Bitwise.{bit-lt}
+use Rattle.bits.proofs.Bitwise.{bit_lt}
 use Rattle.code.specs.declared.Description.TheVariants.{Accepted, Refused}
-use Rattle.code.specs.Description.{word, maskAt, mask_of, start_of, is_wide, badPolynomial, code_of, describeUpTo, describe}
+use Rattle.code.specs.Description.{word, mask_at, mask_of, start_of, is_wide, bad_polynomial, code_of, describe_up_to, describe}
 use Rattle.code.specs.Claims.{Laid, WellFormed, accepts}
-use Rattle.code.specs.Contracts.{descriptionRefusals}
+use Rattle.code.specs.Clauses.{description_refusals}
 
 -- no bit at r or above is set
 wide-past : (x r : ℕ) → is_wide x r ≡ false → x < 2 ^ r
@@ -30,17 +30,17 @@ wide-past x r e =
     let none = differs-past (x / 2 ^ r) 0 e in
     subst (λ (y : ℕ). x < y) (one-mul (2 ^ r)) ((div-lt_iff_lt-mul (pow_pos r)).0 (omega arith))
 
-wide-no : (x r : ℕ) → x < 2 ^ r → is_wide x r ≡ false
-wide-no x r fits = differs-no (x / 2 ^ r) 0 (div-eq_of_lt fits)
+wide_no : (x r : ℕ) → x < 2 ^ r → is_wide x r ≡ false
+wide_no x r fits = differs_no (x / 2 ^ r) 0 (div-eq_of_lt fits)
 
-polynomial-past : (p r : ℕ) → badPolynomial p r ≡ false → (bit p 0 ≡ 1) × (p < 2 ^ r)
-polynomial-past p r e =
-    let b = or-false _ _ e in
+polynomial_past : (p r : ℕ) → bad_polynomial p r ≡ false → (bit p 0 ≡ 1) × (p < 2 ^ r)
+polynomial_past p r e =
+    let b = or_false _ _ e in
     let odd = eqb-false (bit p 0) 0 b.0 in
-    (omega (arith, bit-lt p 0), wide-past p r b.1)
+    (omega (arith, bit_lt p 0), wide-past p r b.1)
 
-polynomial-no : (p r : ℕ) → bit p 0 ≡ 1 → p < 2 ^ r → badPolynomial p r ≡ false
-polynomial-no p r odd fits = ap₂ ◌||◌ (ne_eqb (bit p 0) 0 (λ z. omega arith)) (wide-no p r fits)
+polynomial_no : (p r : ℕ) → bit p 0 ≡ 1 → p < 2 ^ r → bad_polynomial p r ≡ false
+polynomial_no p r odd fits = ap₂ ◌||◌ (ne_eqb (bit p 0) 0 (λ z. omega arith)) (wide_no p r fits)
 
 module _ (d : List ℕ) where
   abbrev n : ℕ
@@ -51,65 +51,65 @@ module _ (d : List ℕ) where
 
   -- refusals 1 to 5, and the others
   abbrev layout : List (Bool × Refusal)
-  layout = take 5 (descriptionRefusals d)
+  layout = take 5 (description_refusals d)
 
   abbrev others : List (Bool × Refusal)
-  others = drop 5 (descriptionRefusals d)
+  others = drop 5 (description_refusals d)
 
-  pub laid-fine : Laid d → judge layout ≡ Fine
-  laid-fine w =
-      judge-no _ _ _ (le-ltb (length d) (maskAt (word d 2)) w.header)
-      ∙ judge-no _ _ _ (differs-no (word d 0) (length d) w.length-field)
-      ∙ judge-no _ _ _ (ap not w.kind-field)
-      ∙ judge-no _ _ _ (outside-no n 3 largestN w.n-least w.n-most)
-      ∙ judge-no _ _ _ (differs-no (length d) (maskAt (word d 2) + 2 ^ n / 8) w.size)
+  pub laid_fine : Laid d → judge layout ≡ Fine
+  laid_fine w =
+      judge_no _ _ _ (le-ltb (length d) (mask_at (word d 2)) w.header)
+      ∙ judge_no _ _ _ (differs_no (word d 0) (length d) w.length_field)
+      ∙ judge_no _ _ _ (ap not w.kind_field)
+      ∙ judge_no _ _ _ (outside_no n 3 largest_n w.n_least w.n_most)
+      ∙ judge_no _ _ _ (differs_no (length d) (mask_at (word d 2) + 2 ^ n / 8) w.size)
       ∙ judge-none
 
-  pub fine-laid : judge layout ≡ Fine → Laid d
-  fine-laid e =
+  pub fine_laid : judge layout ≡ Fine → Laid d
+  fine_laid e =
       let s1 = judge-past _ _ _ e in
       let s2 = judge-past _ _ _ s1.1 in
       let s3 = judge-past _ _ _ s2.1 in
       let s4 = judge-past _ _ _ s3.1 in
       let s5 = judge-past _ _ _ s4.1 in
-      let n-in = outside-past n 3 largestN s4.0 in
+      let n-in = outside-past n 3 largest_n s4.0 in
       record {
-        header = ltb-false (length d) (maskAt (word d 2)) s1.0;
-        length-field = differs-past (word d 0) (length d) s2.0;
-        kind-field = not-false _ s3.0;
-        n-least = n-in.0;
-        n-most = n-in.1;
-        size = differs-past (length d) (maskAt (word d 2) + 2 ^ n / 8) s5.0;
+        header = ltb-false (length d) (mask_at (word d 2)) s1.0;
+        length_field = differs-past (word d 0) (length d) s2.0;
+        kind_field = not-false _ s3.0;
+        n_least = n-in.0;
+        n_most = n-in.1;
+        size = differs-past (length d) (mask_at (word d 2) + 2 ^ n / 8) s5.0;
       }
 
-  pub well-formed-fine : WellFormed d → judge (descriptionRefusals d) ≡ Fine
-  well-formed-fine w =
-      append-fine layout others (laid-fine w.laid)
-      ∙ judge-no _ _ _ (outside-no r 1 16 w.r-least w.r-most)
-      ∙ judge-no _ _ _ (polynomial-no (word d 6) r w.polynomial-odd w.polynomial-fits)
-      ∙ judge-no _ _ _ (wide-no (start_of d) r w.start_fits)
-      ∙ judge-no _ _ _ (le-ltb (ones_in (mask_of d)) (r + 1) w.K-least)
+  pub well_formed_fine : WellFormed d → judge (description_refusals d) ≡ Fine
+  well_formed_fine w =
+      append-fine layout others (laid_fine w.laid)
+      ∙ judge_no _ _ _ (outside_no r 1 16 w.r_least w.r_most)
+      ∙ judge_no _ _ _ (polynomial_no (word d 6) r w.polynomial_odd w.polynomial_fits)
+      ∙ judge_no _ _ _ (wide_no (start_of d) r w.start_fits)
+      ∙ judge_no _ _ _ (le-ltb (ones_in (mask_of d)) (r + 1) w.K_least)
       ∙ judge-none
 
-  pub fine-well-formed : judge (descriptionRefusals d) ≡ Fine → WellFormed d
-  fine-well-formed e =
+  pub fine_well_formed : judge (description_refusals d) ≡ Fine → WellFormed d
+  fine_well_formed e =
       let s5 = append-past layout others e in
       let s6 = judge-past _ _ _ s5.1 in
       let s7 = judge-past _ _ _ s6.1 in
       let s25 = judge-past _ _ _ s7.1 in
       let s8 = judge-past _ _ _ s25.1 in
       let r-in = outside-past r 1 16 s6.0 in
-      let p-in = polynomial-past (word d 6) r s7.0 in
+      let p-in = polynomial_past (word d 6) r s7.0 in
       record {
-        laid = fine-laid s5.0;
-        r-least = r-in.0;
-        r-most = r-in.1;
-        polynomial-odd = p-in.0;
-        polynomial-fits = p-in.1;
+        laid = fine_laid s5.0;
+        r_least = r-in.0;
+        r_most = r-in.1;
+        polynomial_odd = p-in.0;
+        polynomial_fits = p-in.1;
         start_fits = wide-past (start_of d) r s25.0;
-        K-least = ltb-false (ones_in (mask_of d)) (r + 1) s8.0;
+        K_least = ltb-false (ones_in (mask_of d)) (r + 1) s8.0;
       }
 
-  pub well-formed-exactly : WellFormed d ↔ (accepts (describe d) ≡ true)
-  unfolding describeUpTo
-  well-formed-exactly = accepts-exactly accepts Refused (λ x. refl) (Accepted (code_of d)) refl (judge (descriptionRefusals d)) (well-formed-fine, fine-well-formed)
+  pub well_formed_exactly : WellFormed d ↔ (accepts (describe d) ≡ true)
+  unfolding describe_up_to
+  well_formed_exactly = accepts-exactly accepts Refused (λ x. refl) (Accepted (code_of d)) refl (judge (description_refusals d)) (well_formed_fine, fine_well_formed)

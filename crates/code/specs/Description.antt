@@ -3,8 +3,8 @@
 use Rattle.std.specs.Prelude.{Bool, not, ◌||◌, cond, List, [], ◌∷◌, ℕ, ◌+◌, ◌-◌, ◌*◌, ◌/◌, ◌^◌, ltb, eqb, length, get_or, drop}
 use Rattle.refusal.specs.declared.Refusal.{Refusal}
 use Rattle.refusal.specs.declared.Refusal.TheVariants.{Alone}
-use Rattle.refusal.specs.Judge.{differs, outside, judge, refusedOr}
-use Rattle.arrays.specs.Sizes.{largestN}
+use Rattle.refusal.specs.Judge.{differs, outside, judge, refused_or}
+use Rattle.arrays.specs.Sizes.{largest_n}
 use Rattle.bits.specs.Bit.{bit}
 use Rattle.bits.specs.Mask.{ones_in}
 use Rattle.code.specs.declared.Code.{Code}
@@ -16,47 +16,47 @@ abbrev pub word : List ℕ → ℕ → ℕ
 word d i = get_or d i 0 + 256 * get_or d (i + 1) 0
 
 -- kind 4 has kind 1's fields and a start value of the check
-abbrev pub hasStart : ℕ → Bool
-hasStart kind = eqb kind 4
+abbrev pub has_start : ℕ → Bool
+has_start kind = eqb kind 4
 
 -- a record of kind 1 or 4 is a description
-abbrev pub isDescription : ℕ → Bool
-isDescription kind = eqb kind 1 || hasStart kind
+abbrev pub is_description : ℕ → Bool
+is_description kind = eqb kind 1 || has_start kind
 
 -- the index of the first byte of the mask, which follows the fields: 8 bytes of every kind, and 2 of a start value. A shorter slice is refused
 -- as 1. `word` reads zeros past the end: a slice too short to hold a kind has fewer than 8 bytes, so it is refused as 1 whatever kind is read.
-abbrev pub maskAt : ℕ → ℕ
-maskAt kind = 8 + cond (hasStart kind) 2 0
+abbrev pub mask_at : ℕ → ℕ
+mask_at kind = 8 + cond (has_start kind) 2 0
 
 -- the mask: the bytes from that index on
 abbrev pub mask_of : List ℕ → List ℕ
-mask_of d = drop (maskAt (word d 2)) d
+mask_of d = drop (mask_at (word d 2)) d
 
 -- the start value: bytes 8 and 9 of kind 4, and 0 for kind 1
 abbrev pub start_of : List ℕ → ℕ
-start_of d = cond (hasStart (word d 2)) (word d 8) 0
+start_of d = cond (has_start (word d 2)) (word d 8) 0
 
 -- a bit at r or above is set
 abbrev pub is_wide : ℕ → ℕ → Bool
 is_wide x r = differs (x / 2 ^ r) 0
 
 -- bit 0 is clear, or a bit at r or above is set
-abbrev pub badPolynomial : ℕ → ℕ → Bool
-badPolynomial p r = eqb (bit p 0) 0 || is_wide p r
+abbrev pub bad_polynomial : ℕ → ℕ → Bool
+bad_polynomial p r = eqb (bit p 0) 0 || is_wide p r
 
 -- the refusals in order, each test beside its refusal; `largest` is the largest n that is not refused
-abbrev pub refusalsUpTo : ℕ → List ℕ → List (Bool × Refusal)
-refusalsUpTo largest d =
+abbrev pub refusals_up_to : ℕ → List ℕ → List (Bool × Refusal)
+refusals_up_to largest d =
     let kind = word d 2 in
     let n = get_or d 4 0 in
     let r = get_or d 5 0 in
-    (ltb (length d) (maskAt kind), Alone 1)
+    (ltb (length d) (mask_at kind), Alone 1)
     ∷ (differs (word d 0) (length d), Alone 2)
-    ∷ (not (isDescription kind), Alone 3)
+    ∷ (not (is_description kind), Alone 3)
     ∷ (outside n 3 largest, Alone 4)
-    ∷ (differs (length d) (maskAt kind + 2 ^ n / 8), Alone 5)
+    ∷ (differs (length d) (mask_at kind + 2 ^ n / 8), Alone 5)
     ∷ (outside r 1 16, Alone 6)
-    ∷ (badPolynomial (word d 6) r, Alone 7)
+    ∷ (bad_polynomial (word d 6) r, Alone 7)
     ∷ (is_wide (start_of d) r, Alone 25)
     ∷ (ltb (ones_in (mask_of d)) (r + 1), Alone 8)
     ∷ []
@@ -66,14 +66,14 @@ abbrev pub code_of : List ℕ → Code
 code_of d = record { n = get_or d 4 0; r = get_or d 5 0; polynomial = word d 6; start = start_of d; k = ones_in (mask_of d) - get_or d 5 0 }
 
 -- the answer, with `largest` as the largest n
-unfoldable pub describeUpTo : ℕ → List ℕ → Description
-describeUpTo largest d = refusedOr (judge (refusalsUpTo largest d)) Refused (Accepted (code_of d))
+unfoldable pub describe_up_to : ℕ → List ℕ → Description
+describe_up_to largest d = refused_or (judge (refusals_up_to largest d)) Refused (Accepted (code_of d))
 
 -- the answer, with `largestN` as the largest n
 abbrev pub describe : List ℕ → Description
-describe d = describeUpTo largestN d
+describe d = describe_up_to largest_n d
 
 -- Operations that take a description apply its refusals first: `refuse` is their answer to a refusal, `go` their answer under a code.
-abbrev pub onDescription : {X : Type 0} → Description → (Refusal → X) → (Code → X) → X
-onDescription (Accepted c) refuse go = go c
-onDescription (Refused x) refuse go = refuse x
+abbrev pub on_description : {X : Type 0} → Description → (Refusal → X) → (Code → X) → X
+on_description (Accepted c) refuse go = go c
+on_description (Refused x) refuse go = refuse x

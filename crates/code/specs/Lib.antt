@@ -2,4 +2,4 @@ pub mod Code
 pub mod Description
 pub mod Record
 pub mod Claims
-pub mod Contracts
+pub mod Clauses

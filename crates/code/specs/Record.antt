@@ -3,5 +3,5 @@ use Rattle.std.specs.Prelude.{List, ℕ, take}
 use Rattle.code.specs.Description.{word}
 
 -- the record at the beginning of some bytes: as many as its length field says, or all if there are fewer
-abbrev pub recordIn : List ℕ → List ℕ
-recordIn bytes = take (word bytes 0) bytes
+abbrev pub record_in : List ℕ → List ℕ
+record_in bytes = take (word bytes 0) bytes

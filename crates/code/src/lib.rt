@@ -1,10 +1,10 @@
 // Code descriptions: records of kinds 1 and 4.
 ghost use Rattle.std.specs.Prelude.{◌≡◌, cond, ◌+◌, ◌<◌, ◌≤◌, ltb, length, take, drop};
 ghost use Rattle.refusal.specs.Judge.{judge};
-ghost use Rattle.code.specs.Description.{word, hasStart, isDescription, maskAt, mask_of, start_of, is_wide, badPolynomial, describe};
-ghost use Rattle.code.specs.Record.{recordIn};
+ghost use Rattle.code.specs.Description.{word, has_start, is_description, mask_at, mask_of, start_of, is_wide, bad_polynomial, describe};
+ghost use Rattle.code.specs.Record.{record_in};
 ghost use Rattle.code.specs.Claims.{Laid};
-ghost use Rattle.code.specs.Contracts.{descriptionRefusals, pastFields};
+ghost use Rattle.code.specs.Clauses.{description_refusals, past_fields};
 
 use arrays::{BYTES, LARGEST_N};
 use refusal::{Judgement, Refusal};
@@ -53,7 +53,7 @@ pub fn read_word(d: &[u8], i: usize) -> u32
 // The record at the beginning of some bytes.
 pub fn record_in(bytes: &[u8]) -> &[u8]
     requires { 2 ≤ length bytes.now }
-    ensures { result.now ≡ recordIn bytes.now }
+    ensures { result.now ≡ record_in bytes.now }
 {
     let size = arrays::min(read_word(bytes, 0) as usize, bytes.len());
     &bytes[..size]
@@ -61,35 +61,35 @@ pub fn record_in(bytes: &[u8]) -> &[u8]
 
 // Whether descriptions of a kind have a start value.
 fn has_start(kind: u32) -> bool
-    ensures { result ≡ hasStart kind }
+    ensures { result ≡ has_start kind }
 {
     kind == 4
 }
 
 // Whether records of a kind are descriptions.
 pub fn is_description(kind: u32) -> bool
-    ensures { result ≡ isDescription kind }
+    ensures { result ≡ is_description kind }
 {
     kind == 1 || has_start(kind)
 }
 
 // How many bytes the start value takes in a description of a kind.
 fn start_size(kind: u32) -> usize
-    ensures { result ≡ cond (hasStart kind) 2 0 }
+    ensures { result ≡ cond (has_start kind) 2 0 }
 {
     if has_start(kind) { START } else { 0 }
 }
 
 // The index of the first byte of the mask, in a description of a kind.
 fn mask_at(kind: u32) -> usize
-    ensures { result ≡ maskAt kind }
+    ensures { result ≡ mask_at kind }
 {
     FIELDS + start_size(kind)
 }
 
 // The mask of a description: its bytes after the fixed fields.
 pub fn mask_of(d: &[u8]) -> &[u8]
-    requires { maskAt (word d.now 2) ≤ length d.now }
+    requires { mask_at (word d.now 2) ≤ length d.now }
     ensures { result.now ≡ mask_of d.now }
 {
     let at = mask_at(read_word(d, 2));
@@ -98,7 +98,7 @@ pub fn mask_of(d: &[u8]) -> &[u8]
 
 // The start value of a description; 0 if its kind has none.
 fn start_of(d: &[u8]) -> u32
-    requires { maskAt (word d.now 2) ≤ length d.now }
+    requires { mask_at (word d.now 2) ≤ length d.now }
     ensures { result ≡ start_of d.now }
 {
     if has_start(read_word(d, 2)) {
@@ -118,21 +118,21 @@ fn is_wide(x: u32, r: u32) -> bool
 // Whether bit 0 is clear, or a bit at r or above is set.
 fn is_bad_polynomial(p: u32, r: u32) -> bool
     requires { r < 32 }
-    ensures { result ≡ badPolynomial p r }
+    ensures { result ≡ bad_polynomial p r }
 {
     p & 1 == 0 || is_wide(p, r)
 }
 
 // Whether a slice has fewer bytes than the fields of its kind.
 fn is_short(d: &[u8]) -> bool
-    ensures { result ≡ ltb (length d.now) (maskAt (word d.now 2)) }
+    ensures { result ≡ ltb (length d.now) (mask_at (word d.now 2)) }
 {
     d.len() < FIELDS || d.len() < mask_at(read_word(d, 2))
 }
 
 // Refusals 1 to 5, of sizes and kind.
 fn judge_layout(d: &[u8]) -> Judgement
-    ensures { result ≡ judge (take 5 (descriptionRefusals d.now)) }
+    ensures { result ≡ judge (take 5 (description_refusals d.now)) }
 {
     if is_short(d) {
         return Judgement::Refused(Refusal::Alone(1));
@@ -156,8 +156,8 @@ fn judge_layout(d: &[u8]) -> Judgement
 
 // Refusals 6, 7 and 25, of the check's fields.
 fn judge_check(d: &[u8]) -> Judgement
-    requires { maskAt (word d.now 2) ≤ length d.now }
-    ensures { result ≡ judge (take 3 (drop 5 (descriptionRefusals d.now))) }
+    requires { mask_at (word d.now 2) ≤ length d.now }
+    ensures { result ≡ judge (take 3 (drop 5 (description_refusals d.now))) }
 {
     let r = d[5] as u32;
     if refusal::is_outside(r as usize, 1, 16) {
@@ -175,7 +175,7 @@ fn judge_check(d: &[u8]) -> Judgement
 // The answer if no field is refused: refusal 8, or the code.
 fn read_code(d: &[u8]) -> Description
     requires { Laid d.now }
-    ensures { result ≡ pastFields d.now }
+    ensures { result ≡ past_fields d.now }
 {
     let r = d[5] as usize;
     let count = bits::ones(mask_of(d));

@@ -1,4 +1,4 @@
 pub mod Polynomial
 pub mod Check
 pub mod Claims
-pub mod Contracts
+pub mod Clauses

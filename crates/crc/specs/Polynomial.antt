@@ -7,10 +7,10 @@ abbrev pub raised : List ℕ → ℕ → List ℕ
 raised p n = p ++ replicate n 0
 
 -- p + q; if q is longer, p is added to its highest coefficients
-abbrev pub addHighest : List ℕ → List ℕ → List ℕ
-addHighest [] q = q
-addHighest (a ∷ p) [] = []
-addHighest (a ∷ p) (b ∷ q) = (a + b) % 2 ∷ addHighest p q
+abbrev pub add_highest : List ℕ → List ℕ → List ℕ
+add_highest [] q = q
+add_highest (a ∷ p) [] = []
+add_highest (a ∷ p) (b ∷ q) = (a + b) % 2 ∷ add_highest p q
 
 -- a · p, for a coefficient a
 abbrev pub scale : ℕ → List ℕ → List ℕ
@@ -22,4 +22,4 @@ scale a (b ∷ p) = a * b ∷ scale a p
 abbrev pub rem : List ℕ → ℕ → List ℕ → List ℕ
 rem t zero p = p
 rem t (suc m) [] = []
-rem t (suc m) (a ∷ p) = rem t m (addHighest (scale a t) p)
+rem t (suc m) (a ∷ p) = rem t m (add_highest (scale a t) p)

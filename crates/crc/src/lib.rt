@@ -1,9 +1,9 @@
 // The cyclic check: a register of r bits, into which the payload goes bit by bit. Bits are bytes of 0 and 1.
 ghost use Rattle.std.specs.Prelude.{◌≡◌, ◌++◌, ◌+◌, ◌*◌, ◌%◌, ◌^◌, ◌<◌, ◌≤◌, length, take, drop};
-ghost use Rattle.laws.specs.Contracts.{splice};
+ghost use Rattle.laws.specs.Clauses.{splice};
 ghost use Rattle.bits.specs.Bit.{bit, bits_of};
-ghost use Rattle.crc.specs.Check.{checkOf, same, passes};
-ghost use Rattle.crc.specs.Contracts.{CheckPre, step};
+ghost use Rattle.crc.specs.Check.{check_of, same, passes};
+ghost use Rattle.crc.specs.Clauses.{CheckPre, step};
 
 // The coefficient of z^i.
 fn coefficient(poly: u32, i: u32) -> u32
@@ -48,7 +48,7 @@ fn register_step(register: u32, next: u8, r: u32, word: u32) -> u32
 // The check of a payload, as a number of r bits.
 fn check(payload: &[u8], r: u32, poly: u32, start: u32) -> u32
     requires { CheckPre r start }
-    ensures { (bits_of r result ≡ checkOf (bits_of r poly) (bits_of r start) payload.now)
+    ensures { (bits_of r result ≡ check_of (bits_of r poly) (bits_of r start) payload.now)
         × (result < 2 ^ r) }
 {
     let word = feedback(poly, r);
@@ -78,7 +78,7 @@ fn put_bits(message: &mut [u8], at: usize, r: u32, register: u32)
 pub fn append_check(message: &mut [u8], k: usize, r: u32, poly: u32, start: u32)
     requires { CheckPre r start × (length message.old ≡ k + r) }
     ensures { message.new
-        ≡ take k message.old ++ checkOf (bits_of r poly) (bits_of r start) (take k message.old) }
+        ≡ take k message.old ++ check_of (bits_of r poly) (bits_of r start) (take k message.old) }
 {
     let register = check(&message[..k], r, poly, start);
     put_bits(message, k, r, register);

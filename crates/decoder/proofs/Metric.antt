@@ -5,8 +5,8 @@ use Prim.Native.Nat.{ℕ, zero, suc, ◌≤◌}
 use native.Mathlib.Omega.{arith}
 use lib.Dec.{leb, eqb}
 use lib.IntN.{ℤ}
-use Rattle.bits.specs.Mask.{maskBit}
-use Rattle.flip_order.specs.Order.{magnitudeAt}
+use Rattle.bits.specs.Mask.{mask_bit}
+use Rattle.flip_order.specs.Order.{magnitude_at}
 use Rattle.decoder.specs.Candidate.{doubtful}
 
 at_most_one : (t : Bool) → cond t 1 0 ≤ 1
@@ -16,4 +16,4 @@ at_most_one false = omega arith
 pub doubtful-most : (mask : List ℕ) (leaves : List ℤ) (n : ℕ) → doubtful mask leaves n ≤ n
 unfolding doubtful
 doubtful-most mask leaves zero = omega arith
-doubtful-most mask leaves (suc n) = omega (arith, doubtful-most mask leaves n, at_most_one (eqb (maskBit mask n) 1 && leb (magnitudeAt leaves n) 20))
+doubtful-most mask leaves (suc n) = omega (arith, doubtful-most mask leaves n, at_most_one (eqb (mask_bit mask n) 1 && leb (magnitude_at leaves n) 20))

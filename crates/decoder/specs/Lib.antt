@@ -2,4 +2,4 @@ pub mod Candidate
 pub mod Tried
 pub mod Decoder
 pub mod Claims
-pub mod Contracts
+pub mod Clauses

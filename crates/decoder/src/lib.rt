@@ -1,8 +1,8 @@
 // What every flip decoder tries and answers. The definitions are in specs/.
 ghost use Rattle.std.specs.Prelude.{◌≡◌, ◌≤◌};
 ghost use Rattle.refusal.specs.Judge.{judge};
-ghost use Rattle.arrays.specs.Sizes.{largestN};
-ghost use Rattle.decoder.specs.Contracts.{outputRefusals, JudgesRest, JudgesCall};
+ghost use Rattle.arrays.specs.Sizes.{largest_n};
+ghost use Rattle.decoder.specs.Clauses.{output_refusals, JudgesRest, JudgesCall};
 
 use code::Code;
 use flip_trial::Restart;
@@ -21,7 +21,7 @@ pub struct Search {
 
 // Refusal 15.
 fn judge_output(code: Code, output: &[u8]) -> Judgement
-    ensures { result ≡ judge (outputRefusals code output.now) }
+    ensures { result ≡ judge (output_refusals code output.now) }
 {
     if output.len() != bits::bytes_for(code.k) {
         return Judgement::Refused(Refusal::Alone(15));
@@ -41,7 +41,7 @@ fn judge_rest(own: Judgement, code: Code, output: &[u8]) -> Judgement
 
 // Refusals 12 and 13, those of a decoder, which are `own`, and then 15.
 pub fn judge_call(own: Judgement, code: Code, channel: &[u8], output: &[u8]) -> Judgement
-    requires { code.n ≤ largestN }
+    requires { code.n ≤ largest_n }
     ensures { JudgesCall own code channel.now output.now result }
 {
     match channel::judge_channel(code, channel) {

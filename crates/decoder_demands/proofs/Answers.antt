@@ -8,7 +8,7 @@ use lib.ListN.{take, drop, take-append-drop}
 use Rattle.bits.specs.Packing.{packed}
 use Rattle.code.specs.declared.Code.{Code}
 use Rattle.pass_tree.specs.Node.{Out}
-use Rattle.flip_trial.specs.Trial.{messageIn, trialPasses}
+use Rattle.flip_trial.specs.Trial.{message_in, trial_passes}
 use Rattle.flip_run.specs.declared.Decoded.{Decoded}
 use Rattle.flip_run.specs.declared.Decoded.TheVariants.{Accepted, Refused16}
 use Rattle.flip_run.specs.Trials.{Verdict, passed, failed, run, answer_of}
@@ -17,7 +17,7 @@ use Rattle.decoder_demands.proofs.Run.{run_ends, run_more}
 
 module _ (mask : List ℕ) (c : Code) (output : List ℕ) where
   -- the verdict, by an answer that accepts
-  accepted-by : (x : Verdict) (trial steps : ℕ) (bytes : List ℕ) → answer_of mask c output x ≡ (Accepted trial steps, bytes) → (bits : List ℕ) × (x ≡ passed trial steps bits) × (bytes ≡ packed (take c.k (messageIn mask c bits)))
+  accepted-by : (x : Verdict) (trial steps : ℕ) (bytes : List ℕ) → answer_of mask c output x ≡ (Accepted trial steps, bytes) → (bits : List ℕ) × (x ≡ passed trial steps bits) × (bytes ≡ packed (take c.k (message_in mask c bits)))
   accepted-by (passed t s bits) trial steps bytes q =
       let a : Accepted t s ≡ Accepted trial steps = ap (λ (z : Decoded × List ℕ). z.0) q in
       (bits, (cc), sym (ap (λ (z : Decoded × List ℕ). z.1) q))
@@ -27,28 +27,28 @@ module _ (mask : List ℕ) (c : Code) (output : List ℕ) where
       absurd (omega arith)
 
   -- and by refusal 16
-  failed-by : (x : Verdict) (made steps : ℕ) (bytes : List ℕ) → answer_of mask c output x ≡ (Refused16 made steps, bytes) → (x ≡ failed made steps) × (bytes ≡ output)
-  failed-by (passed t s bits) made steps bytes q =
+  failed_by : (x : Verdict) (made steps : ℕ) (bytes : List ℕ) → answer_of mask c output x ≡ (Refused16 made steps, bytes) → (x ≡ failed made steps) × (bytes ≡ output)
+  failed_by (passed t s bits) made steps bytes q =
       let a : Accepted t s ≡ Refused16 made steps = ap (λ (z : Decoded × List ℕ). z.0) q in
       let z : ◌≡◌ {A = ℕ} 0 1 = cc in
       absurd (omega arith)
-  failed-by (failed t s) made steps bytes q =
+  failed_by (failed t s) made steps bytes q =
       let a : Refused16 t s ≡ Refused16 made steps = ap (λ (z : Decoded × List ℕ). z.0) q in
       ((cc), sym (ap (λ (z : Decoded × List ℕ). z.1) q))
 
   abbrev ok : List ℕ → Bool
-  ok = trialPasses mask c
+  ok = trial_passes mask c
 
   -- the trial that a run accepts, and the bytes written
-  pub run-accepts : (os : List Out) (trial steps : ℕ) (bytes : List ℕ) → answer_of mask c output (run ok 0 0 os) ≡ (Accepted trial steps, bytes) → (bits : List ℕ) × PassedAt ok os trial steps bits × (bytes ≡ packed (take c.k (messageIn mask c bits)))
+  pub run-accepts : (os : List Out) (trial steps : ℕ) (bytes : List ℕ) → answer_of mask c output (run ok 0 0 os) ≡ (Accepted trial steps, bytes) → (bits : List ℕ) × PassedAt ok os trial steps bits × (bytes ≡ packed (take c.k (message_in mask c bits)))
   run-accepts os trial steps bytes e =
       let x = accepted-by (run ok 0 0 os) trial steps bytes e in
       (x.0, subst (Ends ok os) x.1 (run_ends ok os), x.2)
 
   -- a run that accepts none
-  pub run-fails : (os : List Out) (made steps : ℕ) (bytes : List ℕ) → answer_of mask c output (run ok 0 0 os) ≡ (Refused16 made steps, bytes) → AllFailed ok os made steps × (bytes ≡ output)
-  run-fails os made steps bytes e =
-      let x = failed-by (run ok 0 0 os) made steps bytes e in
+  pub run_fails : (os : List Out) (made steps : ℕ) (bytes : List ℕ) → answer_of mask c output (run ok 0 0 os) ≡ (Refused16 made steps, bytes) → AllFailed ok os made steps × (bytes ≡ output)
+  run_fails os made steps bytes e =
+      let x = failed_by (run ok 0 0 os) made steps bytes e in
       (subst (Ends ok os) x.0 (run_ends ok os), x.1)
 
   -- what the first n of some trials accept, all of them accept

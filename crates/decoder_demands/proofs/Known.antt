@@ -8,13 +8,13 @@ use lib.ListN.{length}
 use Rattle.code.specs.declared.Code.{Code}
 use Rattle.code.specs.declared.Description.TheVariants as Description
 use Rattle.code.specs.Description.{mask_of, describe}
-use Rattle.channel.specs.Channel.{channelValues}
+use Rattle.channel.specs.Channel.{channel_values}
 use Rattle.flip_trial.specs.declared.Restart.{Restart}
 use Rattle.flip_trial.specs.declared.Restart.TheVariants.{Root}
 use Rattle.flip_run.specs.declared.Decoded.{Decoded}
 use Rattle.flip_run.specs.declared.Decoded.TheVariants.{Accepted, Refused16, Refused}
-use Rattle.decoder.specs.Decoder.{Decoder, flipsOf, decodedAs}
-use Rattle.decoder_demands.specs.Agreement.{limitOf, AllTried, SameRun, Agree}
+use Rattle.decoder.specs.Decoder.{Decoder, flips_of, decoded_as}
+use Rattle.decoder_demands.specs.Agreement.{limit_of, AllTried, SameRun, Agree}
 
 -- the kind of an answer
 abbrev pub kind_of : Decoded × List ℕ → ℕ
@@ -23,22 +23,22 @@ kind_of (Refused16 made steps, bytes) = 1
 kind_of (Refused r, bytes) = 2
 
 -- an answer is of one kind
-pub one-kind : {z z' z'' : Decoded × List ℕ} → z ≡ z' → z ≡ z'' → kind_of z' ≡ kind_of z''
-one-kind e e' = sym (ap kind_of e) ∙ ap kind_of e'
+pub one_kind : {z z' z'' : Decoded × List ℕ} → z ≡ z' → z ≡ z'' → kind_of z' ≡ kind_of z''
+one_kind e e' = sym (ap kind_of e) ∙ ap kind_of e'
 
 same_code : (d : List ℕ) {c c' : Code} → describe d ≡ Description.Accepted c → describe d ≡ Description.Accepted c' → c' ≡ c
 same_code d {c} {c'} e e' = let same : Description.Accepted c' ≡ Description.Accepted c = sym e' ∙ e in cc
 
 module _ {p : Decoder} {d channel : List ℕ} {c : Code} where
   -- a run, if full decoding refuses nothing before 16
-  pub run_in : describe d ≡ Description.Accepted c → Agree p d channel 1 → {z : Decoded × List ℕ} → decodedAs p Root d channel (0 ∷ []) ≡ z → kind_of z < 2 → SameRun p d c channel 1
+  pub run_in : describe d ≡ Description.Accepted c → Agree p d channel 1 → {z : Decoded × List ℕ} → decoded_as p Root d channel (0 ∷ []) ≡ z → kind_of z < 2 → SameRun p d c channel 1
   run_in code agree e few =
-      ⊎_elim (λ r. absurd (omega (arith, one-kind e (r.1 Root (0 ∷ []) refl), few)))
+      ⊎_elim (λ r. absurd (omega (arith, one_kind e (r.1 Root (0 ∷ []) refl), few)))
       (λ u. subst (λ (k : Code). SameRun p d k channel 1) (same_code d code u.1) u.2) agree
 
   -- if full decoding accepts, every restart does, on that trial and with that payload
-  pub accepted-run : {t s : ℕ} {payload : List ℕ} (x : SameRun p d c channel 1) → decodedAs p Root d channel (0 ∷ []) ≡ (Accepted t s, payload)
-      → (x.made ≡ t) × ((r : Restart) (byte : ℕ) → decodedAs p r d channel (byte ∷ []) ≡ (Accepted t (x.steps r), payload))
+  pub accepted-run : {t s : ℕ} {payload : List ℕ} (x : SameRun p d c channel 1) → decoded_as p Root d channel (0 ∷ []) ≡ (Accepted t s, payload)
+      → (x.made ≡ t) × ((r : Restart) (byte : ℕ) → decoded_as p r d channel (byte ∷ []) ≡ (Accepted t (x.steps r), payload))
   accepted-run {t = t} {s = s} x e =
       ⊎_elim
       (λ u.
@@ -46,16 +46,16 @@ module _ {p : Decoder} {d channel : List ℕ} {c : Code} where
       let answer : Accepted t s ≡ Accepted x.made (x.steps Root) = ap (λ (z : Decoded × List ℕ). z.0) same in
       let made : x.made ≡ t = cc in
       (made, λ r byte. u.1 r (byte ∷ []) refl ∙ ap₂ (λ (m : ℕ) (b : List ℕ). (Accepted m (x.steps r), b)) made (sym (ap (λ (z : Decoded × List ℕ). z.1) same))))
-      (λ u. absurd (omega (arith, one-kind e (u.2 Root (0 ∷ []) refl)))) x.answers
+      (λ u. absurd (omega (arith, one_kind e (u.2 Root (0 ∷ []) refl)))) x.answers
 
   -- if full decoding refuses as 16, every restart does, after that many trials, and each output is as it was: so many sets were tried, up to the limit or
   -- all that there are
-  pub refused-run : {m s : ℕ} {bytes : List ℕ} (x : SameRun p d c channel 1) → decodedAs p Root d channel (0 ∷ []) ≡ (Refused16 m s, bytes)
-      → (length (flipsOf p (mask_of d) c (channelValues channel)) + 1 ≡ m)
-      × ((m ≡ limitOf p) ⊎ AllTried p (mask_of d) c (channelValues channel))
-      × ((r : Restart) (byte : ℕ) → decodedAs p r d channel (byte ∷ []) ≡ (Refused16 m (x.steps r), byte ∷ []))
-  refused-run {m = m} {s = s} x e =
-      ⊎_elim (λ u. absurd (omega (arith, one-kind e (u.1 Root (0 ∷ []) refl))))
+  pub refused_run : {m s : ℕ} {bytes : List ℕ} (x : SameRun p d c channel 1) → decoded_as p Root d channel (0 ∷ []) ≡ (Refused16 m s, bytes)
+      → (length (flips_of p (mask_of d) c (channel_values channel)) + 1 ≡ m)
+      × ((m ≡ limit_of p) ⊎ AllTried p (mask_of d) c (channel_values channel))
+      × ((r : Restart) (byte : ℕ) → decoded_as p r d channel (byte ∷ []) ≡ (Refused16 m (x.steps r), byte ∷ []))
+  refused_run {m = m} {s = s} x e =
+      ⊎_elim (λ u. absurd (omega (arith, one_kind e (u.1 Root (0 ∷ []) refl))))
       (λ u.
       let answer : Refused16 m s ≡ Refused16 x.made (x.steps Root) = ap (λ (z : Decoded × List ℕ). z.0) (sym e ∙ u.2 Root (0 ∷ []) refl) in
       let made : x.made ≡ m = cc in (

@@ -7,10 +7,10 @@ use native.Mathlib.Nat.{zero-add}
 use native.Mathlib.Numerals.{add-one}
 use native.Mathlib.Omega.{arith}
 use lib.ListN.{length, get_or, length-map}
-use Rattle.laws.proofs.Indices.{lt-cases}
+use Rattle.laws.proofs.Indices.{lt_cases}
 use Rattle.pass_tree.specs.Node.{Out}
 use Rattle.flip_run.specs.Trials.{Verdict, passed, failed, run}
-use Rattle.decoder_demands.specs.Claims.{bitsOfEach, bitsOfTrial, PassedAt, Ends, SameButSteps}
+use Rattle.decoder_demands.specs.Claims.{bits_of_each, bits_of_trial, PassedAt, Ends, SameButSteps}
 
 -- ---- one run
 
@@ -37,9 +37,9 @@ module _ (ok : List ℕ → Bool) where
       go false e e' = e ∙ sym (ap (later m s) e' ∙ later-later m (0 + 1) s (0 + o.work.steps) (run ok 0 0 os) ∙ ap (λ (k : ℕ). later (m + 1) (s + k) (run ok 0 0 os)) (zero-add o.work.steps))
 
   -- after a trial that fails
-  ends-later : (o : Out) (os : List Out) (v : Verdict) → ok o.bits ≡ false → Ends ok os v → Ends ok (o ∷ os) (later 1 o.work.steps v)
-  ends-later o os (passed zero steps bits) f p = absurd (omega (arith, p.least))
-  ends-later o os (passed (suc t) steps bits) f p =
+  ends_later : (o : Out) (os : List Out) (v : Verdict) → ok o.bits ≡ false → Ends ok os v → Ends ok (o ∷ os) (later 1 o.work.steps v)
+  ends_later o os (passed zero steps bits) f p = absurd (omega (arith, p.least))
+  ends_later o os (passed (suc t) steps bits) f p =
       subst (λ (u : ℕ). PassedAt ok (o ∷ os) u (steps + o.work.steps) bits) (sym (add-one (suc t)))
       (record {
         least = omega arith;
@@ -47,34 +47,34 @@ module _ (ok : List ℕ → Bool) where
         bits_are = p.bits_are;
         passes = p.passes;
         earlier = before;
-        steps-are = omega (arith, p.steps-are);
+        steps_are = omega (arith, p.steps_are);
       })
     where
-      before : (u : ℕ) → 1 ≤ u → u < suc (suc t) → ok (bitsOfTrial (o ∷ os) u) ≡ false
+      before : (u : ℕ) → 1 ≤ u → u < suc (suc t) → ok (bits_of_trial (o ∷ os) u) ≡ false
       before zero l m = absurd (omega arith)
       before (suc zero) l m = f
       before (suc (suc u)) l m = p.earlier (suc u) (omega arith) (omega arith)
-  ends-later o os (failed made steps) f p = record { all = omega (arith, p.all); each = each; steps-are = omega (arith, p.steps-are) }
+  ends_later o os (failed made steps) f p = record { all = omega (arith, p.all); each = each; steps_are = omega (arith, p.steps_are) }
     where
-      each : (u : ℕ) → 1 ≤ u → u ≤ length (o ∷ os) → ok (bitsOfTrial (o ∷ os) u) ≡ false
+      each : (u : ℕ) → 1 ≤ u → u ≤ length (o ∷ os) → ok (bits_of_trial (o ∷ os) u) ≡ false
       each zero l m = absurd (omega arith)
       each (suc zero) l m = f
       each (suc (suc u)) l m = p.each (suc u) (omega arith) (omega arith)
 
   -- at a first trial that passes
-  ends-here : (o : Out) (os : List Out) → ok o.bits ≡ true → PassedAt ok (o ∷ os) 1 o.work.steps o.bits
-  ends-here o os e = record { least = omega arith; most = omega arith; bits_are = refl; passes = e; earlier = λ t l m. absurd (omega arith); steps-are = omega arith }
+  ends_here : (o : Out) (os : List Out) → ok o.bits ≡ true → PassedAt ok (o ∷ os) 1 o.work.steps o.bits
+  ends_here o os e = record { least = omega arith; most = omega arith; bits_are = refl; passes = e; earlier = λ t l m. absurd (omega arith); steps_are = omega arith }
 
   -- never `failed` before every trial failed, never `passed` with a trial that fails, and every earlier trial failed
   pub run_ends : (os : List Out) → Ends ok os (run ok 0 0 os)
   unfolding run
-  run_ends [] = record { all = refl; each = λ t l m. absurd (omega arith); steps-are = refl }
+  run_ends [] = record { all = refl; each = λ t l m. absurd (omega arith); steps_are = refl }
   run_ends (o ∷ os) = go (ok o.bits) refl (run_ends os)
     where
       go : (t : Bool) → ok o.bits ≡ t → Ends ok os (run ok 0 0 os) → Ends ok (o ∷ os) (cond t (passed (0 + 1) (0 + o.work.steps) o.bits) (run ok (0 + 1) (0 + o.work.steps) os))
-      go true e p = subst (λ (s : ℕ). PassedAt ok (o ∷ os) 1 s o.bits) (sym (zero-add o.work.steps)) (ends-here o os e)
+      go true e p = subst (λ (s : ℕ). PassedAt ok (o ∷ os) 1 s o.bits) (sym (zero-add o.work.steps)) (ends_here o os e)
       go false e p =
-          subst (Ends ok (o ∷ os)) (sym (run-later (0 + 1) (0 + o.work.steps) os ∙ ap (λ (s : ℕ). later 1 s (run ok 0 0 os)) (zero-add o.work.steps))) (ends-later o os (run ok 0 0 os) e p)
+          subst (Ends ok (o ∷ os)) (sym (run-later (0 + 1) (0 + o.work.steps) os ∙ ap (λ (s : ℕ). later 1 s (run ok 0 0 os)) (zero-add o.work.steps))) (ends_later o os (run ok 0 0 os) e p)
 
   -- a first trial that passes ends the run
   pub run-first : (o : Out) (os : List Out) → ok o.bits ≡ true → run ok 0 0 (o ∷ os) ≡ passed 1 o.work.steps o.bits
@@ -96,30 +96,30 @@ module _ (ok : List ℕ → Bool) where
 -- ---- two runs of trials with the same bits
 
 -- they are as many
-same_length : (os os' : List Out) → bitsOfEach os ≡ bitsOfEach os' → length os ≡ length os'
+same_length : (os os' : List Out) → bits_of_each os ≡ bits_of_each os' → length os ≡ length os'
 same_length os os' same = sym (length-map os (λ o. o.bits)) ∙ ap length same ∙ length-map os' (λ o. o.bits)
 
 -- and each has the bits of the other's
-same-trial : (os os' : List Out) → bitsOfEach os ≡ bitsOfEach os' → (t : ℕ) → bitsOfTrial os t ≡ bitsOfTrial os' t
+same-trial : (os os' : List Out) → bits_of_each os ≡ bits_of_each os' → (t : ℕ) → bits_of_trial os t ≡ bits_of_trial os' t
 same-trial os os' same zero = refl
 same-trial os os' same (suc t) = ap (λ (bs : List (List ℕ)). get_or bs t []) same
 
 -- if a trial of the one passes, not all of the other's trials up to it fail
-not-failed : (ok : List ℕ → Bool) (os os' : List Out) → bitsOfEach os ≡ bitsOfEach os' → (t s : ℕ) (b : List ℕ) → PassedAt ok os t s b → ok (bitsOfTrial os' t) ≡ false → ⊥
-not-failed ok os os' same t s b p f = true≢false (sym p.passes ∙ ap ok (p.bits_are ∙ same-trial os os' same t) ∙ f)
+not_failed : (ok : List ℕ → Bool) (os os' : List Out) → bits_of_each os ≡ bits_of_each os' → (t s : ℕ) (b : List ℕ) → PassedAt ok os t s b → ok (bits_of_trial os' t) ≡ false → ⊥
+not_failed ok os os' same t s b p f = true≢false (sym p.passes ∙ ap ok (p.bits_are ∙ same-trial os os' same t) ∙ f)
 
-module _ (ok : List ℕ → Bool) (os os' : List Out) (same : bitsOfEach os ≡ bitsOfEach os') where
+module _ (ok : List ℕ → Bool) (os os' : List Out) (same : bits_of_each os ≡ bits_of_each os') where
   -- their verdicts agree but for the steps
   ends_same : (v v' : Verdict) → Ends ok os v → Ends ok os' v' → SameButSteps v v'
   ends_same (passed t s b) (passed t' s' b') p q =
-      let c : t' ≤ t = lt-cases t t' (λ l. absurd (not-failed ok os os' same t s b p (q.earlier t p.least l))) (λ l. l) in
-      let c' : t ≤ t' = lt-cases t' t (λ l. absurd (not-failed ok os' os (sym same) t' s' b' q (p.earlier t' q.least l))) (λ l. l) in
+      let c : t' ≤ t = lt_cases t t' (λ l. absurd (not_failed ok os os' same t s b p (q.earlier t p.least l))) (λ l. l) in
+      let c' : t ≤ t' = lt_cases t' t (λ l. absurd (not_failed ok os' os (sym same) t' s' b' q (p.earlier t' q.least l))) (λ l. l) in
       let e : t ≡ t' = omega arith in
-      (e, p.bits_are ∙ same-trial os os' same t ∙ ap (bitsOfTrial os') e ∙ sym q.bits_are)
+      (e, p.bits_are ∙ same-trial os os' same t ∙ ap (bits_of_trial os') e ∙ sym q.bits_are)
   ends_same (passed t s b) (failed m s') p q =
-      not-failed ok os os' same t s b p (q.each t p.least (omega (arith, p.most, same_length os os' same)))
+      not_failed ok os os' same t s b p (q.each t p.least (omega (arith, p.most, same_length os os' same)))
   ends_same (failed m s) (passed t' s' b') p q =
-      not-failed ok os' os (sym same) t' s' b' q (p.each t' q.least (omega (arith, q.most, same_length os os' same)))
+      not_failed ok os' os (sym same) t' s' b' q (p.each t' q.least (omega (arith, q.most, same_length os os' same)))
   ends_same (failed m s) (failed m' s') p q = p.all ∙ same_length os os' same ∙ sym q.all
 
   -- so the runs do

@@ -6,48 +6,48 @@ use mathlib.Core.List.{List}
 use Prim.Native.Nat.{ℕ, ◌*◌, ◌≤◌}
 use native.Mathlib.Nat.{mul-le-mul}
 use native.Mathlib.Omega.{arith}
-use Rattle.arrays.specs.Claims.{longest, mostTrials, mostSteps}
+use Rattle.arrays.specs.Claims.{longest, most_trials, most_steps}
 use Rattle.arrays.proofs.Sizes.{fits}
 use Rattle.code.specs.declared.Code.{Code}
-use Rattle.code.specs.Code.{informationCount, codeLength}
+use Rattle.code.specs.Code.{information_count, code_length}
 use Rattle.code.proofs.Facts.{described}
 use Rattle.flip_trial.specs.declared.Restart.{Restart}
 use Rattle.flip_run.specs.declared.Decoded.{Decoded}
 use Rattle.flip_run.specs.declared.Decoded.TheVariants.{Accepted, Refused16, Refused}
-use Rattle.flip_run.specs.Claims.{ofRun}
-use Rattle.decoder.specs.Decoder.{Decoder, single, sets, decodedAs}
+use Rattle.flip_run.specs.Claims.{of_run}
+use Rattle.decoder.specs.Decoder.{Decoder, single, sets, decoded_as}
 use Rattle.decoder.specs.Claims.{Allowed}
-use Rattle.decoder.proofs.Decoder.{spelt-out, well-formed-exactly}
-use Rattle.decoder.proofs.Limit.{limit-fits}
-use Rattle.decoder_demands.specs.Agreement.{limitOf}
+use Rattle.decoder.proofs.Decoder.{spelt_out, well_formed_exactly}
+use Rattle.decoder.proofs.Limit.{limit_fits}
+use Rattle.decoder_demands.specs.Agreement.{limit_of}
 use Rattle.decoder_demands.proofs.Agreement.{run_of}
 
 -- the trials and steps of an answer
 abbrev pub Bounded : Decoded × List ℕ → Type 0
-Bounded (Accepted trial steps, bytes) = (trial ≤ mostTrials) × (steps ≤ mostTrials * mostSteps)
-Bounded (Refused16 made steps, bytes) = (made ≤ mostTrials) × (steps ≤ mostTrials * mostSteps)
+Bounded (Accepted trial steps, bytes) = (trial ≤ most_trials) × (steps ≤ most_trials * most_steps)
+Bounded (Refused16 made steps, bytes) = (made ≤ most_trials) × (steps ≤ most_trials * most_steps)
 Bounded (Refused x, bytes) = Unit
 
 -- a refusal before 16 has none
-run-bounded : (z : Decoded × List ℕ) → (ofRun z.0 ≡ true → Bounded z) → Bounded z
+run-bounded : (z : Decoded × List ℕ) → (of_run z.0 ≡ true → Bounded z) → Bounded z
 run-bounded (Accepted trial steps, bytes) p = p refl
 run-bounded (Refused16 made steps, bytes) p = p refl
 run-bounded (Refused x, bytes) p = tt
 
 -- limits that are allowed are few enough
-few-allowed : (p : Decoder) (c : Code) → informationCount c ≤ longest → Allowed p c → limitOf p ≤ mostTrials
-few-allowed (single limit) c l a = omega (arith, a.1)
-few-allowed (sets w limit) c l a = omega (arith, a.3, limit-fits w c l)
+few_allowed : (p : Decoder) (c : Code) → information_count c ≤ longest → Allowed p c → limit_of p ≤ most_trials
+few_allowed (single limit) c l a = omega (arith, a.1)
+few_allowed (sets w limit) c l a = omega (arith, a.3, limit_fits w c l)
 
-pub bounded : (p : Decoder) (restart : Restart) (d channel output : List ℕ) → Bounded (decodedAs p restart d channel output)
+pub bounded : (p : Decoder) (restart : Restart) (d channel output : List ℕ) → Bounded (decoded_as p restart d channel output)
 bounded p restart d channel output =
-    run-bounded (decodedAs p restart d channel output) (λ e.
-    let u = (well-formed-exactly p restart d channel output).1 e in
+    run-bounded (decoded_as p restart d channel output) (λ e.
+    let u = (well_formed_exactly p restart d channel output).1 e in
     let c = u.0 in
     let coded = (described d c u.1.described).coded in
     let x = run_of p d c channel output u.1 in
-    let allowed = ((spelt-out p c channel output).1 u.1.fine).allowed in
-    let few : x.made ≤ mostTrials = omega (arith, x.most, few-allowed p c (omega (arith, coded.K-most, fits coded.n-most)) allowed) in
-    let all : x.made * c.n * codeLength c ≤ mostTrials * mostSteps = omega (arith, mul-le-mul (mul-le-mul few coded.n-most) (fits coded.n-most)) in
-    let steps : x.steps restart ≤ mostTrials * mostSteps = omega (arith, x.exceeds restart, x.full-steps, all) in
+    let allowed = ((spelt_out p c channel output).1 u.1.fine).allowed in
+    let few : x.made ≤ most_trials = omega (arith, x.most, few_allowed p c (omega (arith, coded.K_most, fits coded.n_most)) allowed) in
+    let all : x.made * c.n * code_length c ≤ most_trials * most_steps = omega (arith, mul-le-mul (mul-le-mul few coded.n_most) (fits coded.n_most)) in
+    let steps : x.steps restart ≤ most_trials * most_steps = omega (arith, x.exceeds restart, x.full_steps, all) in
     ⊎_elim (λ a. subst Bounded (sym (a.1 restart output refl)) (few, steps)) (λ a. subst Bounded (sym (a.2 restart output refl)) (few, steps)) x.answers)

@@ -1,26 +1,26 @@
 -- What theorems state of the decoders: how a run of trials ends, what restarts share, and what half restart saves.
 use Rattle.std.specs.Prelude.{◌≡◌, Bool, true, false, cond, ◌⊎◌, List, [], ◌∷◌, map, ℕ, zero, suc, ◌+◌, ◌-◌, ◌*◌, ◌/◌, ◌<◌, ◌≤◌, leb, length, get_or, take}
 use Rattle.code.specs.declared.Code.{Code}
-use Rattle.code.specs.Code.{codeLength}
+use Rattle.code.specs.Code.{code_length}
 use Rattle.pass_tree.specs.Node.{Out}
 use Rattle.pass_tree.specs.Skipped.{skipped}
 use Rattle.flip_trial.specs.declared.Restart.{Restart}
 use Rattle.flip_trial.specs.declared.Restart.TheVariants.{Root, Half, AfterFlip}
-use Rattle.flip_trial.specs.Trial.{lowest, restartAt}
+use Rattle.flip_trial.specs.Trial.{lowest, restart_at}
 use Rattle.flip_run.specs.declared.Decoded.{Decoded}
 use Rattle.flip_run.specs.declared.Decoded.TheVariants.{Accepted, Refused16}
 use Rattle.flip_run.specs.Trials.{Verdict, passed, failed}
 use Rattle.decoder.specs.Decoder.{Decoder}
-use Rattle.decoder_demands.specs.Agreement.{lowestOfEach, SameRun}
+use Rattle.decoder_demands.specs.Agreement.{lowest_of_each, SameRun}
 
 -- the bits of each trial
-abbrev pub bitsOfEach : List Out → List (List ℕ)
-bitsOfEach os = map (λ o. o.bits) os
+abbrev pub bits_of_each : List Out → List (List ℕ)
+bits_of_each os = map (λ o. o.bits) os
 
 -- the bits of trial t, from 1
-abbrev pub bitsOfTrial : List Out → ℕ → List ℕ
-bitsOfTrial os zero = []
-bitsOfTrial os (suc t) = get_or (bitsOfEach os) t []
+abbrev pub bits_of_trial : List Out → ℕ → List ℕ
+bits_of_trial os zero = []
+bits_of_trial os (suc t) = get_or (bits_of_each os) t []
 
 -- the steps of all trials
 abbrev pub steps_of : List Out → ℕ
@@ -32,18 +32,18 @@ pub record PassedAt (ok : List ℕ → Bool) (os : List Out) (trial steps : ℕ)
   pub least : 1 ≤ trial
   pub most : trial ≤ length os
   -- these are its bits
-  pub bits_are : bits ≡ bitsOfTrial os trial
+  pub bits_are : bits ≡ bits_of_trial os trial
   pub passes : ok bits ≡ true
   -- every trial before it failed
-  pub earlier : (t : ℕ) → 1 ≤ t → t < trial → ok (bitsOfTrial os t) ≡ false
+  pub earlier : (t : ℕ) → 1 ≤ t → t < trial → ok (bits_of_trial os t) ≡ false
   -- the steps are those of the trials made
-  pub steps-are : steps ≡ steps_of (take trial os)
+  pub steps_are : steps ≡ steps_of (take trial os)
 
 -- every trial is made and failed
 pub record AllFailed (ok : List ℕ → Bool) (os : List Out) (made steps : ℕ) : Type 0 where
   pub all : made ≡ length os
-  pub each : (t : ℕ) → 1 ≤ t → t ≤ length os → ok (bitsOfTrial os t) ≡ false
-  pub steps-are : steps ≡ steps_of os
+  pub each : (t : ℕ) → 1 ≤ t → t ≤ length os → ok (bits_of_trial os t) ≡ false
+  pub steps_are : steps ≡ steps_of os
 
 -- what a verdict on the trials says of them: `run_ends` of proofs/Run.antt proves it of `run`
 abbrev pub Ends : (List ℕ → Bool) → List Out → Verdict → Type 0
@@ -58,9 +58,9 @@ SameButSteps (passed trial steps bits) (failed made steps') = ⊥
 SameButSteps (failed made steps) (passed trial steps' bits) = ⊥
 
 -- the steps that a restart saves, over flipped indices
-abbrev pub skippedBy : Restart → List ℕ → Code → List ℕ → ℕ
-skippedBy restart mask c [] = 0
-skippedBy restart mask c (i ∷ is) = skipped c.n (restartAt restart mask (codeLength c) i) + skippedBy restart mask c is
+abbrev pub skipped_by : Restart → List ℕ → Code → List ℕ → ℕ
+skipped_by restart mask c [] = 0
+skipped_by restart mask c (i ∷ is) = skipped c.n (restart_at restart mask (code_length c) i) + skipped_by restart mask c is
 
 -- The answers of the decoders of every restart, by any sets. `answer` is what the decoder of each restart answers after the trials of these sets,
 -- with any output that fits. `every-restart` of proofs/Compare.antt proves it.
@@ -77,19 +77,19 @@ pub record EveryRestart (mask : List ℕ) (c : Code) (sets : List (List ℕ)) (F
       ((payload : List ℕ) × ((r : Restart) (o : List ℕ) → Fitting o → answer r o ≡ (Accepted made (steps r), payload)))
       ⊎ ((made ≡ length sets + 1) × ((r : Restart) (o : List ℕ) → Fitting o → answer r o ≡ (Refused16 made (steps r), o)))
   -- each reports trials made × n × N steps, without exactly those that its restarts skip
-  pub counted : (r : Restart) → steps r + skippedBy r mask c (map lowest (take (made - 1) sets)) ≡ made * c.n * codeLength c
+  pub counted : (r : Restart) → steps r + skipped_by r mask c (map lowest (take (made - 1) sets)) ≡ made * c.n * code_length c
 
 -- how many of some indices lie in the second half of N
-abbrev pub inSecondHalf : ℕ → List ℕ → ℕ
-inSecondHalf N [] = 0
-inSecondHalf N (i ∷ is) = cond (leb (N / 2) i) 1 0 + inSecondHalf N is
+abbrev pub in_second_half : ℕ → List ℕ → ℕ
+in_second_half N [] = 0
+in_second_half N (i ∷ is) = cond (leb (N / 2) i) 1 0 + in_second_half N is
 
 -- half restart saves n × N/2 steps for each trial made after the first whose lowest index lies in the second half: `half-steps` of
 -- proofs/HalfSteps.antt
 abbrev pub HalfSteps : Type 0
 HalfSteps =
     (p : Decoder) (d : List ℕ) (c : Code) (channel : List ℕ) (size : ℕ) (x : SameRun p d c channel size)
-    → x.steps Root ≡ x.steps Half + inSecondHalf (codeLength c) (lowestOfEach p d c channel x.made) * (c.n * (codeLength c / 2))
+    → x.steps Root ≡ x.steps Half + in_second_half (code_length c) (lowest_of_each p d c channel x.made) * (c.n * (code_length c / 2))
 
 -- restarted decoding takes fewer steps than half restart, by at least one in each later trial: `restarted-fewer` of proofs/HalfSteps.antt
 abbrev pub RestartedFewer : Type 0

@@ -3,14 +3,14 @@
 use Rattle.std.specs.Prelude.{◌≡◌, ◌⊎◌, ℕ, ◌+◌, ◌-◌, ◌*◌, ◌≤◌, length, take}
 use mathlib.Core.List.{List, Forall₂}
 use Rattle.code.specs.declared.Code.{Code}
-use Rattle.code.specs.Code.{codeLength}
+use Rattle.code.specs.Code.{code_length}
 use Rattle.code.specs.Description.{mask_of}
-use Rattle.channel.specs.Channel.{channelValues}
+use Rattle.channel.specs.Channel.{channel_values}
 use Rattle.flip_trial.specs.FirstAfter.{FirstAfter}
 use Rattle.flip_run.specs.declared.Decoded.TheVariants.{Accepted, Refused16}
-use Rattle.flip_run.specs.Trials.{flipOrder}
-use Rattle.decoder.specs.Decoder.{single, WellFormed, decodedFull, decodedRestarted}
-use Rattle.decoder_demands.specs.Agreement.{skippedOver}
+use Rattle.flip_run.specs.Trials.{flip_order}
+use Rattle.decoder.specs.Decoder.{single, WellFormed, decoded_full, decoded_restarted}
+use Rattle.decoder_demands.specs.Agreement.{skipped_over}
 
 -- the answers of both decoders under d, each with its own output
 pub record BothDecode (d : List ℕ) (c : Code) (channel : List ℕ) (limit : ℕ) (output output' : List ℕ) : Type 0 where
@@ -25,21 +25,21 @@ pub record BothDecode (d : List ℕ) (c : Code) (channel : List ℕ) (limit : �
   -- one trial number, and one payload in both buffers; or refusal 16 with one T, and each buffer as it was
   pub answers :
       ((payload : List ℕ)
-      × (decodedFull d channel limit output ≡ (Accepted made full, payload))
-      × (decodedRestarted d channel limit output' ≡ (Accepted made restarted, payload)))
+      × (decoded_full d channel limit output ≡ (Accepted made full, payload))
+      × (decoded_restarted d channel limit output' ≡ (Accepted made restarted, payload)))
       ⊎ ((made ≡ limit)
-      × (decodedFull d channel limit output ≡ (Refused16 made full, output))
-      × (decodedRestarted d channel limit output' ≡ (Refused16 made restarted, output')))
+      × (decoded_full d channel limit output ≡ (Refused16 made full, output))
+      × (decoded_restarted d channel limit output' ≡ (Refused16 made restarted, output')))
   -- full decoding reports exactly trials made × n × N steps
-  pub full-steps : full ≡ made * c.n * codeLength c
+  pub full_steps : full ≡ made * c.n * code_length c
   -- the q of each trial made after the first
   pub qs : List ℕ
   -- one for each
   pub each : length qs + 1 ≡ made
   -- full decoding's steps exceed the restarted report by exactly the sum, over those trials, of q − (q mod 2^j) for every j from 0 to n − 1
-  pub exceeds : full ≡ restarted + skippedOver c.n qs
+  pub exceeds : full ≡ restarted + skipped_over c.n qs
   -- q is the first information index after that trial's flipped one, or N if none
-  pub q-is : Forall₂ (FirstAfter (mask_of d) (codeLength c)) (take (made - 1) (flipOrder (mask_of d) c (channelValues channel))) qs
+  pub q_is : Forall₂ (FirstAfter (mask_of d) (code_length c)) (take (made - 1) (flip_order (mask_of d) c (channel_values channel))) qs
 
 -- any code, any trial limit and any channel values, all well-formed, each decoder with an output buffer of the right size
 abbrev pub Demand3 : Type 0

@@ -8,7 +8,7 @@ use Rattle.code.specs.declared.Description.TheVariants as Description
 use Rattle.code.specs.Description.{describe}
 use Rattle.flip_trial.specs.declared.Restart.{Restart}
 use Rattle.flip_run.specs.declared.Decoded.TheVariants.{Accepted}
-use Rattle.decoder.specs.Decoder.{Decoder, single, sets, ownRefusals, decodedAs}
+use Rattle.decoder.specs.Decoder.{Decoder, single, sets, own_refusals, decoded_as}
 
 -- the second decoder goes on after the first: its limit is as large or larger
 pub data GoesOn : Decoder → Decoder → Type 0 where
@@ -21,6 +21,6 @@ pub data GoesOn : Decoder → Decoder → Type 0 where
 abbrev pub StaysAccepted : Type 0
 StaysAccepted =
     (p p' : Decoder) (restart : Restart) (d : List ℕ) (c : Code) (channel output output' : List ℕ) (trial steps : ℕ) (payload : List ℕ)
-    → describe d ≡ Description.Accepted c → GoesOn p p' → judge (ownRefusals p' c) ≡ Fine → length output' ≡ length output
-    → decodedAs p restart d channel output ≡ (Accepted trial steps, payload)
-    → decodedAs p' restart d channel output' ≡ (Accepted trial steps, payload)
+    → describe d ≡ Description.Accepted c → GoesOn p p' → judge (own_refusals p' c) ≡ Fine → length output' ≡ length output
+    → decoded_as p restart d channel output ≡ (Accepted trial steps, payload)
+    → decoded_as p' restart d channel output' ≡ (Accepted trial steps, payload)

@@ -3,14 +3,14 @@
 use Rattle.std.specs.Prelude.{◌≡◌, List, ℕ, ◌*◌, ◌<◌, nat_abs, get_or}
 use Rattle.bits.specs.Packing.{unpacked}
 use Rattle.code.specs.declared.Code.{Code}
-use Rattle.code.specs.Code.{codeLength}
+use Rattle.code.specs.Code.{code_length}
 use Rattle.values.specs.Values.{hard}
-use Rattle.channel.specs.Channel.{channelValue}
+use Rattle.channel.specs.Channel.{channel_value}
 use Rattle.encoder.specs.declared.Encoded.TheVariants.{Done}
 use Rattle.encoder.specs.Encode.{encoded}
 use Rattle.flip_trial.specs.declared.Restart.{Restart}
 use Rattle.flip_run.specs.declared.Decoded.TheVariants.{Accepted}
-use Rattle.decoder.specs.Decoder.{Decoder, single, WellFormed, decodedAs, decodedFull, decodedRestarted}
+use Rattle.decoder.specs.Decoder.{Decoder, single, WellFormed, decoded_as, decoded_full, decoded_restarted}
 
 -- N channel values, of the codeword that encode writes for a payload under d
 pub record Received (N : ℕ) (d payload channel : List ℕ) : Type 0 where
@@ -23,21 +23,21 @@ pub record Received (N : ℕ) (d payload channel : List ℕ) : Type 0 where
   -- encode accepts the payload
   pub encodes : encoded d payload buffer ≡ (Done, codeword)
   -- the signs are right
-  pub sign : (j : ℕ) → j < N → hard (channelValue (get_or channel j 0)) ≡ get_or (unpacked codeword N) j 0
+  pub sign : (j : ℕ) → j < N → hard (channel_value (get_or channel j 0)) ≡ get_or (unpacked codeword N) j 0
   -- no strength is zero
-  pub strength : (j : ℕ) → j < N → 0 < nat_abs (channelValue (get_or channel j 0))
+  pub strength : (j : ℕ) → j < N → 0 < nat_abs (channel_value (get_or channel j 0))
 
 -- every decoder at every restart: any code, any payload that encode accepts, any channel values of its codeword, in any well-formed call
 abbrev pub Noiseless : Type 0
 Noiseless =
     (p : Decoder) (restart : Restart) (d : List ℕ) (c : Code) (payload channel output : List ℕ)
-    → Received (codeLength c) d payload channel → WellFormed p d c channel output
-    → decodedAs p restart d channel output ≡ (Accepted 1 (c.n * codeLength c), payload)
+    → Received (code_length c) d payload channel → WellFormed p d c channel output
+    → decoded_as p restart d channel output ≡ (Accepted 1 (c.n * code_length c), payload)
 
 -- full and restarted decoding with any trial limit
 abbrev pub NoiselessDecoding : Type 0
 NoiselessDecoding =
     (d : List ℕ) (c : Code) (payload channel : List ℕ) (limit : ℕ) (output : List ℕ)
-    → Received (codeLength c) d payload channel → WellFormed (single limit) d c channel output
-    → (decodedFull d channel limit output ≡ (Accepted 1 (c.n * codeLength c), payload))
-    × (decodedRestarted d channel limit output ≡ (Accepted 1 (c.n * codeLength c), payload))
+    → Received (code_length c) d payload channel → WellFormed (single limit) d c channel output
+    → (decoded_full d channel limit output ≡ (Accepted 1 (c.n * code_length c), payload))
+    × (decoded_restarted d channel limit output ≡ (Accepted 1 (c.n * code_length c), payload))

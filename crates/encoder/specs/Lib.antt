@@ -1,3 +1,3 @@
 pub mod Encode
 pub mod Claims
-pub mod Contracts
+pub mod Clauses

@@ -1,11 +1,11 @@
 // The encoder.
 ghost use Rattle.std.specs.Prelude.{◌≡◌, ◌^◌, length};
 ghost use Rattle.refusal.specs.Judge.{differs, judge};
-ghost use Rattle.bits.specs.Packing.{bytesFor, packed, unpacked, unusedBits};
+ghost use Rattle.bits.specs.Packing.{bytes_for, packed, unpacked, unused_bits};
 ghost use Rattle.code.specs.Claims.{Coded};
 ghost use Rattle.transform.specs.Transform.{transformed};
-ghost use Rattle.encoder.specs.Encode.{messageOf, codeword, encodingRefusals, encodedBy, encoded};
-ghost use Rattle.encoder.specs.Contracts.{MessagePre, PayloadPre, placedMessage, TransformPre};
+ghost use Rattle.encoder.specs.Encode.{message_of, codeword, encoding_refusals, encoded_by, encoded};
+ghost use Rattle.encoder.specs.Clauses.{MessagePre, PayloadPre, placed_message, TransformPre};
 ghost use Rattle.encoder.specs.Claims.{WellFormed};
 
 use arrays::{ByteArray, SIZE};
@@ -24,7 +24,7 @@ pub enum Encoded {
 // The message of a payload: its k bits, then its r check bits.
 fn message_of(code: Code, payload: &[u8], message: &mut [u8])
     requires { MessagePre code payload.now message.old }
-    ensures { message.new ≡ messageOf code (unpacked payload.now code.k) }
+    ensures { message.new ≡ message_of code (unpacked payload.now code.k) }
 {
     let k = code.k;
     bits::unpack(payload, &mut message[..k]);
@@ -34,7 +34,7 @@ fn message_of(code: Code, payload: &[u8], message: &mut [u8])
 // Places the message of a payload by the mask, packed; the message is made in `room`.
 fn place_message(mask: &[u8], code: Code, payload: &[u8], room: &mut [u8], output: &mut [u8])
     requires { PayloadPre mask.now code payload.now room.old output.old }
-    ensures { output.new ≡ packed (placedMessage mask.now code payload.now) }
+    ensures { output.new ≡ packed (placed_message mask.now code payload.now) }
 {
     let size = code.k + code.r as usize;
     message_of(code, payload, &mut room[..size]);
@@ -64,8 +64,8 @@ fn write_codeword(mask: &[u8], code: Code, payload: &[u8], output: &mut [u8])
 
 // Whether an unused low bit of the last payload byte is set.
 fn has_unused_bit(payload: &[u8], k: usize) -> bool
-    requires { length payload.now ≡ bytesFor k }
-    ensures { result ≡ differs (unusedBits payload.now k) 0 }
+    requires { length payload.now ≡ bytes_for k }
+    ensures { result ≡ differs (unused_bits payload.now k) 0 }
 {
     if k % 8 == 0 {
         return false;
@@ -76,7 +76,7 @@ fn has_unused_bit(payload: &[u8], k: usize) -> bool
 // Judges a payload and an output: refusals 9 to 11.
 fn judge_encoding(mask: &[u8], code: Code, payload: &[u8], output: &[u8]) -> Judgement
     requires { Coded mask.now code }
-    ensures { result ≡ judge (encodingRefusals code payload.now output.now) }
+    ensures { result ≡ judge (encoding_refusals code payload.now output.now) }
 {
     if payload.len() != bits::bytes_for(code.k) {
         return Judgement::Refused(Refusal::Alone(9));
@@ -94,7 +94,7 @@ fn judge_encoding(mask: &[u8], code: Code, payload: &[u8], output: &[u8]) -> Jud
 fn encode_by(mask: &[u8], code: Code, payload: &[u8], output: &mut [u8]) -> Encoded
     requires { Coded mask.now code }
     ensures { (result, output.new)
-        ≡ encodedBy mask.now code payload.now output.old }
+        ≡ encoded_by mask.now code payload.now output.old }
 {
     match judge_encoding(mask, code, payload, output) {
         Judgement::Fine => {

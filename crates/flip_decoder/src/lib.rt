@@ -2,9 +2,9 @@
 ghost use Rattle.std.specs.Prelude.{◌≡◌, ◌≤◌};
 ghost use Rattle.refusal.specs.Judge.{judge};
 ghost use Rattle.arrays.specs.Claims.{longest};
-ghost use Rattle.code.specs.Code.{informationCount};
+ghost use Rattle.code.specs.Code.{information_count};
 ghost use Rattle.code.specs.Claims.{Coded};
-ghost use Rattle.decoder.specs.Decoder.{single, ownRefusals, decodedUnder, decodedAs, decodedFull, decodedHalf, decodedRestarted};
+ghost use Rattle.decoder.specs.Decoder.{single, own_refusals, decoded_under, decoded_as, decoded_full, decoded_half, decoded_restarted};
 
 use code::{Code, Description};
 use flip_run::{Decoded, Terms};
@@ -13,8 +13,8 @@ use refusal::{Judgement, Refusal};
 
 // Refusal 14: the trial limit is outside 1..K + 1.
 fn judge_limit(limit: u32, code: Code) -> Judgement
-    requires { informationCount code ≤ longest }
-    ensures { result ≡ judge (ownRefusals (single limit) code) }
+    requires { information_count code ≤ longest }
+    ensures { result ≡ judge (own_refusals (single limit) code) }
 {
     if refusal::is_outside(limit as usize, 1, code.k + code.r as usize + 1) {
         return Judgement::Refused(Refusal::Alone(14));
@@ -32,7 +32,7 @@ pub fn decode_by(
 ) -> Decoded
     requires { Coded mask.now code }
     ensures { (result, output.new)
-        ≡ decodedUnder (single terms.limit) terms.restart mask.now code channel.now output.old }
+        ≡ decoded_under (single terms.limit) terms.restart mask.now code channel.now output.old }
 {
     let own = judge_limit(terms.limit, code);
     match decoder::judge_call(own, code, channel, output) {
@@ -44,7 +44,7 @@ pub fn decode_by(
 // Decodes a channel's values into the packed payload, by a description.
 fn decode(terms: Terms, description: &[u8], channel: &[u8], output: &mut [u8]) -> Decoded
     ensures { (result, output.new)
-        ≡ decodedAs (single terms.limit) terms.restart description.now channel.now output.old }
+        ≡ decoded_as (single terms.limit) terms.restart description.now channel.now output.old }
 {
     match code::read_description(description) {
         Description::Accepted(code) => {
@@ -56,7 +56,7 @@ fn decode(terms: Terms, description: &[u8], channel: &[u8], output: &mut [u8]) -
 
 // Decodes with each later trial repeated from the root.
 pub fn decode_full(description: &[u8], channel: &[u8], limit: u32, output: &mut [u8]) -> Decoded
-    ensures { (result, output.new) ≡ decodedFull description.now channel.now limit output.old }
+    ensures { (result, output.new) ≡ decoded_full description.now channel.now limit output.old }
 {
     let full = Terms {
         restart: Restart::Root,
@@ -67,7 +67,7 @@ pub fn decode_full(description: &[u8], channel: &[u8], limit: u32, output: &mut 
 
 // Decodes with each later trial resumed at N/2 if its flipped index is N/2 or above, otherwise at 0.
 pub fn decode_half(description: &[u8], channel: &[u8], limit: u32, output: &mut [u8]) -> Decoded
-    ensures { (result, output.new) ≡ decodedHalf description.now channel.now limit output.old }
+    ensures { (result, output.new) ≡ decoded_half description.now channel.now limit output.old }
 {
     let half = Terms {
         restart: Restart::Half,
@@ -83,7 +83,7 @@ pub fn decode_restarted(
     limit: u32,
     output: &mut [u8],
 ) -> Decoded
-    ensures { (result, output.new) ≡ decodedRestarted description.now channel.now limit output.old }
+    ensures { (result, output.new) ≡ decoded_restarted description.now channel.now limit output.old }
 {
     let restarted = Terms {
         restart: Restart::AfterFlip,

@@ -1,7 +1,7 @@
 -- What the theorems of this crate state of its definitions.
 use Rattle.std.specs.Prelude.{List, ℕ, ◌<◌, length, get_or, ◌≡◌, true, ℤ}
 use Rattle.flip_order.specs.Order.{before}
-use Rattle.bits.specs.Mask.{maskBit, onesBelow}
+use Rattle.bits.specs.Mask.{mask_bit, ones_below}
 
 -- each element of a list is related to every later one
 pub record Pairwise (R : ℕ → ℕ → Type 0) (is : List ℕ) : Type 0 where
@@ -21,7 +21,7 @@ Distinct = Pairwise (λ i j. i ≡ j → ⊥)
 
 -- an information index below n
 abbrev pub Information : List ℕ → ℕ → ℕ → Type 0
-Information mask n i = (i < n) × (maskBit mask i ≡ 1)
+Information mask n i = (i < n) × (mask_bit mask i ≡ 1)
 
 -- a list of the information indices below n, each once: `ordered-information` of proofs/Order.antt
 pub record ListsInformation (mask : List ℕ) (n : ℕ) (is : List ℕ) : Type 0 where
@@ -32,4 +32,4 @@ pub record ListsInformation (mask : List ℕ) (n : ℕ) (is : List ℕ) : Type 0
   -- none twice
   pub once : Distinct is
   -- as many as the mask has ones
-  pub many : length is ≡ onesBelow mask n
+  pub many : length is ≡ ones_below mask n

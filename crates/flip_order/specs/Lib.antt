@@ -1,3 +1,3 @@
 pub mod Order
 pub mod Claims
-pub mod Contracts
+pub mod Clauses

@@ -1,7 +1,7 @@
 // The order of flipped indices: each information index has a key, and the next one in order has the least key above the last.
 ghost use Rattle.std.specs.Prelude.{◌≡◌, ◌%◌, ◌≤◌, pos, nat_abs, length};
 ghost use Rattle.arrays.specs.Claims.{longest};
-ghost use Rattle.flip_order.specs.Contracts.{KeyPre, KeysPre, keyUnder, keys_of, above, lesser, leastAbove};
+ghost use Rattle.flip_order.specs.Clauses.{KeyPre, KeysPre, key_under, keys_of, above, lesser, least_above};
 
 use arrays::SIZE;
 
@@ -11,7 +11,7 @@ const NO_KEY: i32 = 0x7fff_ffff;
 // The key of an index with a leaf value, or NO_KEY if the index is frozen. Keys are ordered by magnitude, equal magnitudes by lower index.
 fn key_under(mask: &[u8], value: i32, i: usize) -> i32
     requires { KeyPre mask.now value i }
-    ensures { result ≡ pos (keyUnder mask.now value i) }
+    ensures { result ≡ pos (key_under mask.now value i) }
 {
     if bits::mask_bit(mask, i) == 0 {
         return NO_KEY;
@@ -49,7 +49,7 @@ fn lesser(a: i32, b: i32) -> i32
 // The least of those of the first `size` keys that are above the last one. `last` is -1 before the first.
 pub fn next_key(size: usize, keys: &[i32], last: i32) -> i32
     requires { size ≤ length keys.now }
-    ensures { result ≡ leastAbove last keys.now size }
+    ensures { result ≡ least_above last keys.now size }
 {
     let mut best = NO_KEY;
     let mut i: usize = 0;

@@ -7,7 +7,7 @@ use native.Mathlib.Numerals.{add-one}
 use native.Mathlib.Omega.{arith}
 use lib.ListN.{length, get_or, take, drop, drop_of_length-le}
 use lib.Seq.{drop-cons, get_or-take, length-take-le}
-use Rattle.arrays.specs.Claims.{mostSteps}
+use Rattle.arrays.specs.Claims.{most_steps}
 use Rattle.pass_tree.specs.Node.{Out}
 use Rattle.flip_run.specs.Trials.{Verdict, passed, failed, run}
 
@@ -20,9 +20,9 @@ module _ (ok : List ℕ → Bool) (made steps : ℕ) (o : Out) (os : List Out) w
   unfolding run turn
   run-passes e = ap turn e
 
-  pub run-fails : ok o.bits ≡ false → run ok made steps (o ∷ os) ≡ run ok (made + 1) (steps + o.work.steps) os
+  pub run_fails : ok o.bits ≡ false → run ok made steps (o ∷ os) ≡ run ok (made + 1) (steps + o.work.steps) os
   unfolding run turn
-  run-fails e = ap turn e
+  run_fails e = ap turn e
 
 pub run_none : (ok : List ℕ → Bool) (made steps : ℕ) → run ok made steps [] ≡ failed made steps
 unfolding run
@@ -46,16 +46,16 @@ pub record LoopInvariant (ok : List ℕ → Bool) (later : ℕ → Out) (order :
   pub least : 1 ≤ made
   pub most : made ≤ limit
   pub rest : run ok 1 start (left later order (limit - 1) 0) ≡ run ok made steps (left later order (limit - 1) (made - 1))
-  pub few : steps ≤ mostSteps * made
+  pub few : steps ≤ most_steps * made
 
 module _ {ok : List ℕ → Bool} {later : ℕ → Out} {order : List ℕ} {limit start : ℕ} where
-  pub loop-starts : 1 ≤ limit → start ≤ mostSteps → LoopInvariant ok later order limit start 1 start
-  loop-starts l m = record { least = omega arith; most = l; rest = refl; few = m }
+  pub loop_starts : 1 ≤ limit → start ≤ most_steps → LoopInvariant ok later order limit start 1 start
+  loop_starts l m = record { least = omega arith; most = l; rest = refl; few = m }
 
   module _ {made steps : ℕ} (g : LoopInvariant ok later order limit start made steps) (long : limit - 1 ≤ length order) where
     -- no trial is left
-    pub loop-ends : limit ≤ made → run ok 1 start (left later order (limit - 1) 0) ≡ failed made steps
-    loop-ends l =
+    pub loop_ends : limit ≤ made → run ok 1 start (left later order (limit - 1) 0) ≡ failed made steps
+    loop_ends l =
         g.rest ∙ ap (run ok made steps) (left-none later order (limit - 1) (made - 1) long (omega arith)) ∙ run_none ok made steps
 
     -- the next one, in t steps
@@ -66,17 +66,17 @@ module _ {ok : List ℕ → Bool} {later : ℕ → Out} {order : List ℕ} {limi
           left-more later order (limit - 1) (made - 1) (omega (arith, g.least)) long
           ∙ ap₂ (λ (x n : ℕ). later x ∷ left later order (limit - 1) n) (sym next) m
 
-      pub loop-passes : ok (later i).bits ≡ true → run ok 1 start (left later order (limit - 1) 0) ≡ passed (made + 1) (steps + t) (later i).bits
-      loop-passes e =
+      pub loop_passes : ok (later i).bits ≡ true → run ok 1 start (left later order (limit - 1) 0) ≡ passed (made + 1) (steps + t) (later i).bits
+      loop_passes e =
           g.rest ∙ ap (run ok made steps) next-left ∙ run-passes ok made steps (later i) _ e
           ∙ ap (λ (x : ℕ). passed (made + 1) (steps + x) (later i).bits) (sym took)
 
-      pub loop-goes-on : ok (later i).bits ≡ false → t ≤ mostSteps → LoopInvariant ok later order limit start (made + 1) (steps + t)
-      loop-goes-on e few = record {
+      pub loop_goes_on : ok (later i).bits ≡ false → t ≤ most_steps → LoopInvariant ok later order limit start (made + 1) (steps + t)
+      loop_goes_on e few = record {
         least = omega arith;
         most = omega arith;
         rest =
-            g.rest ∙ ap (run ok made steps) next-left ∙ run-fails ok made steps (later i) _ e
+            g.rest ∙ ap (run ok made steps) next-left ∙ run_fails ok made steps (later i) _ e
             ∙ ap (λ (x : ℕ). run ok (made + 1) (steps + x) (left later order (limit - 1) (made + 1 - 1))) (sym took);
         few = omega (arith, g.few);
       }

@@ -11,71 +11,71 @@ use Rattle.bits.specs.Claims.{Bits}
 use Rattle.bits.specs.Packing.{packed}
 use Rattle.bits.proofs.Lists.{bits-take}
 use Rattle.code.specs.declared.Code.{Code}
-use Rattle.code.specs.Code.{codeLength, informationCount}
+use Rattle.code.specs.Code.{code_length, information_count}
 use Rattle.code.specs.Claims.{Coded}
 use Rattle.placing.proofs.Placing.{bits-taken}
-use Rattle.values.specs.Values.{maskRule}
+use Rattle.values.specs.Values.{mask_rule}
 use Rattle.values.specs.Claims.{Within}
 use Rattle.values.proofs.Bounds.{within_more}
-use Rattle.channel.specs.Channel.{channelValues, firstOutside}
+use Rattle.channel.specs.Channel.{channel_values, first_outside}
 use Rattle.channel.proofs.Outside.{all-inside}
 use Rattle.pass_tree.proofs.Leaves.{within-leaves}
-use Rattle.pass_ends.specs.Contracts.{Arrays, arrays, Whole}
-use Rattle.flip_order.specs.Contracts.{mostMagnitude, KeysPre}
-use Rattle.flip_trial.specs.Trial.{messageIn}
-use Rattle.flip_trial.specs.Contracts.{TrialPre, FirstLeaves}
+use Rattle.pass_ends.specs.Clauses.{Arrays, arrays, Whole}
+use Rattle.flip_order.specs.Clauses.{most_magnitude, KeysPre}
+use Rattle.flip_trial.specs.Trial.{message_in}
+use Rattle.flip_trial.specs.Clauses.{TrialPre, FirstLeaves}
 use Rattle.flip_run.specs.declared.Decoded.{Decoded}
 use Rattle.flip_run.specs.declared.Decoded.TheVariants as Decoded
 use Rattle.flip_run.specs.declared.Ended.{Ended}
 use Rattle.flip_run.specs.declared.Ended.TheVariants.{Passed}
-use Rattle.flip_run.specs.Trials.{flipOrder, Verdict, passed, failed, answer_of}
-use Rattle.flip_run.specs.Contracts.{FramePre, PassedBits, answered, Ran}
-use Rattle.flip_run.proofs.FlipOrder.{length-order}
+use Rattle.flip_run.specs.Trials.{flip_order, Verdict, passed, failed, answer_of}
+use Rattle.flip_run.specs.Clauses.{FramePre, PassedBits, answered, Ran}
+use Rattle.flip_run.proofs.FlipOrder.{length_order}
 
 -- channel values, none of them outside its range
-pub values-inside : (channel : List ℕ) → firstOutside channel ≡ length channel → Within 31 (channelValues channel)
+pub values-inside : (channel : List ℕ) → first_outside channel ≡ length channel → Within 31 (channel_values channel)
 values-inside channel inside = all-inside channel (omega (arith, inside))
 
 -- the arrays of any trial
 pub trial_on : {mask : List ℕ} {c : Code} {channel : List ℕ} → FramePre mask c channel → {room : ℕ} {rules : List ℕ} {a : Arrays} → length rules ≡ room → Whole room a → TrialPre room c channel rules a
 trial_on {channel} on r w = record {
-  n-least = omega (arith, on.coded.n-least);
-  n-most = on.coded.n-most;
-  long = on.channel-size;
-  small = values-inside channel on.in-range;
-  rules-whole = r;
+  n_least = omega (arith, on.coded.n_least);
+  n_most = on.coded.n_most;
+  long = on.channel_size;
+  small = values-inside channel on.in_range;
+  rules_whole = r;
   whole = w;
 }
 
 -- the arrays of a trial after its check, which takes the message out into the place of the sums
-pub arrays-again : {room : ℕ} {a : Arrays} {sums : List ℕ} → Whole room a → length sums ≡ room → Whole room (arrays a.work a.bits sums a.leaves)
-arrays-again w e = record { work = w.work; bits = w.bits; sums = e; leaves = w.leaves }
+pub arrays_again : {room : ℕ} {a : Arrays} {sums : List ℕ} → Whole room a → length sums ≡ room → Whole room (arrays a.work a.bits sums a.leaves)
+arrays_again w e = record { work = w.work; bits = w.bits; sums = e; leaves = w.leaves }
 
 module _ {mask : List ℕ} {c : Code} {channel : List ℕ} (on : FramePre mask c channel) where
-  pub order-long : {limit : ℕ} → limit ≤ informationCount c + 1 → limit - 1 ≤ length (flipOrder mask c (channelValues channel))
-  order-long l = omega (arith, length-order on.coded (channelValues channel), l)
+  pub order_long : {limit : ℕ} → limit ≤ information_count c + 1 → limit - 1 ≤ length (flip_order mask c (channel_values channel))
+  order_long l = omega (arith, length_order on.coded (channel_values channel), l)
 
   -- the keys of trial 1's leaf values fit
-  pub keys-pre : {room : ℕ} {values : List ℤ} → codeLength c ≤ room → FirstLeaves room mask c channel values → KeysPre mask values
-  keys-pre {values = values} room kept = record {
+  pub keys_pre : {room : ℕ} {values : List ℤ} → code_length c ≤ room → FirstLeaves room mask c channel values → KeysPre mask values
+  keys_pre {values = values} room kept = record {
     there = omega (arith, on.coded.mask_size, room, kept.whole);
-    fits = omega (arith, on.coded.mask_size, fits on.coded.n-most);
+    fits = omega (arith, on.coded.mask_size, fits on.coded.n_most);
     small =
-        subst (Within mostMagnitude) (sym (ap (λ (m : ℕ). take m values) on.coded.mask_size ∙ kept.values))
-        (within_more (omega (arith, fits on.coded.n-most)) (within-leaves c.n 31 [] (maskRule mask) (channelValues channel) (values-inside channel on.in-range)));
+        subst (Within most_magnitude) (sym (ap (λ (m : ℕ). take m values) on.coded.mask_size ∙ kept.values))
+        (within_more (omega (arith, fits on.coded.n_most)) (within-leaves c.n 31 [] (mask_rule mask) (channel_values channel) (values-inside channel on.in_range)));
   }
 
 -- a trial passed, and its message stands in a room that begins with it
-pub ran-passed : {mask : List ℕ} {c : Code} → Coded mask c → {u : List ℕ} (bits message : List ℕ) {trial steps : ℕ} → take (codeLength c) bits ≡ u → take (informationCount c) message ≡ messageIn mask c (take (codeLength c) bits) → Bits u → Ran mask c (passed trial steps u) (Passed trial steps) message
-ran-passed {mask} {c} coded {u} bits message own is p =
-    let payload : take c.k message ≡ take c.k (messageIn mask c u) = sym (take-take c.k (informationCount c) message (omega arith)) ∙ ap (take c.k) (is ∙ ap (messageIn mask c) own) in
-    (refl, payload, subst Bits (sym payload) (bits-take c.k (messageIn mask c u) (bits-taken mask u (codeLength c) p)))
+pub ran_passed : {mask : List ℕ} {c : Code} → Coded mask c → {u : List ℕ} (bits message : List ℕ) {trial steps : ℕ} → take (code_length c) bits ≡ u → take (information_count c) message ≡ message_in mask c (take (code_length c) bits) → Bits u → Ran mask c (passed trial steps u) (Passed trial steps) message
+ran_passed {mask} {c} coded {u} bits message own is p =
+    let payload : take c.k message ≡ take c.k (message_in mask c u) = sym (take-take c.k (information_count c) message (omega arith)) ∙ ap (take c.k) (is ∙ ap (message_in mask c) own) in
+    (refl, payload, subst Bits (sym payload) (bits-take c.k (message_in mask c u) (bits-taken mask u (code_length c) p)))
 
 -- what a run ended with is answered as its verdict is
-pub ran-answers : (mask : List ℕ) (c : Code) (output : List ℕ) (v : Verdict) (e : Ended) (message : List ℕ) → Ran mask c v e message → answered c.k e message output ≡ answer_of mask c output v
-ran-answers mask c output (passed trial steps bits) e message r =
+pub ran_answers : (mask : List ℕ) (c : Code) (output : List ℕ) (v : Verdict) (e : Ended) (message : List ℕ) → Ran mask c v e message → answered c.k e message output ≡ answer_of mask c output v
+ran_answers mask c output (passed trial steps bits) e message r =
     ap (λ (x : Ended). answered c.k x message output) r.0 ∙ ap (λ (xs : List ℕ). (Decoded.Accepted trial steps, packed xs)) r.1
-ran-answers mask c output (failed made steps) e message r = ap (λ (x : Ended). answered c.k x message output) r
+ran_answers mask c output (failed made steps) e message r = ap (λ (x : Ended). answered c.k x message output) r
 
 pub ran_bits : (mask : List ℕ) (c : Code) (v : Verdict) (e : Ended) (message : List ℕ) → Ran mask c v e message → PassedBits e (take c.k message)
 ran_bits mask c (passed trial steps bits) e message r = subst (λ (x : Ended). PassedBits x (take c.k message)) (sym r.0) r.2

@@ -5,7 +5,7 @@ use Rattle.flip_run.specs.declared.Decoded.TheVariants.{Accepted, Refused16, Ref
 
 -- whether an answer comes from a run of trials: no refusal before 16. A call is well-formed exactly if its answer does: `well-formed-exactly` of
 -- decoder/proofs/Decoder.antt.
-abbrev pub ofRun : Decoded → Bool
-ofRun (Accepted trial steps) = true
-ofRun (Refused16 made steps) = true
-ofRun (Refused x) = false
+abbrev pub of_run : Decoded → Bool
+of_run (Accepted trial steps) = true
+of_run (Refused16 made steps) = true
+of_run (Refused x) = false

@@ -1,3 +1,3 @@
 pub mod Trials
 pub mod Claims
-pub mod Contracts
+pub mod Clauses

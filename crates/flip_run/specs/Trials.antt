@@ -1,18 +1,18 @@
 -- Document 01, "Flip decoding, full and restarted": the order of flips, and the first trial that passes.
 use Rattle.std.specs.Prelude.{Bool, cond, List, [], ◌∷◌, ℕ, ◌+◌, ℤ, take}
-use Rattle.laws.specs.Insert.{sortBy}
+use Rattle.laws.specs.Insert.{sort_by}
 use Rattle.bits.specs.Packing.{packed}
 use Rattle.code.specs.declared.Code.{Code}
-use Rattle.code.specs.Code.{codeLength}
+use Rattle.code.specs.Code.{code_length}
 use Rattle.pass_tree.specs.Node.{Out}
 use Rattle.flip_order.specs.Order.{information, before}
-use Rattle.flip_trial.specs.Trial.{firstTrial, messageIn}
+use Rattle.flip_trial.specs.Trial.{first_trial, message_in}
 use Rattle.flip_run.specs.declared.Decoded.{Decoded}
 use Rattle.flip_run.specs.declared.Decoded.TheVariants.{Accepted, Refused16}
 
 -- the order of flipped indices: trial t, from 2, flips the one at place t - 1
-abbrev pub flipOrder : List ℕ → Code → List ℤ → List ℕ
-flipOrder mask c v = sortBy (before (firstTrial mask c v).leaves) (information mask (codeLength c))
+abbrev pub flip_order : List ℕ → Code → List ℤ → List ℕ
+flip_order mask c v = sort_by (before (first_trial mask c v).leaves) (information mask (code_length c))
 
 -- how a run of trials ends
 pub data Verdict : Type 0 where
@@ -31,5 +31,5 @@ run ok made steps (o ∷ os) =
 
 -- acceptance writes the packed payload; refusal 16 carries the trials made and writes nothing
 abbrev pub answer_of : List ℕ → Code → List ℕ → Verdict → Decoded × List ℕ
-answer_of mask c output (passed trial steps bits) = (Accepted trial steps, packed (take c.k (messageIn mask c bits)))
+answer_of mask c output (passed trial steps bits) = (Accepted trial steps, packed (take c.k (message_in mask c bits)))
 answer_of mask c output (failed made steps) = (Refused16 made steps, output)

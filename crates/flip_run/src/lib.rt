@@ -1,8 +1,8 @@
 // The run of trials of flip decoding.
 ghost use Rattle.std.specs.Prelude.{◌≡◌, ◌≤◌, length, take};
-ghost use Rattle.bits.specs.Packing.{bytesFor};
-ghost use Rattle.pass_ends.specs.Contracts.{arrays, Whole};
-ghost use Rattle.flip_run.specs.Contracts.{FramePre, LimitPre, RunPre, FirstFailed, PassedBits, answered, BeginPost, RunPost, verdictBy, answerBy};
+ghost use Rattle.bits.specs.Packing.{bytes_for};
+ghost use Rattle.pass_ends.specs.Clauses.{arrays, Whole};
+ghost use Rattle.flip_run.specs.Clauses.{FramePre, LimitPre, RunPre, FirstFailed, PassedBits, answered, BeginPost, RunPost, verdict_by, answer_by};
 
 use arrays::{BitArray, RuleArray, SIZE, ValueArray};
 use code::Code;
@@ -42,7 +42,7 @@ pub enum Ended {
 pub fn answer(k: usize, ended: Ended, message: &[u8], output: &mut [u8]) -> Decoded
     requires { (k ≤ length message.now)
         × PassedBits ended (take k message.now)
-        × (length output.old ≡ bytesFor k) }
+        × (length output.old ≡ bytes_for k) }
     ensures { (result, output.new) ≡ answered k ended message.now output.old }
 {
     match ended {
@@ -101,7 +101,7 @@ fn flip_trials(
     requires { FramePre mask.now code channel.now
         × LimitPre terms.limit code
         × FirstFailed SIZE mask.now code channel.now start rules.old (arrays work.old first.now sums.old values.old) }
-    ensures { RunPost SIZE mask.now code (verdictBy terms mask.now code channel.now) result
+    ensures { RunPost SIZE mask.now code (verdict_by terms mask.now code channel.now) result
         sums.new }
 {
     let mut bits = [0u8; SIZE];
@@ -147,7 +147,7 @@ fn run_trials(terms: Terms, mask: &[u8], code: Code, channel: &[u8], sums: &mut 
     requires { FramePre mask.now code channel.now
         × LimitPre terms.limit code
         × (length sums.old ≡ SIZE) }
-    ensures { RunPost SIZE mask.now code (verdictBy terms mask.now code channel.now) result
+    ensures { RunPost SIZE mask.now code (verdict_by terms mask.now code channel.now) result
         sums.new }
 {
     let mut first = [0u8; SIZE];
@@ -194,7 +194,7 @@ pub fn decode_in(
     output: &mut [u8],
 ) -> Decoded
     requires { RunPre terms mask.now code channel.now output.old }
-    ensures { (result, output.new) ≡ answerBy terms mask.now code channel.now output.old }
+    ensures { (result, output.new) ≡ answer_by terms mask.now code channel.now output.old }
 {
     let mut message = [0u8; SIZE];
     let ended = run_trials(terms, mask, code, channel, &mut message);

@@ -5,28 +5,28 @@ use lib.IntN.{ℤ}
 use Rattle.bits.specs.Claims.{Bits}
 use Rattle.bits.proofs.Lists.{bits-nil}
 use Rattle.code.specs.declared.Code.{Code}
-use Rattle.code.specs.Code.{codeLength}
-use Rattle.values.specs.Values.{maskRule}
-use Rattle.pass_tree.proofs.StepsMost.{steps-most}
+use Rattle.code.specs.Code.{code_length}
+use Rattle.values.specs.Values.{mask_rule}
+use Rattle.pass_tree.proofs.StepsMost.{steps_most}
 use Rattle.pass_tree.proofs.Sums.{bits-bits}
-use Rattle.flip_trial.specs.Trial.{firstTrial, flipRule, lowest, forcedPrefix}
-use Rattle.flip_trial.specs.Claims.{trialFrom}
+use Rattle.flip_trial.specs.Trial.{first_trial, flip_rule, lowest, forced_prefix}
+use Rattle.flip_trial.specs.Claims.{trial_from}
 use Rattle.flip_trial.proofs.Prefix.{bits-forced}
 
 module _ (mask : List ℕ) (c : Code) (v : List ℤ) where
-  pub first-bits : Bits (firstTrial mask c v).bits
-  first-bits = bits-bits c.n [] (maskRule mask) v bits-nil
+  pub first_bits : Bits (first_trial mask c v).bits
+  first_bits = bits-bits c.n [] (mask_rule mask) v bits-nil
 
-  pub first-steps : (firstTrial mask c v).work.steps ≤ c.n * codeLength c
-  first-steps = steps-most c.n [] (maskRule mask) v
+  pub first_steps : (first_trial mask c v).work.steps ≤ c.n * code_length c
+  first_steps = steps_most c.n [] (mask_rule mask) v
 
   -- a later trial, wherever it resumes
   module _ (is : List ℕ) (q : ℕ) where
     abbrev prefix : List ℕ
-    prefix = forcedPrefix (firstTrial mask c v).bits (lowest is) q
+    prefix = forced_prefix (first_trial mask c v).bits (lowest is) q
 
-    pub later-bits : Bits (trialFrom q mask c v is).bits
-    later-bits = bits-bits c.n prefix (flipRule mask is) v (bits-forced (firstTrial mask c v).bits (lowest is) q first-bits)
+    pub later-bits : Bits (trial_from q mask c v is).bits
+    later-bits = bits-bits c.n prefix (flip_rule mask is) v (bits-forced (first_trial mask c v).bits (lowest is) q first_bits)
 
-    pub later-steps : (trialFrom q mask c v is).work.steps ≤ c.n * codeLength c
-    later-steps = steps-most c.n prefix (flipRule mask is) v
+    pub later_steps : (trial_from q mask c v is).work.steps ≤ c.n * code_length c
+    later_steps = steps_most c.n prefix (flip_rule mask is) v

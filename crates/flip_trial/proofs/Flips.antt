@@ -7,10 +7,10 @@ use native.Mathlib.Omega.{arith}
 use borrow.Author.Tests.{eqb-true, eq-eqb}
 use lib.Dec.{eqb}
 use lib.ListN.{length, get_or}
-use Rattle.bits.specs.Mask.{maskBit}
-use Rattle.values.specs.Values.{frozen, usual, opposite, maskRule}
-use Rattle.values.proofs.Rules.{rule-usual, rule-frozen}
-use Rattle.flip_trial.specs.Trial.{member, flipRule, lowest}
+use Rattle.bits.specs.Mask.{mask_bit}
+use Rattle.values.specs.Values.{frozen, usual, opposite, mask_rule}
+use Rattle.values.proofs.Rules.{rule_usual, rule-frozen}
+use Rattle.flip_trial.specs.Trial.{member, flip_rule, lowest}
 use Rattle.flip_trial.specs.Flips.{Flips}
 
 -- what holds of each of some indices holds of a member
@@ -40,36 +40,36 @@ lowest-member [] l = absurd (omega arith)
 lowest-member (i ∷ is) l = ap (λ (t : Bool). t || member i is) (eq-eqb i i refl)
 
 -- an index that is not flipped
-rule-kept : (mask is : List ℕ) (j : ℕ) → member j is ≡ false → flipRule mask is j ≡ maskRule mask j
-rule-kept mask is j e = ap (λ (t : Bool). cond t opposite (maskRule mask j)) e
+rule-kept : (mask is : List ℕ) (j : ℕ) → member j is ≡ false → flip_rule mask is j ≡ mask_rule mask j
+rule-kept mask is j e = ap (λ (t : Bool). cond t opposite (mask_rule mask j)) e
 
 module _ {mask : List ℕ} {size : ℕ} {is : List ℕ} (p : Flips mask size is) where
   pub lowest-below : lowest is < size
   lowest-below = omega (arith, lowest-is is, p.below 0 p.some)
 
-  pub lowest-usual : maskRule mask (lowest is) ≡ usual
-  lowest-usual = rule-usual mask (lowest is) (ap (maskBit mask) (lowest-is is) ∙ p.information 0 p.some)
+  pub lowest_usual : mask_rule mask (lowest is) ≡ usual
+  lowest_usual = rule_usual mask (lowest is) (ap (mask_bit mask) (lowest-is is) ∙ p.information 0 p.some)
 
-  pub lowest-opposite : flipRule mask is (lowest is) ≡ opposite
-  lowest-opposite = ap (λ (t : Bool). cond t opposite (maskRule mask (lowest is))) (lowest-member is p.some)
+  pub lowest_opposite : flip_rule mask is (lowest is) ≡ opposite
+  lowest_opposite = ap (λ (t : Bool). cond t opposite (mask_rule mask (lowest is))) (lowest-member is p.some)
 
-  lowest-least : (a : ℕ) → a < length is → lowest is ≤ get_or is a 0
-  lowest-least zero l = omega (arith, lowest-is is)
-  lowest-least (suc a) l = omega (arith, lowest-is is, p.ascending 0 (suc a) (omega arith) l)
+  lowest_least : (a : ℕ) → a < length is → lowest is ≤ get_or is a 0
+  lowest_least zero l = omega (arith, lowest-is is)
+  lowest_least (suc a) l = omega (arith, lowest-is is, p.ascending 0 (suc a) (omega arith) l)
 
   -- before the lowest all rules are trial 1's
-  pub rule-before : (j : ℕ) → j < lowest is → flipRule mask is j ≡ maskRule mask j
-  rule-before j l = rule-kept mask is j (member-none is j (λ a m e. omega (arith, lowest-least a m)))
+  pub rule-before : (j : ℕ) → j < lowest is → flip_rule mask is j ≡ mask_rule mask j
+  rule-before j l = rule-kept mask is j (member-none is j (λ a m e. omega (arith, lowest_least a m)))
 
   -- a frozen index is not flipped
-  pub rule-zero : (j : ℕ) → maskBit mask j ≡ 0 → flipRule mask is j ≡ frozen
+  pub rule-zero : (j : ℕ) → mask_bit mask j ≡ 0 → flip_rule mask is j ≡ frozen
   rule-zero j z =
-      rule-kept mask is j (member-none is j (λ a m e. let u : ◌≡◌ {A = ℕ} 1 0 = sym (p.information a m) ∙ ap (maskBit mask) e ∙ z in omega arith))
+      rule-kept mask is j (member-none is j (λ a m e. let u : ◌≡◌ {A = ℕ} 1 0 = sym (p.information a m) ∙ ap (mask_bit mask) e ∙ z in omega arith))
       ∙ rule-frozen mask j z
 
 -- one index to flip
-pub flips-one : {mask : List ℕ} {size i : ℕ} → i < size → maskBit mask i ≡ 1 → Flips mask size (i ∷ [])
-flips-one {mask} {size} {i} l e = record { some = omega arith; below = each (λ k. k < size) l; information = each (λ k. maskBit mask k ≡ 1) e; ascending = λ a b m n. absurd (omega arith) }
+pub flips_one : {mask : List ℕ} {size i : ℕ} → i < size → mask_bit mask i ≡ 1 → Flips mask size (i ∷ [])
+flips_one {mask} {size} {i} l e = record { some = omega arith; below = each (λ k. k < size) l; information = each (λ k. mask_bit mask k ≡ 1) e; ascending = λ a b m n. absurd (omega arith) }
   where
     each : (P : ℕ → Type 0) → P i → (a : ℕ) → a < 1 → P (get_or (i ∷ []) a 0)
     each P x zero m = x

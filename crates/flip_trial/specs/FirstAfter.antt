@@ -1,7 +1,7 @@
 -- Document 01, "Flip decoding, full and restarted": demand 3's "q is the first information index after that trial's flipped one, or N if
 -- none". `resume-at` of proofs/Restartable.antt proves it of `resumeAt`.
 use Rattle.std.specs.Prelude.{◌≡◌, ◌⊎◌, List, ℕ, ◌<◌, ◌≤◌}
-use Rattle.bits.specs.Mask.{maskBit}
+use Rattle.bits.specs.Mask.{mask_bit}
 
 -- the q of a trial whose flipped index is i, of N indices
 pub record FirstAfter (mask : List ℕ) (N i q : ℕ) : Type 0 where
@@ -10,6 +10,6 @@ pub record FirstAfter (mask : List ℕ) (N i q : ℕ) : Type 0 where
   -- q is at most N
   pub most : q ≤ N
   -- no information index lies between
-  pub between : (j : ℕ) → i < j → j < q → maskBit mask j ≡ 0
+  pub between : (j : ℕ) → i < j → j < q → mask_bit mask j ≡ 0
   -- q is N or an information index
-  pub ends : (q ≡ N) ⊎ (maskBit mask q ≡ 1)
+  pub ends : (q ≡ N) ⊎ (mask_bit mask q ≡ 1)

@@ -2,4 +2,4 @@ pub mod Trial
 pub mod Flips
 pub mod FirstAfter
 pub mod Claims
-pub mod Contracts
+pub mod Clauses

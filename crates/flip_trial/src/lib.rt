@@ -1,14 +1,14 @@
 // One trial of flip decoding: trial 1, a later trial, and its check.
 ghost use Rattle.std.specs.Prelude.{◌≡◌, ◌+◌, ◌-◌, ◌*◌, ◌≤◌, ◌<◌, length, take, get_or, replicate};
-ghost use Rattle.laws.specs.Contracts.{splice};
-ghost use Rattle.code.specs.Code.{codeLength, informationCount};
+ghost use Rattle.laws.specs.Clauses.{splice};
+ghost use Rattle.code.specs.Code.{code_length, information_count};
 ghost use Rattle.code.specs.Claims.{Coded};
-ghost use Rattle.channel.specs.Channel.{channelValues};
-ghost use Rattle.pass_ends.specs.Contracts.{arrays};
-ghost use Rattle.pass.specs.Contracts.{PassPre};
-ghost use Rattle.flip_trial.specs.Trial.{restartAt, forcedPrefix, messageIn, trialPasses};
-ghost use Rattle.flip_trial.specs.Claims.{halfAt};
-ghost use Rattle.flip_trial.specs.Contracts.{firstFrom, Below, setAll, trialBy, TrialPre, LaterTrialPre, TrialPost, FirstTrialPost};
+ghost use Rattle.channel.specs.Channel.{channel_values};
+ghost use Rattle.pass_ends.specs.Clauses.{arrays};
+ghost use Rattle.pass.specs.Clauses.{PassPre};
+ghost use Rattle.flip_trial.specs.Trial.{restart_at, forced_prefix, message_in, trial_passes};
+ghost use Rattle.flip_trial.specs.Claims.{half_at};
+ghost use Rattle.flip_trial.specs.Clauses.{first_from, Below, set_all, trial_by, TrialPre, LaterTrialPre, TrialPost, FirstTrialPost};
 
 use arrays::{BitArray, RuleArray, SIZE, ValueArray};
 use code::Code;
@@ -34,7 +34,7 @@ pub enum Restart {
 // The first information index from `from` on, or N.
 fn first_from(mask: &[u8], from: usize) -> usize
     requires { (8 * length mask.now ≤ SIZE) × (from ≤ 8 * length mask.now) }
-    ensures { result ≡ firstFrom mask.now from (8 * length mask.now - from) }
+    ensures { result ≡ first_from mask.now from (8 * length mask.now - from) }
 {
     let mut j = from;
     while j < 8 * mask.len() {
@@ -48,7 +48,7 @@ fn first_from(mask: &[u8], from: usize) -> usize
 
 // The index at which half restart resumes, of `size` indices.
 fn half_index(size: usize, lowest: usize) -> usize
-    ensures { result ≡ halfAt size lowest }
+    ensures { result ≡ half_at size lowest }
 {
     let middle = size / 2;
     if middle <= lowest { middle } else { 0 }
@@ -57,7 +57,7 @@ fn half_index(size: usize, lowest: usize) -> usize
 // The index at which a trial with this lowest flipped index resumes.
 pub fn restart_index(restart: Restart, mask: &[u8], lowest: usize) -> usize
     requires { (8 * length mask.now ≤ SIZE) × (lowest < 8 * length mask.now) }
-    ensures { result ≡ restartAt restart mask.now (8 * length mask.now) lowest }
+    ensures { result ≡ restart_at restart mask.now (8 * length mask.now) lowest }
 {
     match restart {
         Restart::Root => 0,
@@ -85,7 +85,7 @@ fn put_prefix(i: usize, q: usize, first: &BitArray, bits: &mut BitArray)
         × (get_or first.now i 0 < 2)
         × (length first.now ≡ SIZE)
         × (length bits.old ≡ SIZE) }
-    ensures { bits.new ≡ splice bits.old 0 (forcedPrefix first.now i q) }
+    ensures { bits.new ≡ splice bits.old 0 (forced_prefix first.now i q) }
 {
     if q <= i {
         arrays::copy(first, 0, bits, 0, q);
@@ -99,7 +99,7 @@ fn put_prefix(i: usize, q: usize, first: &BitArray, bits: &mut BitArray)
 // Sets the rule of each of some indices.
 fn set_rules(rule: u8, flips: &[usize], rules: &mut RuleArray)
     requires { Below SIZE flips.now × (length rules.old ≡ SIZE) }
-    ensures { rules.new ≡ setAll rules.old flips.now rule }
+    ensures { rules.new ≡ set_all rules.old flips.now rule }
 {
     let mut a = 0;
     while a < flips.len() {
@@ -125,9 +125,9 @@ pub fn later_trial(
     requires { TrialPre SIZE code channel.now rules.old (arrays work.old bits.old sums.old leaves.old)
         × LaterTrialPre SIZE code q flips.now first.now }
     ensures { TrialPost SIZE code q
-        (trialBy q first.now rules.old code (channelValues channel.now) flips.now)
+        (trial_by q first.now rules.old code (channel_values channel.now) flips.now)
         (arrays work.new bits.new sums.new leaves.new) result
-        × (rules.new ≡ setAll rules.old flips.now 1) }
+        × (rules.new ≡ set_all rules.old flips.now 1) }
 {
     put_prefix(flips[0], q, first, bits);
     set_rules(OPPOSITE, flips, rules);
@@ -148,7 +148,7 @@ pub fn first_trial(
     sums: &mut BitArray,
 ) -> Work
     requires { PassPre SIZE code 0 channel.now (arrays work.old first.old sums.old values.old)
-        × (8 * length mask.now ≡ codeLength code)
+        × (8 * length mask.now ≡ code_length code)
         × (length rules.old ≡ SIZE) }
     ensures { FirstTrialPost SIZE mask.now code channel.now rules.new
         (arrays work.new first.new sums.new values.new) result }
@@ -160,11 +160,11 @@ pub fn first_trial(
 // Takes a trial's message out of its bits, and says whether its payload has the check that follows it.
 pub fn trial_passes(mask: &[u8], code: Code, bits: &BitArray, message: &mut [u8]) -> bool
     requires { Coded mask.now code
-        × (codeLength code ≤ length bits.now)
-        × (codeLength code ≤ length message.old) }
-    ensures { (result ≡ trialPasses mask.now code (take (codeLength code) bits.now))
-        × (take (informationCount code) message.new
-        ≡ messageIn mask.now code (take (codeLength code) bits.now)) }
+        × (code_length code ≤ length bits.now)
+        × (code_length code ≤ length message.old) }
+    ensures { (result ≡ trial_passes mask.now code (take (code_length code) bits.now))
+        × (take (information_count code) message.new
+        ≡ message_in mask.now code (take (code_length code) bits.now)) }
 {
     placing::take_out(mask, bits, message);
     let size = code.k + code.r as usize;

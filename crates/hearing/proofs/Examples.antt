@@ -2,15 +2,15 @@
 use mathlib.Core.Path.{◌≡◌, refl}
 use mathlib.Core.List.{List, [], ◌∷◌}
 use Prim.Native.Nat.{ℕ}
-use Rattle.laws.specs.First.{firstWhere}
+use Rattle.laws.specs.First.{first_where}
 use Rattle.laws.specs.Table.{table}
 use Rattle.refusal.specs.declared.Refusal.TheVariants.{Alone, At}
 use Rattle.refusal.specs.declared.Judgement.TheVariants.{Fine, Refused}
 use Rattle.refusal.specs.Judge.{judge}
 use Rattle.code.specs.declared.Code.{Code}
-use Rattle.channel.specs.Channel.{channelValue}
-use Rattle.hearing.specs.Hearing.{clippedSums, addRefusals}
-use Rattle.hearing.specs.Contracts.{clippedSum}
+use Rattle.channel.specs.Channel.{channel_value}
+use Rattle.hearing.specs.Hearing.{clipped_sums, add_refusals}
+use Rattle.hearing.specs.Clauses.{clipped_sum}
 
 -- a code of eight values
 abbrev eight : Code
@@ -23,16 +23,16 @@ seven more = 0 ∷ 0 ∷ 0 ∷ 0 ∷ 0 ∷ 0 ∷ 0 ∷ more
 pub record HearingExamples : Type 0 where
   -- 20 + 20, −20 − 20, 5 − 7, −31 + 31, 31 + 0
   pub sums :
-      clippedSums 5 (20 ∷ 0xEC ∷ 5 ∷ 0xE1 ∷ 31 ∷ []) (20 ∷ 0xEC ∷ 0xF9 ∷ 31 ∷ 0 ∷ []) ≡ 31 ∷ 0xE1 ∷ 0xFE ∷ 0 ∷ 31 ∷ []
+      clipped_sums 5 (20 ∷ 0xEC ∷ 5 ∷ 0xE1 ∷ 31 ∷ []) (20 ∷ 0xEC ∷ 0xF9 ∷ 31 ∷ 0 ∷ []) ≡ 31 ∷ 0xE1 ∷ 0xFE ∷ 0 ∷ 31 ∷ []
   -- each sum is clipped, so the order matters: 20 + 20 − 31 is 0, and −31 + 20 + 20 is 9
-  pub each-clipped : (clippedSum (clippedSum 20 20) 0xE1 ≡ 0) × (clippedSum (clippedSum 0xE1 20) 20 ≡ 9)
+  pub each_clipped : (clipped_sum (clipped_sum 20 20) 0xE1 ≡ 0) × (clipped_sum (clipped_sum 0xE1 20) 20 ≡ 9)
   -- 12 and 13 come before 27; with a good vector 255 is refused and 254 is not
   pub refusals :
-      (judge (addRefusals eight 255 (seven [])) ≡ Refused (Alone 12))
-      × (judge (addRefusals eight 255 (seven (32 ∷ []))) ≡ Refused (At 13 7))
-      × (judge (addRefusals eight 255 (seven (31 ∷ []))) ≡ Refused (Alone 27))
-      × (judge (addRefusals eight 254 (seven (31 ∷ []))) ≡ Fine)
+      (judge (add_refusals eight 255 (seven [])) ≡ Refused (Alone 12))
+      × (judge (add_refusals eight 255 (seven (32 ∷ []))) ≡ Refused (At 13 7))
+      × (judge (add_refusals eight 255 (seven (31 ∷ []))) ≡ Refused (Alone 27))
+      × (judge (add_refusals eight 254 (seven (31 ∷ []))) ≡ Fine)
 
-pub hearing-examples : HearingExamples
-unfolding channelValue table firstWhere judge
-hearing-examples = record { sums = refl; each-clipped = (refl, refl); refusals = (refl, refl, refl, refl) }
+pub hearing_examples : HearingExamples
+unfolding channel_value table first_where judge
+hearing_examples = record { sums = refl; each_clipped = (refl, refl); refusals = (refl, refl, refl, refl) }

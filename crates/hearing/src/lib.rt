@@ -1,20 +1,20 @@
 // The combined values of a frame that is heard more than once: sums, the refusals of an add, and the test of values and count.
 ghost use Rattle.std.specs.Prelude.{◌≡◌, ◌^◌, ◌≤◌, eqb, nat_abs, length, take};
-ghost use Rattle.laws.specs.Contracts.{splice};
+ghost use Rattle.laws.specs.Clauses.{splice};
 ghost use Rattle.refusal.specs.Judge.{judge};
-ghost use Rattle.arrays.specs.Sizes.{largestN};
-ghost use Rattle.channel.specs.Channel.{channelValue, firstOutside};
-ghost use Rattle.hearing.specs.Hearing.{clippedSums, addRefusals, isHearing};
-ghost use Rattle.hearing.specs.Contracts.{clippedSum, zeroFrom, AddPre, hearingBy};
+ghost use Rattle.arrays.specs.Sizes.{largest_n};
+ghost use Rattle.channel.specs.Channel.{channel_value, first_outside};
+ghost use Rattle.hearing.specs.Hearing.{clipped_sums, add_refusals, is_hearing};
+ghost use Rattle.hearing.specs.Clauses.{clipped_sum, zero_from, AddPre, hearing_by};
 
 use code::Code;
 use refusal::{Judgement, Refusal};
 
 // The sum of two values, clamped to −31..31. The sum has 62 added while it is clamped, so that it is not negative.
 fn clipped_sum(a: u8, b: u8) -> u8
-    requires { (nat_abs (channelValue a) ≤ 31)
-        × (nat_abs (channelValue b) ≤ 31) }
-    ensures { result ≡ clippedSum a b }
+    requires { (nat_abs (channel_value a) ≤ 31)
+        × (nat_abs (channel_value b) ≤ 31) }
+    ensures { result ≡ clipped_sum a b }
 {
     let sum = arrays::clamped((a as u32 + b as u32 + 62) % 256, 31, 93);
     ((sum + 194) % 256) as u8
@@ -24,7 +24,7 @@ fn clipped_sum(a: u8, b: u8) -> u8
 pub fn add_values(values: &mut [u8], channel: &[u8])
     requires { AddPre values.old channel.now }
     ensures { values.new
-        ≡ splice values.old 0 (clippedSums (length channel.now) values.old channel.now) }
+        ≡ splice values.old 0 (clipped_sums (length channel.now) values.old channel.now) }
 {
     let mut i = 0;
     while i < channel.len() {
@@ -35,8 +35,8 @@ pub fn add_values(values: &mut [u8], channel: &[u8])
 
 // Refusals 12, 13 and 27.
 pub fn judge_add(code: Code, count: u8, channel: &[u8]) -> Judgement
-    requires { code.n ≤ largestN }
-    ensures { result ≡ judge (addRefusals code count channel.now) }
+    requires { code.n ≤ largest_n }
+    ensures { result ≡ judge (add_refusals code count channel.now) }
 {
     match channel::judge_channel(code, channel) {
         Judgement::Fine => {
@@ -51,8 +51,8 @@ pub fn judge_add(code: Code, count: u8, channel: &[u8]) -> Judgement
 
 // The index from which on all values of a hearing are zero.
 fn zero_from(code: Code, count: u8) -> usize
-    requires { code.n ≤ largestN }
-    ensures { result ≡ zeroFrom code count }
+    requires { code.n ≤ largest_n }
+    ensures { result ≡ zero_from code count }
 {
     if count == 0 {
         return 0;
@@ -63,16 +63,16 @@ fn zero_from(code: Code, count: u8) -> usize
 // Whether the first values lie in −31..31.
 fn are_inside(values: &[u8], size: usize) -> bool
     requires { size ≤ length values.now }
-    ensures { result ≡ eqb (firstOutside (take size values.now)) size }
+    ensures { result ≡ eqb (first_outside (take size values.now)) size }
 {
     channel::are_inside(&values[..size])
 }
 
 // Whether a list of adds and clears can leave a hearing with this count and these values.
 pub fn is_hearing(code: Code, count: u8, values: &[u8]) -> bool
-    requires { (code.n ≤ largestN)
-        × (length values.now ≡ 2 ^ largestN) }
-    ensures { result ≡ isHearing code (hearingBy count values.now) }
+    requires { (code.n ≤ largest_n)
+        × (length values.now ≡ 2 ^ largest_n) }
+    ensures { result ≡ is_hearing code (hearing_by count values.now) }
 {
     if arrays::is_zero_from(values, zero_from(code, count)) {
         return are_inside(values, 1usize << code.n);

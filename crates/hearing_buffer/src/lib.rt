@@ -1,11 +1,11 @@
 // A state in a buffer that the caller lends, and the operations on it.
 ghost use Rattle.std.specs.Prelude.{◌≡◌, ◌++◌, ◌-◌, ◌≤◌, length, take, replicate};
-ghost use Rattle.code.specs.Code.{longestDescription};
-ghost use Rattle.decoder.specs.Decoder.{single, decodedAs};
+ghost use Rattle.code.specs.Code.{longest_description};
+ghost use Rattle.decoder.specs.Decoder.{single, decoded_as};
 ghost use Rattle.hearing.specs.Hearing.{fresh, combined};
-ghost use Rattle.hearing_state.specs.State.{state_of, descriptionOf, codeOfState, decodedHeldWith};
-ghost use Rattle.hearing_state.specs.Contracts.{addedUnder};
-ghost use Rattle.hearing_buffer.specs.Lent.{hearingSize, bytes_of, stateIn, answer_in, openedIn, addedIn, clearedIn, fullIn, restartedIn};
+ghost use Rattle.hearing_state.specs.State.{state_of, description_of, code_of_state, decoded_held_with};
+ghost use Rattle.hearing_state.specs.Clauses.{added_under};
+ghost use Rattle.hearing_buffer.specs.Lent.{hearing_size, bytes_of, state_in, answer_in, opened_in, added_in, cleared_in, full_in, restarted_in};
 
 use arrays::SIZE;
 use code::{Code, Description, LONGEST};
@@ -44,8 +44,8 @@ fn clear_from(buffer: &mut [u8], start: usize)
 
 // Writes the description of a fresh hearing, and zeros after it.
 fn write_fresh(description: &[u8], buffer: &mut [u8])
-    requires { (length description.now ≤ longestDescription)
-        × (length buffer.old ≡ hearingSize) }
+    requires { (length description.now ≤ longest_description)
+        × (length buffer.old ≡ hearing_size) }
     ensures { buffer.new ≡ bytes_of (state_of description.now fresh) }
 {
     arrays::copy(description, 0, buffer, 0, description.len());
@@ -54,7 +54,7 @@ fn write_fresh(description: &[u8], buffer: &mut [u8])
 
 // Opens a hearing in a buffer.
 pub fn open(description: &[u8], buffer: &mut [u8]) -> Kept
-    ensures { (result, buffer.new) ≡ openedIn description.now buffer.old }
+    ensures { (result, buffer.new) ≡ opened_in description.now buffer.old }
 {
     if buffer.len() != HEARING_SIZE {
         return Kept::Refused(Refusal::Alone(40));
@@ -70,7 +70,7 @@ pub fn open(description: &[u8], buffer: &mut [u8]) -> Kept
 
 // The code of the state in a buffer, or refusal 40.
 pub fn code_in(buffer: &[u8]) -> Description
-    ensures { result ≡ codeOfState (stateIn buffer.now) }
+    ensures { result ≡ code_of_state (state_in buffer.now) }
 {
     if buffer.len() == HEARING_SIZE {
         return hearing_state::code_by(&buffer[..LONGEST], buffer[LONGEST], &buffer[VALUES_AT..]);
@@ -80,9 +80,9 @@ pub fn code_in(buffer: &[u8]) -> Description
 
 // Adds a vector under the code of the state, in place: no byte of the buffer changes but its values and count.
 fn add_under(code: Code, buffer: &mut [u8], channel: &[u8]) -> Kept
-    requires { codeOfState (stateIn buffer.old) ≡ Description.Accepted code }
+    requires { code_of_state (state_in buffer.old) ≡ Description.Accepted code }
     ensures { (result, buffer.new)
-        ≡ answer_in (addedUnder code (stateIn buffer.old) channel.now) buffer.old }
+        ≡ answer_in (added_under code (state_in buffer.old) channel.now) buffer.old }
 {
     let count = buffer[LONGEST];
     match hearing::judge_add(code, count, channel) {
@@ -97,7 +97,7 @@ fn add_under(code: Code, buffer: &mut [u8], channel: &[u8]) -> Kept
 
 // Adds a vector to the hearing in a buffer.
 pub fn add(buffer: &mut [u8], channel: &[u8]) -> Kept
-    ensures { (result, buffer.new) ≡ addedIn buffer.old channel.now }
+    ensures { (result, buffer.new) ≡ added_in buffer.old channel.now }
 {
     match code_in(buffer) {
         Description::Accepted(code) => add_under(code, buffer, channel),
@@ -107,7 +107,7 @@ pub fn add(buffer: &mut [u8], channel: &[u8]) -> Kept
 
 // Clears the hearing in a buffer: its count, and its values, which follow the count.
 pub fn clear(buffer: &mut [u8]) -> Kept
-    ensures { (result, buffer.new) ≡ clearedIn buffer.old }
+    ensures { (result, buffer.new) ≡ cleared_in buffer.old }
 {
     match code_in(buffer) {
         Description::Accepted(_) => {
@@ -120,10 +120,10 @@ pub fn clear(buffer: &mut [u8]) -> Kept
 
 // Decodes the values in a buffer under the code of its state.
 fn decode_under(terms: Terms, code: Code, buffer: &[u8], output: &mut [u8]) -> Decoded
-    requires { codeOfState (stateIn buffer.now) ≡ Description.Accepted code }
+    requires { code_of_state (state_in buffer.now) ≡ Description.Accepted code }
     ensures { (result, output.new)
-        ≡ decodedAs (single terms.limit) terms.restart (descriptionOf (stateIn buffer.now))
-        (combined code (stateIn buffer.now).hearing) output.old }
+        ≡ decoded_as (single terms.limit) terms.restart (description_of (state_in buffer.now))
+        (combined code (state_in buffer.now).hearing) output.old }
 {
     hearing_state::decode_values(
         terms,
@@ -136,7 +136,7 @@ fn decode_under(terms: Terms, code: Code, buffer: &[u8], output: &mut [u8]) -> D
 
 // Decodes the hearing in a buffer. Its values are not copied.
 fn decode(terms: Terms, buffer: &[u8], output: &mut [u8]) -> Decoded
-    ensures { (result, output.new) ≡ decodedHeldWith terms.restart (stateIn buffer.now) terms.limit output.old }
+    ensures { (result, output.new) ≡ decoded_held_with terms.restart (state_in buffer.now) terms.limit output.old }
 {
     match code_in(buffer) {
         Description::Accepted(code) => decode_under(terms, code, buffer, output),
@@ -146,7 +146,7 @@ fn decode(terms: Terms, buffer: &[u8], output: &mut [u8]) -> Decoded
 
 // Decodes the hearing in a buffer with each later trial repeated from the root.
 pub fn decode_full(buffer: &[u8], limit: u32, output: &mut [u8]) -> Decoded
-    ensures { (result, output.new) ≡ fullIn buffer.now limit output.old }
+    ensures { (result, output.new) ≡ full_in buffer.now limit output.old }
 {
     let full = Terms {
         restart: Restart::Root,
@@ -157,7 +157,7 @@ pub fn decode_full(buffer: &[u8], limit: u32, output: &mut [u8]) -> Decoded
 
 // Decodes the hearing in a buffer with each later trial resumed after its flipped index.
 pub fn decode_restarted(buffer: &[u8], limit: u32, output: &mut [u8]) -> Decoded
-    ensures { (result, output.new) ≡ restartedIn buffer.now limit output.old }
+    ensures { (result, output.new) ≡ restarted_in buffer.now limit output.old }
 {
     let restarted = Terms {
         restart: Restart::AfterFlip,

@@ -5,14 +5,14 @@ use native.Mathlib.Omega.{arith}
 use Rattle.refusal.specs.declared.Refusal.{Refusal}
 use Rattle.refusal.specs.declared.Judgement.{Judgement}
 use Rattle.refusal.specs.declared.Judgement.TheVariants.{Fine, Refused}
-use Rattle.refusal.specs.Judge.{judge, refusedOr}
+use Rattle.refusal.specs.Judge.{judge, refused_or}
 use Rattle.code.specs.declared.Code.{Code}
 use Rattle.code.specs.declared.Description.{Description}
 use Rattle.code.specs.declared.Description.TheVariants as Description
-use Rattle.code.specs.Description.{onDescription}
-use Rattle.hearing.specs.Hearing.{addRefusals}
-use Rattle.hearing_state.specs.State.{State, codeOfState, refusedIn}
-use Rattle.hearing_state.specs.Contracts.{addedUnder}
+use Rattle.code.specs.Description.{on_description}
+use Rattle.hearing.specs.Hearing.{add_refusals}
+use Rattle.hearing_state.specs.State.{State, code_of_state, refused_in}
+use Rattle.hearing_state.specs.Clauses.{added_under}
 use Rattle.hearing_demands.specs.Repeats.{add, clear}
 use Rattle.hearing_demands.specs.Claims.{RefusedKeeps}
 
@@ -21,19 +21,19 @@ module _ (s : State) (x : Refusal) where
   Keeps a = a.0 ≡ Refused x → a.1 ≡ s
 
   -- a call that is not refused does not answer with a refusal
-  fine-keeps : (after : State) → Keeps (Fine, after)
-  fine-keeps after e = let z : ◌≡◌ {A = ℕ} 0 1 = cc in absurd (omega arith)
+  fine_keeps : (after : State) → Keeps (Fine, after)
+  fine_keeps after e = let z : ◌≡◌ {A = ℕ} 0 1 = cc in absurd (omega arith)
 
-  judged-keeps : (j : Judgement) (after : State) → Keeps (refusedOr j (refusedIn s) (Fine, after))
-  unfolding refusedOr
-  judged-keeps Fine after e = fine-keeps after e
-  judged-keeps (Refused y) after e = refl
+  judged_keeps : (j : Judgement) (after : State) → Keeps (refused_or j (refused_in s) (Fine, after))
+  unfolding refused_or
+  judged_keeps Fine after e = fine_keeps after e
+  judged_keeps (Refused y) after e = refl
 
-  coded-keeps : (a : Description) (go : Code → Judgement × State) → ((c : Code) → Keeps (go c)) → Keeps (onDescription a (refusedIn s) go)
-  coded-keeps (Description.Accepted c) go keeps e = keeps c e
-  coded-keeps (Description.Refused y) go keeps e = refl
+  coded_keeps : (a : Description) (go : Code → Judgement × State) → ((c : Code) → Keeps (go c)) → Keeps (on_description a (refused_in s) go)
+  coded_keeps (Description.Accepted c) go keeps e = keeps c e
+  coded_keeps (Description.Refused y) go keeps e = refl
 
-pub refused-keeps : RefusedKeeps
-refused-keeps s (add channel) x =
-    coded-keeps s x (codeOfState s) (λ c. addedUnder c s channel) (λ c. judged-keeps s x (judge (addRefusals c s.hearing.count channel)) _)
-refused-keeps s clear x = coded-keeps s x (codeOfState s) _ (λ c. fine-keeps s x _)
+pub refused_keeps : RefusedKeeps
+refused_keeps s (add channel) x =
+    coded_keeps s x (code_of_state s) (λ c. added_under c s channel) (λ c. judged_keeps s x (judge (add_refusals c s.hearing.count channel)) _)
+refused_keeps s clear x = coded_keeps s x (code_of_state s) _ (λ c. fine_keeps s x _)

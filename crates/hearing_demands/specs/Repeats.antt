@@ -3,18 +3,18 @@
 use Rattle.std.specs.Prelude.{◌≡◌, List, [], ◌∷◌, ◌++◌, map, ℕ, ℤ, pos, ◌+ℤ◌, length, get_or, replicate}
 use Rattle.laws.specs.Table.{table}
 use Rattle.refusal.specs.declared.Judgement.{Judgement}
-use Rattle.refusal.specs.Judge.{judge, refusedOr}
+use Rattle.refusal.specs.Judge.{judge, refused_or}
 use Rattle.code.specs.declared.Code.{Code}
 use Rattle.code.specs.declared.Description.TheVariants as Description
-use Rattle.code.specs.Code.{codeLength}
+use Rattle.code.specs.Code.{code_length}
 use Rattle.code.specs.Description.{describe}
-use Rattle.channel.specs.Channel.{clip, channelValues}
+use Rattle.channel.specs.Channel.{clip, channel_values}
 use Rattle.flip_trial.specs.declared.Restart.{Restart}
-use Rattle.decoder.specs.Decoder.{single, decodedAs}
+use Rattle.decoder.specs.Decoder.{single, decoded_as}
 use Rattle.decoder_demands.specs.Agreement.{Agree}
-use Rattle.hearing.specs.Hearing.{combined, addRefusals}
-use Rattle.hearing_state.specs.State.{State, descriptionOf, codeOfState, opened, added, cleared, decodedHeldWith}
-use Rattle.hearing_buffer.specs.Lent.{hearingSize, stateIn, openedIn, addedIn, clearedIn}
+use Rattle.hearing.specs.Hearing.{combined, add_refusals}
+use Rattle.hearing_state.specs.State.{State, description_of, code_of_state, opened, added, cleared, decoded_held_with}
+use Rattle.hearing_buffer.specs.Lent.{hearing_size, state_in, opened_in, added_in, cleared_in}
 
 -- a call that may change a state
 pub data Call : Type 0 where
@@ -34,50 +34,50 @@ after s [] = s
 after s (call ∷ calls) = after (called s call).1 calls
 
 -- the vectors accepted since the last clear, `vectors` being those before the calls: 12, 13 and 27 do not apply to them
-abbrev pub acceptedIn : Code → List (List ℕ) → List Call → List (List ℕ)
-acceptedIn c vectors [] = vectors
-acceptedIn c vectors (add channel ∷ calls) =
-    acceptedIn c (refusedOr (judge (addRefusals c (length vectors) channel)) (λ x. vectors) (vectors ++ (channel ∷ []))) calls
-acceptedIn c vectors (clear ∷ calls) = acceptedIn c [] calls
+abbrev pub accepted_in : Code → List (List ℕ) → List Call → List (List ℕ)
+accepted_in c vectors [] = vectors
+accepted_in c vectors (add channel ∷ calls) =
+    accepted_in c (refused_or (judge (add_refusals c (length vectors) channel)) (λ x. vectors) (vectors ++ (channel ∷ []))) calls
+accepted_in c vectors (clear ∷ calls) = accepted_in c [] calls
 
 -- the fold of clipped sums, in whole numbers: each vector is added value by value, and each sum clipped to −31..31
-abbrev pub foldOfSums : ℕ → List ℤ → List (List ℤ) → List ℤ
-foldOfSums size sums [] = sums
-foldOfSums size sums (v ∷ vs) = foldOfSums size (table (λ i. clip (get_or sums i (pos 0) +ℤ get_or v i (pos 0))) size) vs
+abbrev pub fold_of_sums : ℕ → List ℤ → List (List ℤ) → List ℤ
+fold_of_sums size sums [] = sums
+fold_of_sums size sums (v ∷ vs) = fold_of_sums size (table (λ i. clip (get_or sums i (pos 0) +ℤ get_or v i (pos 0))) size) vs
 
 -- the state s, of a code c with description d, holds these vectors
 pub record Holds (d : List ℕ) (c : Code) (s : State) (vectors : List (List ℕ)) : Type 0 where
   -- it holds the description
-  pub description-is : descriptionOf s ≡ d
+  pub description_is : description_of s ≡ d
   -- it is a state of that code: no later call is refused as 40
-  pub code_is : codeOfState s ≡ Description.Accepted c
+  pub code_is : code_of_state s ≡ Description.Accepted c
   -- the count is the number of the vectors
-  pub count-is : s.hearing.count ≡ length vectors
+  pub count_is : s.hearing.count ≡ length vectors
   -- the held values are the fold of clipped sums
-  pub values-are : channelValues (combined c s.hearing) ≡ foldOfSums (codeLength c) (replicate (codeLength c) (pos 0)) (map channelValues vectors)
+  pub values_are : channel_values (combined c s.hearing) ≡ fold_of_sums (code_length c) (replicate (code_length c) (pos 0)) (map channel_values vectors)
   -- decoding is that of the held values, at every restart
-  pub decoded-is : (restart : Restart) (limit : ℕ) (output : List ℕ)
-      → decodedHeldWith restart s limit output ≡ decodedAs (single limit) restart d (combined c s.hearing) output
+  pub decoded_is : (restart : Restart) (limit : ℕ) (output : List ℕ)
+      → decoded_held_with restart s limit output ≡ decoded_as (single limit) restart d (combined c s.hearing) output
   -- "Restart and full decoding must agree on the combined vector", with every T and outputs of any size
   pub agree : (limit size : ℕ) → Agree (single limit) d (combined c s.hearing) size
 
 -- any code, and any list of adds and clears from a fresh hearing
 abbrev pub HeldAfter : Type 0
-HeldAfter = (d : List ℕ) (c : Code) (calls : List Call) → describe d ≡ Description.Accepted c → Holds d c (after (opened d).1 calls) (acceptedIn c [] calls)
+HeldAfter = (d : List ℕ) (c : Code) (calls : List Call) → describe d ≡ Description.Accepted c → Holds d c (after (opened d).1 calls) (accepted_in c [] calls)
 
 -- for C: what a call leaves in a buffer
-abbrev pub calledIn : List ℕ → Call → List ℕ
-calledIn b (add channel) = (addedIn b channel).1
-calledIn b clear = (clearedIn b).1
+abbrev pub called_in : List ℕ → Call → List ℕ
+called_in b (add channel) = (added_in b channel).1
+called_in b clear = (cleared_in b).1
 
 -- for C: what a list of calls leaves in a buffer
-abbrev pub bufferAfter : List ℕ → List Call → List ℕ
-bufferAfter b [] = b
-bufferAfter b (call ∷ calls) = bufferAfter (calledIn b call) calls
+abbrev pub buffer_after : List ℕ → List Call → List ℕ
+buffer_after b [] = b
+buffer_after b (call ∷ calls) = buffer_after (called_in b call) calls
 
 -- In any buffer of the right size in which a hearing is opened, any list of adds and clears leaves the state of `after`, so `HeldAfter` says
 -- what it holds: `buffer-after` of proofs/Buffer.antt.
 abbrev pub BufferAfter : Type 0
 BufferAfter =
     (d b : List ℕ) (c : Code) (calls : List Call)
-    → describe d ≡ Description.Accepted c → length b ≡ hearingSize → stateIn (bufferAfter (openedIn d b).1 calls) ≡ after (opened d).1 calls
+    → describe d ≡ Description.Accepted c → length b ≡ hearing_size → state_in (buffer_after (opened_in d b).1 calls) ≡ after (opened d).1 calls

@@ -5,66 +5,66 @@ use Prim.Native.Nat.{ℕ}
 use Rattle.refusal.specs.declared.Refusal.{Refusal}
 use Rattle.refusal.specs.declared.Judgement.{Judgement}
 use Rattle.refusal.specs.declared.Judgement.TheVariants.{Fine, Refused}
-use Rattle.refusal.specs.Judge.{judge, refusedOr}
+use Rattle.refusal.specs.Judge.{judge, refused_or}
 use Rattle.code.specs.declared.Code.{Code}
 use Rattle.code.specs.declared.Description.{Description}
 use Rattle.code.specs.declared.Description.TheVariants as Description
-use Rattle.code.specs.Description.{onDescription}
+use Rattle.code.specs.Description.{on_description}
 use Rattle.flip_trial.specs.declared.Restart.TheVariants.{AfterFlip}
 use Rattle.flip_run.specs.declared.Decoded.{Decoded}
 use Rattle.flip_run.specs.declared.Decoded.TheVariants as decode
-use Rattle.hearing.specs.Hearing.{addedTo, addRefusals}
-use Rattle.hearing_state.specs.State.{State, codeOfState, refusedIn, withHearing, decodedHeldWith}
-use Rattle.hearing_state.specs.Contracts.{addedUnder}
-use Rattle.hearing_buffer.specs.Lent.{stateIn, answer_in}
-use Rattle.hearing_buffer.proofs.Bytes.{read-written}
-use Rattle.hearing_preview.specs.Preview.{thenRestartedIn, previewedIn}
-use Rattle.hearing_preview.specs.Contracts.{MayAdd}
+use Rattle.hearing.specs.Hearing.{added_to, add_refusals}
+use Rattle.hearing_state.specs.State.{State, code_of_state, refused_in, with_hearing, decoded_held_with}
+use Rattle.hearing_state.specs.Clauses.{added_under}
+use Rattle.hearing_buffer.specs.Lent.{state_in, answer_in}
+use Rattle.hearing_buffer.proofs.Bytes.{read_written}
+use Rattle.hearing_preview.specs.Preview.{then_restarted_in, previewed_in}
+use Rattle.hearing_preview.specs.Clauses.{MayAdd}
 use Rattle.hearing_preview.specs.Claims.{OnACopy}
 use Rattle.hearing_preview.proofs.Sums as sums
 
 module _ (b channel : List ℕ) (limit : ℕ) (output : List ℕ) where
   abbrev s : State
-  s = stateIn b
+  s = state_in b
 
   -- what an add leaves in the copy, and what it answers, decode alike
   abbrev Alike : Judgement × State → Type 0
-  Alike a = thenRestartedIn (answer_in a b) limit output ≡ refusedOr a.0 (λ x. (decode.Refused x, output)) (decodedHeldWith AfterFlip a.1 limit output)
+  Alike a = then_restarted_in (answer_in a b) limit output ≡ refused_or a.0 (λ x. (decode.Refused x, output)) (decoded_held_with AfterFlip a.1 limit output)
 
-  judged : (c : Code) → codeOfState s ≡ Description.Accepted c → (j : Judgement) → judge (addRefusals c s.hearing.count channel) ≡ j
-      → Alike (refusedOr j (refusedIn s) (Fine, withHearing s (addedTo c s.hearing channel)))
-  unfolding refusedOr
+  judged : (c : Code) → code_of_state s ≡ Description.Accepted c → (j : Judgement) → judge (add_refusals c s.hearing.count channel) ≡ j
+      → Alike (refused_or j (refused_in s) (Fine, with_hearing s (added_to c s.hearing channel)))
+  unfolding refused_or
   judged c e Fine f =
       let may : MayAdd c b channel = record { code_is = e; fine = f } in
-      let after : State = withHearing s (addedTo c s.hearing channel) in
-      ap (λ (t : State). decodedHeldWith AfterFlip t limit output) (read-written after (sums.description-long c b channel may) (sums.sums-long c b channel may))
+      let after : State = with_hearing s (added_to c s.hearing channel) in
+      ap (λ (t : State). decoded_held_with AfterFlip t limit output) (read_written after (sums.description-long c b channel may) (sums.sums-long c b channel may))
   judged c e (Refused x) f = refl
 
-  coded : (a : Description) → codeOfState s ≡ a → Alike (onDescription a (refusedIn s) (λ c. addedUnder c s channel))
-  unfolding refusedOr
-  coded (Description.Accepted c) e = judged c e (judge (addRefusals c s.hearing.count channel)) refl
+  coded : (a : Description) → code_of_state s ≡ a → Alike (on_description a (refused_in s) (λ c. added_under c s channel))
+  unfolding refused_or
+  coded (Description.Accepted c) e = judged c e (judge (add_refusals c s.hearing.count channel)) refl
   coded (Description.Refused x) e = refl
 
   -- the preview in the buffer, by what is judged: no code, or under its code the refusals of the add
-  abbrev in-copy : Description → Decoded × List ℕ
-  in-copy a = thenRestartedIn (answer_in (onDescription a (refusedIn s) (λ c. addedUnder c s channel)) b) limit output
+  abbrev in_copy : Description → Decoded × List ℕ
+  in_copy a = then_restarted_in (answer_in (on_description a (refused_in s) (λ c. added_under c s channel)) b) limit output
 
   abbrev under : Code → Judgement → Decoded × List ℕ
-  under c j = thenRestartedIn (answer_in (refusedOr j (refusedIn s) (Fine, withHearing s (addedTo c s.hearing channel))) b) limit output
+  under c j = then_restarted_in (answer_in (refused_or j (refused_in s) (Fine, with_hearing s (added_to c s.hearing channel))) b) limit output
 
-  pub preview-no-code : (x : Refusal) → codeOfState s ≡ Description.Refused x → previewedIn b channel limit output ≡ (decode.Refused x, output)
-  unfolding refusedOr
-  preview-no-code x e = ap in-copy e
+  pub preview_no_code : (x : Refusal) → code_of_state s ≡ Description.Refused x → previewed_in b channel limit output ≡ (decode.Refused x, output)
+  unfolding refused_or
+  preview_no_code x e = ap in_copy e
 
-  pub preview-refused : (c : Code) (x : Refusal) → codeOfState s ≡ Description.Accepted c → judge (addRefusals c s.hearing.count channel) ≡ Refused x
-      → previewedIn b channel limit output ≡ (decode.Refused x, output)
-  unfolding refusedOr
-  preview-refused c x e f = ap in-copy e ∙ ap (under c) f
+  pub preview_refused : (c : Code) (x : Refusal) → code_of_state s ≡ Description.Accepted c → judge (add_refusals c s.hearing.count channel) ≡ Refused x
+      → previewed_in b channel limit output ≡ (decode.Refused x, output)
+  unfolding refused_or
+  preview_refused c x e f = ap in_copy e ∙ ap (under c) f
 
-  pub preview-fine : (c : Code) → codeOfState s ≡ Description.Accepted c → judge (addRefusals c s.hearing.count channel) ≡ Fine
-      → previewedIn b channel limit output ≡ decodedHeldWith AfterFlip (withHearing s (addedTo c s.hearing channel)) limit output
-  unfolding refusedOr
-  preview-fine c e f = ap in-copy e ∙ ap (under c) f ∙ judged c e Fine f
+  pub preview_fine : (c : Code) → code_of_state s ≡ Description.Accepted c → judge (add_refusals c s.hearing.count channel) ≡ Fine
+      → previewed_in b channel limit output ≡ decoded_held_with AfterFlip (with_hearing s (added_to c s.hearing channel)) limit output
+  unfolding refused_or
+  preview_fine c e f = ap in_copy e ∙ ap (under c) f ∙ judged c e Fine f
 
-pub on-a-copy : OnACopy
-on-a-copy b channel limit output = coded b channel limit output (codeOfState (stateIn b)) refl
+pub on_a_copy : OnACopy
+on_a_copy b channel limit output = coded b channel limit output (code_of_state (state_in b)) refl

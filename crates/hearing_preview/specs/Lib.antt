@@ -1,3 +1,3 @@
 pub mod Preview
-pub mod Contracts
+pub mod Clauses
 pub mod Claims

@@ -6,13 +6,13 @@ use Rattle.flip_run.specs.declared.Decoded.{Decoded}
 use Rattle.flip_run.specs.declared.Decoded.TheVariants.{Refused}
 use Rattle.hearing_buffer.specs.declared.Kept.{Kept}
 use Rattle.hearing_buffer.specs.declared.Kept.TheVariants as keep
-use Rattle.hearing_buffer.specs.Lent.{addedIn, restartedIn}
+use Rattle.hearing_buffer.specs.Lent.{added_in, restarted_in}
 
 -- what follows an add to a copy of a buffer, by its answer and the bytes that it leaves in the copy
-abbrev pub thenRestartedIn : Kept × List ℕ → ℕ → List ℕ → Decoded × List ℕ
-thenRestartedIn (keep.Done count, copy) limit output = restartedIn copy limit output
-thenRestartedIn (keep.Refused x, copy) limit output = (Refused x, output)
+abbrev pub then_restarted_in : Kept × List ℕ → ℕ → List ℕ → Decoded × List ℕ
+then_restarted_in (keep.Done count, copy) limit output = restarted_in copy limit output
+then_restarted_in (keep.Refused x, copy) limit output = (Refused x, output)
 
 -- the preview of an add to the hearing in a buffer
-abbrev pub previewedIn : List ℕ → List ℕ → ℕ → List ℕ → Decoded × List ℕ
-previewedIn b channel limit output = thenRestartedIn (addedIn b channel) limit output
+abbrev pub previewed_in : List ℕ → List ℕ → ℕ → List ℕ → Decoded × List ℕ
+previewed_in b channel limit output = then_restarted_in (added_in b channel) limit output

@@ -1,10 +1,10 @@
 // A vector that is tried before it is kept: an add to a copy of the values in a buffer, and restarted decoding of the sums.
 ghost use Rattle.std.specs.Prelude.{◌≡◌};
-ghost use Rattle.hearing.specs.Hearing.{addedTo};
-ghost use Rattle.hearing_state.specs.State.{codeOfState, withHearing, decodedHeldWith};
-ghost use Rattle.hearing_buffer.specs.Lent.{stateIn};
-ghost use Rattle.hearing_preview.specs.Preview.{previewedIn};
-ghost use Rattle.hearing_preview.specs.Contracts.{MayAdd};
+ghost use Rattle.hearing.specs.Hearing.{added_to};
+ghost use Rattle.hearing_state.specs.State.{code_of_state, with_hearing, decoded_held_with};
+ghost use Rattle.hearing_buffer.specs.Lent.{state_in};
+ghost use Rattle.hearing_preview.specs.Preview.{previewed_in};
+ghost use Rattle.hearing_preview.specs.Clauses.{MayAdd};
 
 use arrays::SIZE;
 use code::{Code, Description, LONGEST};
@@ -17,8 +17,8 @@ use refusal::Judgement;
 fn decode_sums(code: Code, buffer: &[u8], channel: &[u8], limit: u32, output: &mut [u8]) -> Decoded
     requires { MayAdd code buffer.now channel.now }
     ensures { (result, output.new)
-        ≡ decodedHeldWith Restart.AfterFlip (withHearing (stateIn buffer.now)
-        (addedTo code (stateIn buffer.now).hearing channel.now)) limit output.old }
+        ≡ decoded_held_with Restart.AfterFlip (with_hearing (state_in buffer.now)
+        (added_to code (state_in buffer.now).hearing channel.now)) limit output.old }
 {
     let restarted = Terms {
         restart: Restart::AfterFlip,
@@ -38,9 +38,9 @@ fn preview_under(
     limit: u32,
     output: &mut [u8],
 ) -> Decoded
-    requires { codeOfState (stateIn buffer.now) ≡ Description.Accepted code }
+    requires { code_of_state (state_in buffer.now) ≡ Description.Accepted code }
     ensures { (result, output.new)
-        ≡ previewedIn buffer.now channel.now limit output.old }
+        ≡ previewed_in buffer.now channel.now limit output.old }
 {
     match hearing::judge_add(code, buffer[LONGEST], channel) {
         Judgement::Fine => decode_sums(code, buffer, channel, limit, output),
@@ -50,7 +50,7 @@ fn preview_under(
 
 // Previews an add to the hearing in a buffer, which is only read and holds afterwards what it held.
 pub fn preview_in(buffer: &[u8], channel: &[u8], limit: u32, output: &mut [u8]) -> Decoded
-    ensures { ((result, output.new) ≡ previewedIn buffer.now channel.now limit output.old)
+    ensures { ((result, output.new) ≡ previewed_in buffer.now channel.now limit output.old)
         × (buffer.now ≡ buffer.now) }
 {
     match hearing_buffer::code_in(buffer) {

@@ -3,18 +3,18 @@ use mathlib.Core.Path.{◌≡◌, ap}
 use mathlib.Core.List.{[], ◌∷◌}
 use Prim.Native.Nat.{◌^◌}
 use lib.ListN.{replicate}
-use Rattle.laws.specs.First.{firstWhere}
+use Rattle.laws.specs.First.{first_where}
 use Rattle.refusal.specs.declared.Refusal.TheVariants.{Alone, At}
 use Rattle.refusal.specs.declared.Judgement.TheVariants.{Fine, Refused}
-use Rattle.refusal.specs.Judge.{judge, refusedOr}
-use Rattle.arrays.specs.Sizes.{largestN}
+use Rattle.refusal.specs.Judge.{judge, refused_or}
+use Rattle.arrays.specs.Sizes.{largest_n}
 use Rattle.code.specs.declared.Code.{Code}
 use Rattle.code.specs.declared.Description.{Description}
 use Rattle.code.specs.declared.Description.TheVariants.{Accepted}
-use Rattle.code.specs.Description.{onDescription}
-use Rattle.channel.specs.Channel.{channelValue}
+use Rattle.code.specs.Description.{on_description}
+use Rattle.channel.specs.Channel.{channel_value}
 use Rattle.hearing.specs.Hearing.{fresh}
-use Rattle.hearing_state.specs.State.{State, codeOfState, refusedIn, withHearing, added, cleared}
+use Rattle.hearing_state.specs.State.{State, code_of_state, refused_in, with_hearing, added, cleared}
 
 -- a code of eight values
 abbrev eight : Code
@@ -22,17 +22,17 @@ eight = record { n = 3; r = 1; polynomial = 1; start = 0; k = 3 }
 
 pub record StateExamples (s : State) : Type 0 where
   -- under that code a vector that is too short changes nothing
-  pub short : codeOfState s ≡ Accepted eight → added s (1 ∷ []) ≡ (Refused (Alone 12), s)
+  pub short : code_of_state s ≡ Accepted eight → added s (1 ∷ []) ≡ (Refused (Alone 12), s)
   -- nor does one with a value out of range
-  pub outside : codeOfState s ≡ Accepted eight → added s (1 ∷ 32 ∷ 0 ∷ 0 ∷ 0 ∷ 0 ∷ 0 ∷ 0 ∷ []) ≡ (Refused (At 13 1), s)
+  pub outside : code_of_state s ≡ Accepted eight → added s (1 ∷ 32 ∷ 0 ∷ 0 ∷ 0 ∷ 0 ∷ 0 ∷ 0 ∷ []) ≡ (Refused (At 13 1), s)
   -- a clear leaves the description, zeros and count 0
-  pub clear : (c : Code) → codeOfState s ≡ Accepted c
-      → cleared s ≡ (Fine, record { description = s.description; hearing = record { values = replicate (2 ^ largestN) 0; count = 0 } })
+  pub clear : (c : Code) → code_of_state s ≡ Accepted c
+      → cleared s ≡ (Fine, record { description = s.description; hearing = record { values = replicate (2 ^ largest_n) 0; count = 0 } })
 
-pub state-examples : (s : State) → StateExamples s
-unfolding firstWhere judge refusedOr channelValue
-state-examples s = record {
+pub state_examples : (s : State) → StateExamples s
+unfolding first_where judge refused_or channel_value
+state_examples s = record {
   short = λ e. rw e;
   outside = λ e. rw e;
-  clear = λ c e. ap (λ (a : Description). onDescription a (refusedIn s) (λ c. (Fine, withHearing s fresh))) e;
+  clear = λ c e. ap (λ (a : Description). on_description a (refused_in s) (λ c. (Fine, with_hearing s fresh))) e;
 }

@@ -5,19 +5,19 @@ use Rattle.refusal.specs.declared.Refusal.{Refusal}
 use Rattle.refusal.specs.declared.Refusal.TheVariants.{Alone}
 use Rattle.refusal.specs.declared.Judgement.{Judgement}
 use Rattle.refusal.specs.declared.Judgement.TheVariants as judgement
-use Rattle.refusal.specs.Judge.{judge, refusedOr}
-use Rattle.arrays.specs.Padded.{padded, allZero}
+use Rattle.refusal.specs.Judge.{judge, refused_or}
+use Rattle.arrays.specs.Padded.{padded, all_zero}
 use Rattle.code.specs.declared.Code.{Code}
 use Rattle.code.specs.declared.Description.{Description}
 use Rattle.code.specs.declared.Description.TheVariants.{Accepted, Refused}
-use Rattle.code.specs.Code.{longestDescription}
-use Rattle.code.specs.Description.{describe, onDescription}
-use Rattle.code.specs.Record.{recordIn}
+use Rattle.code.specs.Code.{longest_description}
+use Rattle.code.specs.Description.{describe, on_description}
+use Rattle.code.specs.Record.{record_in}
 use Rattle.flip_trial.specs.declared.Restart.{Restart}
 use Rattle.flip_run.specs.declared.Decoded.{Decoded}
 use Rattle.flip_run.specs.declared.Decoded.TheVariants as decode
-use Rattle.decoder.specs.Decoder.{single, decodedAs}
-use Rattle.hearing.specs.Hearing.{Hearing, fresh, combined, addedTo, addRefusals, isHearing}
+use Rattle.decoder.specs.Decoder.{single, decoded_as}
+use Rattle.hearing.specs.Hearing.{Hearing, fresh, combined, added_to, add_refusals, is_hearing}
 
 -- what is kept from one call to the next
 pub record State : Type 0 where
@@ -28,49 +28,49 @@ pub record State : Type 0 where
 
 -- a state by its description, which zeros follow, and its hearing
 abbrev pub state_of : List ℕ → Hearing → State
-state_of d h = record { description = padded longestDescription d; hearing = h }
+state_of d h = record { description = padded longest_description d; hearing = h }
 
 -- no state: it has no description, so every call refuses it as 40
-abbrev pub noState : State
-noState = state_of [] fresh
+abbrev pub no_state : State
+no_state = state_of [] fresh
 
 -- the description that a state holds
-abbrev pub descriptionOf : State → List ℕ
-descriptionOf s = recordIn s.description
+abbrev pub description_of : State → List ℕ
+description_of s = record_in s.description
 
 -- whether a list of calls can leave this state: only zeros after its description, and a hearing that is possible under code c
-abbrev pub isState : Code → State → Bool
-isState c s = allZero (drop (length (descriptionOf s)) s.description) && isHearing c s.hearing
+abbrev pub is_state : Code → State → Bool
+is_state c s = all_zero (drop (length (description_of s)) s.description) && is_hearing c s.hearing
 
 -- the code of a state, or refusal 40, which is this codec's own: no list of calls leaves the state
-abbrev pub codeOfState : State → Description
-codeOfState s =
-    onDescription (describe (descriptionOf s)) (λ x. Refused (Alone 40)) (λ c. cond (isState c s) (Accepted c) (Refused (Alone 40)))
+abbrev pub code_of_state : State → Description
+code_of_state s =
+    on_description (describe (description_of s)) (λ x. Refused (Alone 40)) (λ c. cond (is_state c s) (Accepted c) (Refused (Alone 40)))
 
 -- a refused call answers with the refusal, and changes nothing
-abbrev pub refusedIn : State → Refusal → Judgement × State
-refusedIn s x = (judgement.Refused x, s)
+abbrev pub refused_in : State → Refusal → Judgement × State
+refused_in s x = (judgement.Refused x, s)
 
 -- a state with another hearing in the place of its hearing
-abbrev pub withHearing : State → Hearing → State
-withHearing s h = record { description = s.description; hearing = h }
+abbrev pub with_hearing : State → Hearing → State
+with_hearing s h = record { description = s.description; hearing = h }
 
 -- open: a fresh hearing for a code; the refusals of its description come first
 abbrev pub opened : List ℕ → Judgement × State
-opened d = onDescription (describe d) (refusedIn noState) (λ c. (judgement.Fine, state_of d fresh))
+opened d = on_description (describe d) (refused_in no_state) (λ c. (judgement.Fine, state_of d fresh))
 
 -- add: refusal 40 first; then 12, 13 and 27; then the sums
 abbrev pub added : State → List ℕ → Judgement × State
 added s channel =
-    onDescription (codeOfState s) (refusedIn s)
-    (λ c. refusedOr (judge (addRefusals c s.hearing.count channel)) (refusedIn s) (judgement.Fine, withHearing s (addedTo c s.hearing channel)))
+    on_description (code_of_state s) (refused_in s)
+    (λ c. refused_or (judge (add_refusals c s.hearing.count channel)) (refused_in s) (judgement.Fine, with_hearing s (added_to c s.hearing channel)))
 
 -- clear: "Clearing returns zeros and count 0."
 abbrev pub cleared : State → Judgement × State
-cleared s = onDescription (codeOfState s) (refusedIn s) (λ c. (judgement.Fine, withHearing s fresh))
+cleared s = on_description (code_of_state s) (refused_in s) (λ c. (judgement.Fine, with_hearing s fresh))
 
 -- "decoding uses the held values": the decoder's answer to the held description and values
-abbrev pub decodedHeldWith : Restart → State → ℕ → List ℕ → Decoded × List ℕ
-decodedHeldWith restart s limit output =
-    onDescription (codeOfState s) (λ x. (decode.Refused x, output))
-    (λ c. decodedAs (single limit) restart (descriptionOf s) (combined c s.hearing) output)
+abbrev pub decoded_held_with : Restart → State → ℕ → List ℕ → Decoded × List ℕ
+decoded_held_with restart s limit output =
+    on_description (code_of_state s) (λ x. (decode.Refused x, output))
+    (λ c. decoded_as (single limit) restart (description_of s) (combined c s.hearing) output)

@@ -1,13 +1,13 @@
 // What is kept of a frame that is heard more than once, by its parts: the code of a state, and decoding of its values.
 ghost use Rattle.std.specs.Prelude.{◌≡◌, ◌≤◌, length, take, drop};
-ghost use Rattle.arrays.specs.Sizes.{largestN};
-ghost use Rattle.arrays.specs.Padded.{allZero};
-ghost use Rattle.code.specs.Code.{codeLength};
+ghost use Rattle.arrays.specs.Sizes.{largest_n};
+ghost use Rattle.arrays.specs.Padded.{all_zero};
+ghost use Rattle.code.specs.Code.{code_length};
 ghost use Rattle.code.specs.Description.{describe};
-ghost use Rattle.code.specs.Record.{recordIn};
-ghost use Rattle.decoder.specs.Decoder.{single, decodedAs};
-ghost use Rattle.hearing_state.specs.State.{isState, codeOfState};
-ghost use Rattle.hearing_state.specs.Contracts.{stateBy, StatePre, DecodePre};
+ghost use Rattle.code.specs.Record.{record_in};
+ghost use Rattle.decoder.specs.Decoder.{single, decoded_as};
+ghost use Rattle.hearing_state.specs.State.{is_state, code_of_state};
+ghost use Rattle.hearing_state.specs.Clauses.{state_by, StatePre, DecodePre};
 
 use code::{Code, Description};
 use flip_run::{Decoded, Terms};
@@ -16,7 +16,7 @@ use refusal::Refusal;
 // The description at the start of these bytes.
 fn described_in(bytes: &[u8]) -> Description
     requires { 2 ≤ length bytes.now }
-    ensures { result ≡ describe (recordIn bytes.now) }
+    ensures { result ≡ describe (record_in bytes.now) }
 {
     code::read_description(code::record_in(bytes))
 }
@@ -24,16 +24,16 @@ fn described_in(bytes: &[u8]) -> Description
 // Whether only zeros follow the description at the start of these bytes.
 fn ends_in_zeros(bytes: &[u8]) -> bool
     requires { 2 ≤ length bytes.now }
-    ensures { result ≡ allZero (drop (length (recordIn bytes.now)) bytes.now) }
+    ensures { result ≡ all_zero (drop (length (record_in bytes.now)) bytes.now) }
 {
     arrays::is_zero_from(bytes, code::record_in(bytes).len())
 }
 
 // Whether a list of calls can leave a state with these parts, under the code that it describes.
 fn is_state(code: Code, description: &[u8], count: u8, values: &[u8]) -> bool
-    requires { (code.n ≤ largestN)
+    requires { (code.n ≤ largest_n)
         × StatePre description.now values.now }
-    ensures { result ≡ isState code (stateBy description.now count values.now) }
+    ensures { result ≡ is_state code (state_by description.now count values.now) }
 {
     if ends_in_zeros(description) {
         return hearing::is_hearing(code, count, values);
@@ -44,7 +44,7 @@ fn is_state(code: Code, description: &[u8], count: u8, values: &[u8]) -> bool
 // The code of a state given by its parts, or refusal 40.
 pub fn code_by(description: &[u8], count: u8, values: &[u8]) -> Description
     requires { StatePre description.now values.now }
-    ensures { result ≡ codeOfState (stateBy description.now count values.now) }
+    ensures { result ≡ code_of_state (state_by description.now count values.now) }
 {
     match described_in(description) {
         Description::Accepted(code) => {
@@ -67,8 +67,8 @@ pub fn decode_values(
 ) -> Decoded
     requires { DecodePre code bytes.now values.now }
     ensures { (result, output.new)
-        ≡ decodedAs (single terms.limit) terms.restart (recordIn bytes.now)
-        (take (codeLength code) values.now) output.old }
+        ≡ decoded_as (single terms.limit) terms.restart (record_in bytes.now)
+        (take (code_length code) values.now) output.old }
 {
     let size = 1usize << code.n;
     flip_decoder::decode_by(

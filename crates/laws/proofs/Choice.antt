@@ -9,24 +9,24 @@ cond_ind P true x y f g = f tt
 cond_ind P false x y f g = g tt
 
 -- if `a && b` holds, both do
-pub and-true : (a b : Bool) → (a && b) ≡ true → (a ≡ true) × (b ≡ true)
-and-true true b e = (refl, e)
-and-true false b e = absurd (true≢false (sym e))
+pub and_true : (a b : Bool) → (a && b) ≡ true → (a ≡ true) × (b ≡ true)
+and_true true b e = (refl, e)
+and_true false b e = absurd (true≢false (sym e))
 
 -- if `a || b` does not hold, neither does
-pub or-false : (a b : Bool) → (a || b) ≡ false → (a ≡ false) × (b ≡ false)
-or-false false b e = (refl, e)
-or-false true b e = absurd (true≢false e)
+pub or_false : (a b : Bool) → (a || b) ≡ false → (a ≡ false) × (b ≡ false)
+or_false false b e = (refl, e)
+or_false true b e = absurd (true≢false e)
 
 -- `a || b` is a if a holds
-pub or-first : (a b : Bool) → a ≡ true → a ≡ (a || b)
-or-first true b e = refl
-or-first false b e = absurd (true≢false (sym e))
+pub or_first : (a b : Bool) → a ≡ true → a ≡ (a || b)
+or_first true b e = refl
+or_first false b e = absurd (true≢false (sym e))
 
 -- `a || b` is b if a does not hold
-pub or-second : (a b : Bool) → a ≡ false → b ≡ (a || b)
-or-second false b e = refl
-or-second true b e = absurd (true≢false e)
+pub or_second : (a b : Bool) → a ≡ false → b ≡ (a || b)
+or_second false b e = refl
+or_second true b e = absurd (true≢false e)
 
 -- a test that cannot fail holds, and one that cannot hold fails
 pub is_true : (t : Bool) → (t ≡ false → ⊥) → t ≡ true

@@ -7,7 +7,7 @@ use native.Mathlib.Omega.{arith}
 use lib.ListN.{length, take, drop, get_or, set, length-set, length-append}
 use lib.Seq.{get_or-set_other, length-take-le, set_at, drop-cons, append_snoc}
 use Rattle.laws.specs.Table.{table}
-use Rattle.laws.specs.Contracts.{splice}
+use Rattle.laws.specs.Clauses.{splice}
 use Rattle.laws.proofs.Table.{length-table, table-snoc}
 use Rattle.laws.proofs.Segment.{splice-nil, splice-whole}
 
@@ -17,11 +17,11 @@ module _ {A : Type 0} where
   filled f at w (suc n) = set (filled f at w n) (at + n) (f n)
 
   -- what lies past the stores is as it was
-  getD-filled : (f : ℕ → A) (at : ℕ) (w : List A) (n k : ℕ) (d : A) → at + n ≤ k → get_or (filled f at w n) k d ≡ get_or w k d
+  get_or-filled : (f : ℕ → A) (at : ℕ) (w : List A) (n k : ℕ) (d : A) → at + n ≤ k → get_or (filled f at w n) k d ≡ get_or w k d
   unfolding filled
-  getD-filled f at w zero k d h = refl
-  getD-filled f at w (suc n) k d h =
-      get_or-set_other (filled f at w n) (at + n) k (f n) d (λ e. omega (arith, e)) ∙ getD-filled f at w n k d (omega arith)
+  get_or-filled f at w zero k d h = refl
+  get_or-filled f at w (suc n) k d h =
+      get_or-set_other (filled f at w n) (at + n) k (f n) d (λ e. omega (arith, e)) ∙ get_or-filled f at w n k d (omega arith)
 
   -- one more store is one more element of the splice
   pub splice-snoc : (w : List A) (at : ℕ) (ys : List A) (n : ℕ) (a : A) → length ys ≡ n → at + n < length w → set (splice w at ys) (at + n) a ≡ splice w at (ys ++ (a ∷ []))
@@ -57,31 +57,31 @@ pub record Filling {A : Type 0} (f : ℕ → A) (at count : ℕ) (w w' : List A)
 
 module _ {A : Type 0} {f : ℕ → A} {at count : ℕ} {w : List A} where
   -- before the first turn
-  pub filling-none : Filling f at count w w 0
+  pub filling_none : Filling f at count w w 0
   unfolding filled
-  filling-none = record { reached = omega arith; same = refl; made = refl }
+  filling_none = record { reached = omega arith; same = refl; made = refl }
 
   module _ {w' : List A} {j : ℕ} (inv : Filling f at count w w' j) where
     -- a turn: what it stores is f's next
-    pub filling-more : (k : ℕ) (x : A) → j < count → k ≡ at + j → x ≡ f j → Filling f at count w (set w' k x) (j + 1)
+    pub filling_more : (k : ℕ) (x : A) → j < count → k ≡ at + j → x ≡ f j → Filling f at count w (set w' k x) (j + 1)
     unfolding filled
-    filling-more k x l e q = record {
+    filling_more k x l e q = record {
       reached = omega arith;
       same = length-set w' k x ∙ inv.same;
       made = rw (add-one, e, q, inv.made);
     }
 
     -- what lies past the stores is as it was
-    pub filling-past : (k : ℕ) (d : A) → at + j ≤ k → get_or w' k d ≡ get_or w k d
-    filling-past k d h = ap (λ (r : List A). get_or r k d) inv.made ∙ getD-filled f at w j k d h
+    pub filling_past : (k : ℕ) (d : A) → at + j ≤ k → get_or w' k d ≡ get_or w k d
+    filling_past k d h = ap (λ (r : List A). get_or r k d) inv.made ∙ get_or-filled f at w j k d h
 
     -- after the last turn
-    pub filling-done : count ≤ j → at + count ≤ length w → w' ≡ splice w at (table f count)
-    filling-done h fits =
+    pub filling_done : count ≤ j → at + count ≤ length w → w' ≡ splice w at (table f count)
+    filling_done h fits =
         let e : j ≡ count = omega (arith, inv.reached) in
         inv.made ∙ ap (filled f at w) e ∙ filled-splice f at w count fits
 
 -- a list that is filled from its first element to its last
-pub filling-whole : {A : Type 0} {f : ℕ → A} {w w' : List A} {j : ℕ} → Filling f 0 (length w) w w' j → length w ≤ j → w' ≡ table f (length w)
-filling-whole {A} {f} {w} inv h =
-    filling-done inv h (omega arith) ∙ splice-whole w (table f (length w)) (length-table f (length w))
+pub filling_whole : {A : Type 0} {f : ℕ → A} {w w' : List A} {j : ℕ} → Filling f 0 (length w) w w' j → length w ≤ j → w' ≡ table f (length w)
+filling_whole {A} {f} {w} inv h =
+    filling_done inv h (omega arith) ∙ splice-whole w (table f (length w)) (length-table f (length w))

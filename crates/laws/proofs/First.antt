@@ -5,42 +5,42 @@ use Prim.Native.Nat.{ℕ, zero, suc, ◌≤◌, ◌<◌, suc-le-suc}
 use native.Mathlib.Nat.{le_of_suc-le-suc}
 use native.Mathlib.Omega.{arith}
 use lib.Ieee.Bits.{is_true, is_false}
-use Rattle.laws.specs.First.{firstWhere}
+use Rattle.laws.specs.First.{first_where}
 use Rattle.laws.proofs.Choice.{cond_ind}
 
 -- the test fails below i, and holds at i unless that is the end
-pub first-is : (test : ℕ → Bool) (n i : ℕ) → i ≤ n → ((k : ℕ) → k < i → test k ≡ false) → (i < n → test i ≡ true) → firstWhere test n ≡ i
-unfolding firstWhere
+pub first-is : (test : ℕ → Bool) (n i : ℕ) → i ≤ n → ((k : ℕ) → k < i → test k ≡ false) → (i < n → test i ≡ true) → first_where test n ≡ i
+unfolding first_where
 first-is test zero zero l below here = refl
 first-is test zero (suc i) l below here = absurd (omega arith)
 first-is test (suc n) zero l below here =
-    ap (λ (t : Bool). cond t 0 (suc (firstWhere (λ i. test (suc i)) n))) (here (omega arith))
+    ap (λ (t : Bool). cond t 0 (suc (first_where (λ i. test (suc i)) n))) (here (omega arith))
 first-is test (suc n) (suc i) l below here =
-    ap (λ (t : Bool). cond t 0 (suc (firstWhere (λ i. test (suc i)) n))) (below 0 (omega arith))
+    ap (λ (t : Bool). cond t 0 (suc (first_where (λ i. test (suc i)) n))) (below 0 (omega arith))
     ∙ ap suc (first-is (λ i. test (suc i)) n i (le_of_suc-le-suc l) (λ k h. below (suc k) (suc-le-suc h)) (λ h. here (suc-le-suc h)))
 
-pub first-le : (test : ℕ → Bool) (n : ℕ) → firstWhere test n ≤ n
-unfolding firstWhere
-first-le test zero = omega arith
-first-le test (suc n) =
-    let rest = first-le (λ i. test (suc i)) n in
-    cond_ind (λ (i : ℕ). i ≤ suc n) (test 0) 0 (suc (firstWhere (λ i. test (suc i)) n)) (λ _. omega arith) (λ _. omega arith)
+pub first_le : (test : ℕ → Bool) (n : ℕ) → first_where test n ≤ n
+unfolding first_where
+first_le test zero = omega arith
+first_le test (suc n) =
+    let rest = first_le (λ i. test (suc i)) n in
+    cond_ind (λ (i : ℕ). i ≤ suc n) (test 0) 0 (suc (first_where (λ i. test (suc i)) n)) (λ _. omega arith) (λ _. omega arith)
 
 -- before it the test fails
-pub first-before : (test : ℕ → Bool) (n k : ℕ) → k < firstWhere test n → test k ≡ false
-unfolding firstWhere
+pub first-before : (test : ℕ → Bool) (n k : ℕ) → k < first_where test n → test k ≡ false
+unfolding first_where
 first-before test zero k l = absurd (omega arith)
 first-before test (suc n) zero l =
-    cond_ind (λ (i : ℕ). 0 < i → test 0 ≡ false) (test 0) 0 (suc (firstWhere (λ i. test (suc i)) n))
+    cond_ind (λ (i : ℕ). 0 < i → test 0 ≡ false) (test 0) 0 (suc (first_where (λ i. test (suc i)) n))
     (λ t h. absurd (omega arith)) (λ t h. is_false (test 0) t) l
 first-before test (suc n) (suc k) l =
-    cond_ind (λ (i : ℕ). suc k < i → test (suc k) ≡ false) (test 0) 0 (suc (firstWhere (λ i. test (suc i)) n))
+    cond_ind (λ (i : ℕ). suc k < i → test (suc k) ≡ false) (test 0) 0 (suc (first_where (λ i. test (suc i)) n))
     (λ t h. absurd (omega arith)) (λ t h. first-before (λ i. test (suc i)) n k (le_of_suc-le-suc h)) l
 
 -- at it the test holds, unless there is none
-pub first_holds : (test : ℕ → Bool) (n : ℕ) → firstWhere test n < n → test (firstWhere test n) ≡ true
-unfolding firstWhere
+pub first_holds : (test : ℕ → Bool) (n : ℕ) → first_where test n < n → test (first_where test n) ≡ true
+unfolding first_where
 first_holds test zero l = absurd (omega arith)
 first_holds test (suc n) l =
-    cond_ind (λ (i : ℕ). i < suc n → test i ≡ true) (test 0) 0 (suc (firstWhere (λ i. test (suc i)) n)) (λ t h. is_true (test 0) t)
+    cond_ind (λ (i : ℕ). i < suc n → test i ≡ true) (test 0) 0 (suc (first_where (λ i. test (suc i)) n)) (λ t h. is_true (test 0) t)
     (λ t h. first_holds (λ i. test (suc i)) n (le_of_suc-le-suc h)) l

@@ -10,8 +10,8 @@ use lib.Dec.{ltb}
 use lib.ListN.{length, get_or, take}
 use lib.Seq.{take-suc}
 
-pub lt-cases {ℓ} : {C : Type ℓ} (a b : ℕ) → (a < b → C) → (b ≤ a → C) → C
-lt-cases {C} a b f g = go (ltb a b) refl
+pub lt_cases {ℓ} : {C : Type ℓ} (a b : ℕ) → (a < b → C) → (b ≤ a → C) → C
+lt_cases {C} a b f g = go (ltb a b) refl
   where
     go : (t : Bool) → ltb a b ≡ t → C
     go true e = f (ltb-true a b e)
@@ -20,7 +20,7 @@ lt-cases {C} a b f g = go (ltb a b) refl
 -- indices below 2^(s + 1), half by half
 pub by-halves {ℓ} : (P : ℕ → Type ℓ) (s : ℕ) → ((i : ℕ) → i < 2 ^ s → P i) → ((i : ℕ) → i < 2 ^ s → P (2 ^ s + i)) → (i : ℕ) → i < 2 ^ suc s → P i
 by-halves P s f g i l =
-    lt-cases i (2 ^ s) (f i)
+    lt_cases i (2 ^ s) (f i)
     (λ c. let k : 2 ^ s + (i - 2 ^ s) ≡ i = omega arith in subst P k (g (i - 2 ^ s) (omega (arith, two-pow-succ s))))
 
 -- two lists agree below i if each element follows from those before it

@@ -14,9 +14,9 @@ half_pow (suc m) size f e =
     let p : 2 ^ (suc m - 1) ≡ 2 ^ m = ap (λ (k : ℕ). 2 ^ k) (omega arith) in
     omega arith
 
-pub two-halves : (n size : ℕ) → (n ≡ 0 → ⊥) → size ≡ 2 ^ n → size ≡ size / 2 + size / 2
-two-halves zero size f e = absurd (f refl)
-two-halves (suc m) size f e = let q : 2 ^ suc m ≡ 2 ^ m + 2 ^ m = two-pow-succ m in omega arith
+pub two_halves : (n size : ℕ) → (n ≡ 0 → ⊥) → size ≡ 2 ^ n → size ≡ size / 2 + size / 2
+two_halves zero size f e = absurd (f refl)
+two_halves (suc m) size f e = let q : 2 ^ suc m ≡ 2 ^ m + 2 ^ m = two-pow-succ m in omega arith
 
 -- `1 << n` at a width w above n
 pub one_shl : (n w : ℕ) → n < w → 1 * 2 ^ n % 2 ^ w ≡ 2 ^ n

@@ -7,7 +7,7 @@ use native.Mathlib.Numerals.{add-one}
 use native.Mathlib.Omega.{arith}
 use lib.ListN.{length, take, drop, get_or, set, replicate, length-append, length-drop, take-append-drop, drop_of_length-le}
 use lib.Seq.{get_or-take, get_or-drop, take-take, take_at, drop_at, drop-drop, length-take-le, take-nil, take_all, set_split}
-use Rattle.laws.specs.Contracts.{splice, segment}
+use Rattle.laws.specs.Clauses.{splice, segment}
 
 -- the images of the first m
 pub take-map : {A B : Type 0} (f : A → B) (m : ℕ) (xs : List A) → take m (map f xs) ≡ map f (take m xs)
@@ -18,11 +18,11 @@ take-map {A} {B} f (suc m) (x ∷ xs) = ap (λ (ys : List B). f x ∷ ys) (take-
 module _ {A : Type 0} where
   -- ---- beginnings
 
-  pub take-swap : (m n : ℕ) (l : List A) → take m (take n l) ≡ take n (take m l)
-  take-swap zero n l = sym (take-nil n)
-  take-swap (suc m) zero l = refl
-  take-swap (suc m) (suc n) [] = refl
-  take-swap (suc m) (suc n) (x ∷ l) = ap (λ (r : List A). x ∷ r) (take-swap m n l)
+  pub take_swap : (m n : ℕ) (l : List A) → take m (take n l) ≡ take n (take m l)
+  take_swap zero n l = sym (take-nil n)
+  take_swap (suc m) zero l = refl
+  take_swap (suc m) (suc n) [] = refl
+  take_swap (suc m) (suc n) (x ∷ l) = ap (λ (r : List A). x ∷ r) (take_swap m n l)
 
   -- what is left of the first k after the first n
   pub drop_of_take : (n k : ℕ) (l : List A) → drop n (take k l) ≡ take (k - n) (drop n l)
@@ -47,8 +47,8 @@ module _ {A : Type 0} where
   pub length-segment : (w : List A) (at n : ℕ) → at + n ≤ length w → length (segment w at n) ≡ n
   length-segment w at n fits = length-take-le n (drop at w) (omega (arith, length-drop at w))
 
-  pub getD-segment : (w : List A) (at n i : ℕ) (d : A) → i < n → get_or (segment w at n) i d ≡ get_or w (at + i) d
-  getD-segment w at n i d h = get_or-take n (drop at w) i d h ∙ get_or-drop at w i d
+  pub get_or-segment : (w : List A) (at n i : ℕ) (d : A) → i < n → get_or (segment w at n) i d ≡ get_or w (at + i) d
+  get_or-segment w at n i d h = get_or-take n (drop at w) i d h ∙ get_or-drop at w i d
 
   -- the halves of a segment
   pub segment-front : (w : List A) (at h : ℕ) → take h (segment w at (h + h)) ≡ segment w at h
@@ -109,10 +109,10 @@ module _ {A : Type 0} where
   -- a splice of the whole list
   pub splice-whole : (w ys : List A) → length ys ≡ length w → splice w 0 ys ≡ ys
   splice-whole w ys e =
-      sym (take-all-splice) ∙ segment-splice w 0 ys (length w) e (omega arith)
+      sym (take_all_splice) ∙ segment-splice w 0 ys (length w) e (omega arith)
     where
-      take-all-splice : segment (splice w 0 ys) 0 (length w) ≡ splice w 0 ys
-      take-all-splice = take_all (length w) (splice w 0 ys) (omega (arith, length-splice w 0 ys (length w) e (omega arith)))
+      take_all_splice : segment (splice w 0 ys) 0 (length w) ≡ splice w 0 ys
+      take_all_splice = take_all (length w) (splice w 0 ys) (omega (arith, length-splice w 0 ys (length w) e (omega arith)))
 
   -- a splice that reaches the end of the list
   pub splice-end : (w : List A) (at : ℕ) (ys : List A) → length w ≡ at + length ys → splice w at ys ≡ take at w ++ ys
@@ -131,11 +131,11 @@ module _ {A : Type 0} where
     after_both = after-splice w at (ys ++ zs) (n + m) both fits ∙ append_assoc ys zs (drop (at + (n + m)) w)
 
     -- the two halves of what was spliced in
-    pub segment-splice-front : segment (splice w at (ys ++ zs)) at n ≡ ys
-    segment-splice-front = ap (take n) after_both ∙ take_at ys (zs ++ drop (at + (n + m)) w) n ny
+    pub segment_splice_front : segment (splice w at (ys ++ zs)) at n ≡ ys
+    segment_splice_front = ap (take n) after_both ∙ take_at ys (zs ++ drop (at + (n + m)) w) n ny
 
-    pub segment-splice-back : segment (splice w at (ys ++ zs)) (at + n) m ≡ zs
-    segment-splice-back =
+    pub segment_splice_back : segment (splice w at (ys ++ zs)) (at + n) m ≡ zs
+    segment_splice_back =
         ap (take m) (sym (drop-drop n at (splice w at (ys ++ zs))))
         ∙ ap (λ (r : List A). take m (drop n r)) after_both
         ∙ ap (take m) (drop_at ys (zs ++ drop (at + (n + m)) w) n ny)
@@ -159,9 +159,9 @@ module _ {A : Type 0} where
         ∙ ap (λ (r : List A). take at w ++ r) (sym (append_assoc ys zs (drop (at + length (ys ++ zs)) w)))
 
     -- a splice over the first half of a splice
-    pub splice-over : (xs : List A) → length xs ≡ n → splice (splice w at (ys ++ zs)) at xs ≡ splice w at (xs ++ zs)
+    pub splice_over : (xs : List A) → length xs ≡ n → splice (splice w at (ys ++ zs)) at xs ≡ splice w at (xs ++ zs)
     unfolding splice
-    splice-over xs nx =
+    splice_over xs nx =
         let s : List A = splice w at (ys ++ zs) in
         let seam : at + (n + m) ≡ at + length (xs ++ zs) = omega (arith, length-append xs zs) in
         let back : drop (at + length xs) s ≡ zs ++ drop (at + length (xs ++ zs)) w =
@@ -175,5 +175,5 @@ module _ {A : Type 0} where
   pub splice-twice : (w : List A) (at : ℕ) (ys xs : List A) (n : ℕ) → length ys ≡ n → length xs ≡ n → at + n ≤ length w → splice (splice w at ys) at xs ≡ splice w at xs
   splice-twice w at ys xs n ny nx l =
       ap (λ (r : List A). splice (splice w at r) at xs) (sym (append-nil ys))
-      ∙ splice-over w at ys [] n 0 ny refl (omega arith) xs nx
+      ∙ splice_over w at ys [] n 0 ny refl (omega arith) xs nx
       ∙ ap (splice w at) (append-nil xs)

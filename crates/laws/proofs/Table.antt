@@ -13,11 +13,11 @@ module _ {A : Type 0} where
   length-table f zero = refl
   length-table f (suc n) = ap suc (length-table (λ k. f (suc k)) n)
 
-  pub getD-table : (f : ℕ → A) (n i : ℕ) (d : A) → i < n → get_or (table f n) i d ≡ f i
+  pub get_or-table : (f : ℕ → A) (n i : ℕ) (d : A) → i < n → get_or (table f n) i d ≡ f i
   unfolding table
-  getD-table f zero i d h = absurd (not-suc-le-zero h)
-  getD-table f (suc n) zero d h = refl
-  getD-table f (suc n) (suc i) d h = getD-table (λ k. f (suc k)) n i d (le_of_suc-le-suc h)
+  get_or-table f zero i d h = absurd (not-suc-le-zero h)
+  get_or-table f (suc n) zero d h = refl
+  get_or-table f (suc n) (suc i) d h = get_or-table (λ k. f (suc k)) n i d (le_of_suc-le-suc h)
 
   -- the last element apart
   pub table-snoc : (f : ℕ → A) (n : ℕ) → table f (suc n) ≡ table f n ++ (f n ∷ [])
@@ -26,17 +26,17 @@ module _ {A : Type 0} where
   table-snoc f (suc n) = ap (λ (r : List A). f 0 ∷ r) (table-snoc (λ k. f (suc k)) n)
 
   -- two tables whose elements are equal
-  pub table-ext : (f g : ℕ → A) (n : ℕ) → ((k : ℕ) → k < n → f k ≡ g k) → table f n ≡ table g n
+  pub table_ext : (f g : ℕ → A) (n : ℕ) → ((k : ℕ) → k < n → f k ≡ g k) → table f n ≡ table g n
   unfolding table
-  table-ext f g zero h = refl
-  table-ext f g (suc n) h =
-      λ i. h 0 (omega arith) i ∷ table-ext (λ k. f (suc k)) (λ k. g (suc k)) n (λ k l. h (suc k) (suc-le-suc l)) i
+  table_ext f g zero h = refl
+  table_ext f g (suc n) h =
+      λ i. h 0 (omega arith) i ∷ table_ext (λ k. f (suc k)) (λ k. g (suc k)) n (λ k l. h (suc k) (suc-le-suc l)) i
 
   -- a list is the table of its elements
-  pub table-getD : (ys : List A) (d : A) → table (λ j. get_or ys j d) (length ys) ≡ ys
+  pub table-get_or : (ys : List A) (d : A) → table (λ j. get_or ys j d) (length ys) ≡ ys
   unfolding table
-  table-getD [] d = refl
-  table-getD (y ∷ ys) d = ap (λ (r : List A). y ∷ r) (table-getD ys d)
+  table-get_or [] d = refl
+  table-get_or (y ∷ ys) d = ap (λ (r : List A). y ∷ r) (table-get_or ys d)
 
   -- equal elements
   pub table-replicate : (a : A) (n : ℕ) → table (λ k. a) n ≡ replicate n a
@@ -47,8 +47,8 @@ module _ {A : Type 0} where
   -- a table in two parts
   pub table-append : (f : ℕ → A) (m n : ℕ) → table f (m + n) ≡ table f m ++ table (λ k. f (m + k)) n
   unfolding table
-  table-append f zero n = ap (table f) (zero-add n) ∙ table-ext f _ n (λ k l. ap f (sym (zero-add k)))
+  table-append f zero n = ap (table f) (zero-add n) ∙ table_ext f _ n (λ k l. ap f (sym (zero-add k)))
   table-append f (suc m) n =
       ap (table f) (suc-add m n)
       ∙ ap (λ (r : List A). f 0 ∷ r) (table-append (λ k. f (suc k)) m n)
-      ∙ ap (λ (r : List A). f 0 ∷ (table (λ k. f (suc k)) m ++ r)) (table-ext _ _ n (λ k l. ap f (sym (suc-add m k))))
+      ∙ ap (λ (r : List A). f 0 ∷ (table (λ k. f (suc k)) m ++ r)) (table_ext _ _ n (λ k l. ap f (sym (suc-add m k))))

@@ -2,6 +2,6 @@
 use Rattle.std.specs.Prelude.{Bool, cond, ℕ, zero, suc}
 
 -- the first index below n at which the test holds, or n if there is none
-unfoldable pub firstWhere : (ℕ → Bool) → ℕ → ℕ
-firstWhere test zero = 0
-firstWhere test (suc n) = cond (test 0) 0 (suc (firstWhere (λ i. test (suc i)) n))
+unfoldable pub first_where : (ℕ → Bool) → ℕ → ℕ
+first_where test zero = 0
+first_where test (suc n) = cond (test 0) 0 (suc (first_where (λ i. test (suc i)) n))

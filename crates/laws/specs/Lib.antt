@@ -1,4 +1,4 @@
 pub mod First
-pub mod Contracts
+pub mod Clauses
 pub mod Table
 pub mod Insert

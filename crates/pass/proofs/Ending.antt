@@ -9,17 +9,17 @@ use lib.Seq.{take_all, drop-cons}
 use mathlib.Core.Bool.{Bool, true, ◌&&◌, and-eq-true_iff}
 use borrow.Author.Tests.{leb-true, eqb-true}
 use lib.Dec.{eqb, leb}
-use Rattle.laws.specs.Contracts.{splice, segment}
+use Rattle.laws.specs.Clauses.{splice, segment}
 use Rattle.laws.proofs.Segment.{length-segment, splice-nil, splice-segment}
 use Rattle.bits.specs.Claims.{Bits}
 use Rattle.transform.specs.Transform.{transformed}
-use Rattle.transform.specs.Contracts.{BitsAt}
-use Rattle.pass_tree.specs.Node.{workOf, Out, forced}
+use Rattle.transform.specs.Clauses.{BitsAt}
+use Rattle.pass_tree.specs.Node.{work_of, Out, forced}
 use Rattle.pass_tree.specs.declared.Work.{Work}
 use Rattle.pass_tree.proofs.Node.{node-forced}
-use Rattle.pass_ends.specs.Contracts.{Arrays, arrays, results, resultsOf, forcedBits, rulesFrom, node_of, StoredSums, Results, NodeStored}
+use Rattle.pass_ends.specs.Clauses.{Arrays, arrays, results, results_of, forced_bits, rules_from, node_of, StoredSums, Results, NodeStored}
 use Rattle.pass_ends.proofs.Halves.{none-forced}
-use Rattle.pass.specs.Contracts.{NodePre, NodePost}
+use Rattle.pass.specs.Clauses.{NodePre, NodePost}
 
 -- all bits forced: the sums are rebuilt, and nothing else changes
 module _ {room layer size base q : ℕ} {a : Arrays} {v : List ℤ} (rules : List ℕ) (p : NodePre room layer size base q a v) (l : base + size ≤ q) where
@@ -29,7 +29,7 @@ module _ {room layer size base q : ℕ} {a : Arrays} {v : List ℤ} (rules : Lis
   long : length own ≡ size
   long = length-segment a.bits base size (omega (arith, p.fits, p.whole.bits))
 
-  all : forcedBits a.bits base size q ≡ own
+  all : forced_bits a.bits base size q ≡ own
   all = take_all (q - base) own (omega (arith, long))
 
   pub forced-bits : BitsAt room a.bits base size
@@ -37,15 +37,15 @@ module _ {room layer size base q : ℕ} {a : Arrays} {v : List ℤ} (rules : Lis
 
   forced-is : node_of layer size base q rules a.bits v ≡ forced layer own
   forced-is =
-      node-forced layer (forcedBits a.bits base size q) (rulesFrom rules base) v (omega (arith, ap length all, long, p.pow)) ∙ ap (forced layer) all
+      node-forced layer (forced_bits a.bits base size q) (rules_from rules base) v (omega (arith, ap length all, long, p.pow)) ∙ ap (forced layer) all
 
-  pub forced-worked : {sums : List ℕ} {done : Work} → sums ≡ splice a.sums base (transformed layer own) → done ≡ workOf [] → NodePost layer size base q rules v a (arrays a.work a.bits sums a.leaves) done
+  pub forced-worked : {sums : List ℕ} {done : Work} → sums ≡ splice a.sums base (transformed layer own) → done ≡ work_of [] → NodePost layer size base q rules v a (arrays a.work a.bits sums a.leaves) done
   forced-worked {sums} {done} e of =
-      let at : ℕ = base + length (forcedBits a.bits base size q) in
+      let at : ℕ = base + length (forced_bits a.bits base size q) in
       record {
         node = record {
           laid =
-              subst (λ (o : Out). StoredSums o base at (resultsOf a) (results a.bits sums a.leaves) done) (sym forced-is)
+              subst (λ (o : Out). StoredSums o base at (results_of a) (results a.bits sums a.leaves) done) (sym forced-is)
               (record {
                 stored = record {
                   bits = sym (splice-segment a.bits base size (omega (arith, p.fits, p.whole.bits)));
@@ -72,13 +72,13 @@ pub one_value : {size : ℕ} (w : List ℤ) → size ≡ 1 → 1 < length w → 
 one_value w e l = ap (λ (k : ℕ). segment w k k) e ∙ ap (take 1) (drop-cons w 1 (pos 0) l)
 
 -- a small node is the one of the recursion
-pub by_value : {layer k size m base q : ℕ} {rules : List ℕ} {a : Arrays} {v x : List ℤ} {r : Results} {done did : Work} → layer ≡ k → size ≡ m → v ≡ x → q ≤ base → done ≡ did → NodeStored k m base base rules x (resultsOf a) r did → NodePost layer size base q rules v a (arrays a.work r.bits r.sums r.leaves) done
+pub by_value : {layer k size m base q : ℕ} {rules : List ℕ} {a : Arrays} {v x : List ℤ} {r : Results} {done did : Work} → layer ≡ k → size ≡ m → v ≡ x → q ≤ base → done ≡ did → NodeStored k m base base rules x (results_of a) r did → NodePost layer size base q rules v a (arrays a.work r.bits r.sums r.leaves) done
 by_value {layer} {k} {size} {m} {base} {q} {rules} {a} {v} {x} {r} {done} {did} el es ev l of y = record {
   node =
       none-forced (omega arith) l
-      (subst₂ (λ (i j : ℕ). NodeStored i j base base rules v (resultsOf a) r done) (sym el) (sym es)
-      (subst (λ (w : Work). NodeStored k m base base rules v (resultsOf a) r w) (sym of)
-      (subst (λ (u : List ℤ). NodeStored k m base base rules u (resultsOf a) r did) (sym ev) y)));
+      (subst₂ (λ (i j : ℕ). NodeStored i j base base rules v (results_of a) r done) (sym el) (sym es)
+      (subst (λ (w : Work). NodeStored k m base base rules v (results_of a) r w) (sym of)
+      (subst (λ (u : List ℤ). NodeStored k m base base rules u (results_of a) r did) (sym ev) y)));
   kept = refl;
   whole = refl;
 }

@@ -1,9 +1,9 @@
 // One decoding pass by successive cancellation.
 ghost use Rattle.std.specs.Prelude.{◌≡◌, ◌&&◌, ◌+◌, ◌*◌, ◌≤◌, eqb, leb, length};
-ghost use Rattle.laws.specs.Contracts.{segment};
-ghost use Rattle.values.specs.Values.{maskRule};
-ghost use Rattle.pass_ends.specs.Contracts.{arrays};
-ghost use Rattle.pass.specs.Contracts.{Ruled, NodePre, NodePost, PassPre, passOf, PassPost};
+ghost use Rattle.laws.specs.Clauses.{segment};
+ghost use Rattle.values.specs.Values.{mask_rule};
+ghost use Rattle.pass_ends.specs.Clauses.{arrays};
+ghost use Rattle.pass.specs.Clauses.{Ruled, NodePre, NodePost, PassPre, pass_of, PassPost};
 
 use arrays::{BitArray, RuleArray, SIZE, ValueArray};
 use code::Code;
@@ -69,7 +69,7 @@ pub fn pass(
     leaves: &mut ValueArray,
 ) -> Work
     requires { PassPre SIZE code q channel.now (arrays work.old bits.old sums.old leaves.old) }
-    ensures { PassPost SIZE (passOf code q channel.now rules.now bits.old) q
+    ensures { PassPost SIZE (pass_of code q channel.now rules.now bits.old) q
         (arrays work.old bits.old sums.old leaves.old)
         (arrays work.new bits.new sums.new leaves.new) result }
 {
@@ -88,7 +88,7 @@ pub fn pass(
 // The rules of a plain pass: the usual decision at the information indices of the mask.
 pub fn rules_from(mask: &[u8], rules: &mut RuleArray)
     requires { (8 * length mask.now ≤ SIZE) × (length rules.old ≡ SIZE) }
-    ensures { Ruled (8 * length mask.now) (maskRule mask.now) rules.new
+    ensures { Ruled (8 * length mask.now) (mask_rule mask.now) rules.new
         × (length rules.new ≡ SIZE) }
 {
     let size = 8 * mask.len();

@@ -3,8 +3,8 @@ use mathlib.Core.Path.{◌≡◌, ap, ap₂, ◌∙◌}
 use mathlib.Core.List.{List, ◌++◌}
 use Prim.Native.Nat.{ℕ, ◌+◌, ◌≤◌}
 use lib.ListN.{length}
-use Rattle.laws.specs.Contracts.{splice, segment}
-use Rattle.laws.proofs.Segment.{splice-over, segment-splice-front, segment-splice-back}
+use Rattle.laws.specs.Clauses.{splice, segment}
+use Rattle.laws.proofs.Segment.{splice_over, segment_splice_front, segment_splice_back}
 use Rattle.transform.specs.Transform.{xors}
 use Rattle.transform.proofs.Xors.{length-xors}
 
@@ -12,6 +12,6 @@ pub combined-sums : {h : ℕ} {w₂ w₃ : List ℕ} (w : List ℕ) (base : ℕ)
 combined-sums {h} w base l r nl nr fits both e =
     e ∙ ap (λ (s : List ℕ). splice s base (xors h (segment s base h) (segment s (base + h) h))) both
     ∙ ap₂ (λ (x y : List ℕ). splice (splice w base (l ++ r)) base (xors h x y))
-    (segment-splice-front w base l r h h nl nr fits)
-    (segment-splice-back w base l r h h nl nr fits)
-    ∙ splice-over w base l r h h nl nr fits (xors h l r) (length-xors h l r)
+    (segment_splice_front w base l r h h nl nr fits)
+    (segment_splice_back w base l r h h nl nr fits)
+    ∙ splice_over w base l r h h nl nr fits (xors h l r) (length-xors h l r)

@@ -7,16 +7,16 @@ use native.Mathlib.Omega.{arith}
 use borrow.Author.Tests.{lt-leb}
 use lib.IntN.{ℤ}
 use lib.Pow.{pow_pos}
-use Rattle.laws.specs.Contracts.{splice, segment}
+use Rattle.laws.specs.Clauses.{splice, segment}
 use Rattle.transform.specs.Transform.{xors}
-use Rattle.transform.specs.Contracts.{BitsAt}
-use Rattle.values.specs.Values.{rightValues, leftValues}
+use Rattle.transform.specs.Clauses.{BitsAt}
+use Rattle.values.specs.Values.{right_values, left_values}
 use Rattle.values.proofs.Lengths.{length-right, length-left}
 use Rattle.pass_tree.specs.declared.Work.{Work}
-use Rattle.pass_tree.specs.Node.{workOf, plusWork}
-use Rattle.pass_tree.specs.Contracts.{computedUnless, counted}
-use Rattle.pass_ends.specs.Contracts.{Results, results, Sized, NodeStored}
-use Rattle.pass_ends.proofs.Halves.{none-forced, Split, sized₁, combine-at, halves-laid}
+use Rattle.pass_tree.specs.Node.{work_of, plus_work}
+use Rattle.pass_tree.specs.Clauses.{computed_unless, counted}
+use Rattle.pass_ends.specs.Clauses.{Results, results, Sized, NodeStored}
+use Rattle.pass_ends.proofs.Halves.{none-forced, Split, sized₁, combine_at, halves_laid}
 
 -- two halves at layer n
 module _ {room : ℕ} (n base : ℕ) (rules : List ℕ) (v : List ℤ) {r : Results} (z : Sized room r) (fits : base + (2 ^ n + 2 ^ n) ≤ room) where
@@ -32,21 +32,21 @@ module _ {room : ℕ} (n base : ℕ) (rules : List ℕ) (v : List ℤ) {r : Resu
   }
 
   -- after the left half
-  module _ {v₁ : List ℤ} {r₁ : Results} {done₂ : Work} (own₁ : v₁ ≡ leftValues h v) (l : NodeStored n h base base rules v₁ r r₁ done₂) where
-    pub free-sized : Sized room r₁
-    free-sized = sized₁ rules v split (λ _. own₁) l
+  module _ {v₁ : List ℤ} {r₁ : Results} {done₂ : Work} (own₁ : v₁ ≡ left_values h v) (l : NodeStored n h base base rules v₁ r r₁ done₂) where
+    pub free_sized : Sized room r₁
+    free_sized = sized₁ rules v split (λ _. own₁) l
 
     -- after the right half
-    module _ {v₃ : List ℤ} {r₂ : Results} {done₄ : Work} (own₃ : v₃ ≡ rightValues h v (segment r₁.sums base h)) (g : NodeStored n h (base + h) (base + h) rules v₃ r₁ r₂ done₄) where
+    module _ {v₃ : List ℤ} {r₂ : Results} {done₄ : Work} (own₃ : v₃ ≡ right_values h v (segment r₁.sums base h)) (g : NodeStored n h (base + h) (base + h) rules v₃ r₁ r₂ done₄) where
       after : NodeStored n h (base + h) base rules v₃ r₁ r₂ done₄
       after = none-forced (omega arith) (omega arith) g
 
-      pub free-combine : BitsAt room r₂.sums base (h + h)
-      free-combine = combine-at rules v split (λ _. own₁) l own₃ after
+      pub free_combine : BitsAt room r₂.sums base (h + h)
+      free_combine = combine_at rules v split (λ _. own₁) l own₃ after
 
       -- each half has h values
-      pub free-laid : {sums : List ℕ} {done : Work} → done ≡ plusWork (plusWork (counted h) done₂) (plusWork (counted h) done₄) → sums ≡ splice r₂.sums base (xors h (segment r₂.sums base h) (segment r₂.sums (base + h) h)) → NodeStored (suc n) (h + h) base base rules v r (results r₂.bits sums r₂.leaves) done
-      free-laid total e =
-          halves-laid rules v split (λ _. own₁) l own₃ after
-          (ap counted (sym (length-left h v)) ∙ ap (λ (t : Bool). workOf (computedUnless t (leftValues h v))) (sym (lt-leb (base + h) base (omega (arith, pow_pos n)))))
+      pub free_laid : {sums : List ℕ} {done : Work} → done ≡ plus_work (plus_work (counted h) done₂) (plus_work (counted h) done₄) → sums ≡ splice r₂.sums base (xors h (segment r₂.sums base h) (segment r₂.sums (base + h) h)) → NodeStored (suc n) (h + h) base base rules v r (results r₂.bits sums r₂.leaves) done
+      free_laid total e =
+          halves_laid rules v split (λ _. own₁) l own₃ after
+          (ap counted (sym (length-left h v)) ∙ ap (λ (t : Bool). work_of (computed_unless t (left_values h v))) (sym (lt-leb (base + h) base (omega (arith, pow_pos n)))))
           (ap counted (sym (length-right h v (segment r₁.sums base h)))) total e

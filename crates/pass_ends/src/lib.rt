@@ -1,13 +1,13 @@
 // Nodes of the tree that end the recursion: all bits forced, a leaf, and small nodes with no forced bit.
 ghost use Rattle.std.specs.Prelude.{◌≡◌, [], ◌∷◌, ◌+◌, ◌^◌, ◌<◌, ◌≤◌, nat_abs, length, get_or};
-ghost use Rattle.laws.specs.Contracts.{splice, segment};
-ghost use Rattle.arrays.specs.Sizes.{largestN};
+ghost use Rattle.laws.specs.Clauses.{splice, segment};
+ghost use Rattle.arrays.specs.Sizes.{largest_n};
 ghost use Rattle.transform.specs.Transform.{transformed};
-ghost use Rattle.transform.specs.Contracts.{BitsAt};
+ghost use Rattle.transform.specs.Clauses.{BitsAt};
 ghost use Rattle.values.specs.Claims.{Within};
-ghost use Rattle.pass_tree.specs.Node.{workOf};
+ghost use Rattle.pass_tree.specs.Node.{work_of};
 ghost use Rattle.pass_tree.specs.Claims.{most};
-ghost use Rattle.pass_ends.specs.Contracts.{results, Sized, NodeStored};
+ghost use Rattle.pass_ends.specs.Clauses.{results, Sized, NodeStored};
 
 use arrays::{BitArray, RuleArray, SIZE, ValueArray};
 use pass_tree::Work;
@@ -39,7 +39,7 @@ pub fn leaf(
     ensures { (result ≡ get_or sums.new base 0)
         × NodeStored 0 1 base base rules.now (value ∷ [])
         (results bits.old sums.old leaves.old)
-        (results bits.new sums.new leaves.new) (workOf []) }
+        (results bits.new sums.new leaves.new) (work_of []) }
 {
     let bit = decide(rules[base], value);
     bits[base] = bit;
@@ -86,7 +86,7 @@ pub fn decode_four(
 ) -> Work
     requires { Sized SIZE (results bits.old sums.old leaves.old)
         × (base + 4 ≤ SIZE)
-        × Within (most largestN 2) (segment work.now 4 4) }
+        × Within (most largest_n 2) (segment work.now 4 4) }
     ensures { NodeStored 2 4 base base rules.now (segment work.now 4 4)
         (results bits.old sums.old leaves.old)
         (results bits.new sums.new leaves.new) result }

@@ -10,18 +10,18 @@ use mir.Syntax.{w32}
 use mir.Val.{SFits}
 use Rattle.laws.specs.Table.{table}
 use Rattle.laws.proofs.Table.{length-table}
-use Rattle.laws.proofs.Segment.{getD-segment, drop_past, drop-splice, length-splice, splice-nil}
+use Rattle.laws.proofs.Segment.{get_or-segment, drop_past, drop-splice, length-splice, splice-nil}
 use Rattle.laws.proofs.Signed.{back, back_is}
-use Rattle.laws.proofs.Filling.{Filling, filling-none, filling-more, filling-past, filling-done}
+use Rattle.laws.proofs.Filling.{Filling, filling_none, filling_more, filling_past, filling_done}
 use Rattle.values.specs.Values.{f, g}
 use Rattle.values.specs.Claims.{Within}
 use Rattle.values.proofs.Bounds.{back-within}
-use Rattle.channel.specs.Channel.{channelValue, channelValues}
+use Rattle.channel.specs.Channel.{channel_value, channel_values}
 use Rattle.pass_tree.specs.declared.Work.{Work}
-use Rattle.pass_tree.specs.Node.{workOf}
-use Rattle.pass_tree.specs.Contracts.{computedUnless, counted}
-use Rattle.pass_tree.proofs.StepsMost.{same-steps}
-use Rattle.pass_halves.specs.Contracts.{addable, ValuesPost, ValuesPre, nodeValues}
+use Rattle.pass_tree.specs.Node.{work_of}
+use Rattle.pass_tree.specs.Clauses.{computed_unless, counted}
+use Rattle.pass_tree.proofs.StepsMost.{same_steps}
+use Rattle.pass_halves.specs.Clauses.{addable, ValuesPost, ValuesPre, node_values}
 
 -- ---- what a turn reads
 
@@ -30,25 +30,25 @@ pub record Reads (v : List ℤ) (h j : ℕ) (a b : ℤ) : Type 0 where
   pub first : back w32 a ≡ get_or v j (pos 0)
   pub second : back w32 b ≡ get_or v (h + j) (pos 0)
 
-pub addable-reads : {m h j : ℕ} {v : List ℤ} {a b : ℤ} → m ≤ addable → Within m v → Reads v h j a b → nat_abs (back w32 a) + nat_abs (back w32 b) < 2 ^ 31
-addable-reads {h = h} {j} l p r = omega (arith, ap nat_abs r.first, p.at j, ap nat_abs r.second, p.at (h + j))
+pub addable_reads : {m h j : ℕ} {v : List ℤ} {a b : ℤ} → m ≤ addable → Within m v → Reads v h j a b → nat_abs (back w32 a) + nat_abs (back w32 b) < 2 ^ 31
+addable_reads {h = h} {j} l p r = omega (arith, ap nat_abs r.first, p.at j, ap nat_abs r.second, p.at (h + j))
 
 -- the node's own values, which no turn overwrites
-pub own-reads : {size h j : ℕ} {work work' : List ℤ} {x : ℕ → ℤ} → ValuesPre size work h → Filling x h h work work' j → j < h → Reads (nodeValues work h) h j (get_or work' (2 * h + j) (pos 0)) (get_or work' (3 * h + j) (pos 0))
-own-reads {size} {h} {j} {work} {work'} p inv l = record { first = own (2 * h + j) j (omega arith) (omega arith); second = own (3 * h + j) (h + j) (omega arith) (omega arith) }
+pub own_reads : {size h j : ℕ} {work work' : List ℤ} {x : ℕ → ℤ} → ValuesPre size work h → Filling x h h work work' j → j < h → Reads (node_values work h) h j (get_or work' (2 * h + j) (pos 0)) (get_or work' (3 * h + j) (pos 0))
+own_reads {size} {h} {j} {work} {work'} p inv l = record { first = own (2 * h + j) j (omega arith) (omega arith); second = own (3 * h + j) (h + j) (omega arith) (omega arith) }
   where
-    own : (at i : ℕ) → at ≡ h + h + i → i < h + h → back w32 (get_or work' at (pos 0)) ≡ get_or (nodeValues work h) i (pos 0)
+    own : (at i : ℕ) → at ≡ h + h + i → i < h + h → back w32 (get_or work' at (pos 0)) ≡ get_or (node_values work h) i (pos 0)
     own at i e k =
-        ap (back w32) (filling-past inv at (pos 0) (omega arith) ∙ ap (λ (n : ℕ). get_or work n (pos 0)) e ∙ sym (getD-segment work (h + h) (h + h) i (pos 0) k))
+        ap (back w32) (filling_past inv at (pos 0) (omega arith) ∙ ap (λ (n : ℕ). get_or work n (pos 0)) e ∙ sym (get_or-segment work (h + h) (h + h) i (pos 0) k))
         ∙ back-within p.small (omega arith) i
 
 -- the channel's, at the root
-pub channel-reads : (channel : List ℕ) (h j : ℕ) {a b : ℤ} → Within 31 (channelValues channel) → a ≡ channelValue (get_or channel j 0) → b ≡ channelValue (get_or channel (h + j) 0) → Reads (channelValues channel) h j a b
-unfolding channelValue
-channel-reads channel h j p ea eb = record { first = own j ea; second = own (h + j) eb }
+pub channel_reads : (channel : List ℕ) (h j : ℕ) {a b : ℤ} → Within 31 (channel_values channel) → a ≡ channel_value (get_or channel j 0) → b ≡ channel_value (get_or channel (h + j) 0) → Reads (channel_values channel) h j a b
+unfolding channel_value
+channel_reads channel h j p ea eb = record { first = own j ea; second = own (h + j) eb }
   where
-    own : (k : ℕ) {z : ℤ} → z ≡ channelValue (get_or channel k 0) → back w32 z ≡ get_or (channelValues channel) k (pos 0)
-    own k e = ap (back w32) (e ∙ sym (get_or-map channelValue channel k 0)) ∙ back-within p (omega arith) k
+    own : (k : ℕ) {z : ℤ} → z ≡ channel_value (get_or channel k 0) → back w32 z ≡ get_or (channel_values channel) k (pos 0)
+    own k e = ap (back w32) (e ∙ sym (get_or-map channel_value channel k 0)) ∙ back-within p (omega arith) k
 
 -- ---- the invariant: j values are stored, and counted
 
@@ -60,38 +60,38 @@ pub record Computing (x : ℕ → ℤ) (h : ℕ) (work work' : List ℤ) (steps 
 abbrev pub left_at : List ℤ → ℕ → ℕ → ℤ
 left_at v h j = f (get_or v j (pos 0)) (get_or v (h + j) (pos 0))
 
-abbrev pub rightAt : List ℤ → List ℕ → ℕ → ℕ → ℤ
-rightAt v sums h j = g (get_or v j (pos 0)) (get_or v (h + j) (pos 0)) (get_or sums j 0)
+abbrev pub right_at : List ℤ → List ℕ → ℕ → ℕ → ℤ
+right_at v sums h j = g (get_or v j (pos 0)) (get_or v (h + j) (pos 0)) (get_or sums j 0)
 
-pub computing-none : {x : ℕ → ℤ} {h : ℕ} {work : List ℤ} → Computing x h work work 0 0
-computing-none = record { filling = filling-none; counted = refl }
+pub computing_none : {x : ℕ → ℤ} {h : ℕ} {work : List ℤ} → Computing x h work work 0 0
+computing_none = record { filling = filling_none; counted = refl }
 
 module _ {h j steps : ℕ} {work work' : List ℤ} {z : ℤ} (fits : SFits w32 z) (l : j < h) where
   turn : {x : ℕ → ℤ} → Computing x h work work' steps j → z ≡ x j → Computing x h work (set work' (h + j) (back w32 z)) (steps + 1) (j + 1)
-  turn inv e = record { filling = filling-more inv.filling (h + j) (back w32 z) l refl (back_is w32 z fits ∙ e); counted = omega (arith, inv.counted) }
+  turn inv e = record { filling = filling_more inv.filling (h + j) (back w32 z) l refl (back_is w32 z fits ∙ e); counted = omega (arith, inv.counted) }
 
   pub left-turn : {v : List ℤ} {a b : ℤ} → Computing (left_at v h) h work work' steps j → Reads v h j a b → z ≡ f (back w32 a) (back w32 b) → Computing (left_at v h) h work (set work' (h + j) (back w32 z)) (steps + 1) (j + 1)
   left-turn inv r e = turn inv (e ∙ ap₂ f r.first r.second)
 
-  pub right-turn : (sums : List ℕ) {v : List ℤ} {a b : ℤ} {sum : ℕ} → Computing (rightAt v sums h) h work work' steps j → Reads v h j a b → sum ≡ get_or sums j 0 → z ≡ g (back w32 a) (back w32 b) sum → Computing (rightAt v sums h) h work (set work' (h + j) (back w32 z)) (steps + 1) (j + 1)
+  pub right-turn : (sums : List ℕ) {v : List ℤ} {a b : ℤ} {sum : ℕ} → Computing (right_at v sums h) h work work' steps j → Reads v h j a b → sum ≡ get_or sums j 0 → z ≡ g (back w32 a) (back w32 b) sum → Computing (right_at v sums h) h work (set work' (h + j) (back w32 z)) (steps + 1) (j + 1)
   right-turn sums inv r s e = turn inv (e ∙ (λ t. g (r.first t) (r.second t) (s t)))
 
 -- all values of a half are computed
 pub computed : {h j steps : ℕ} {work work' : List ℤ} {x : ℕ → ℤ} {done : Work} → Computing x h work work' steps j → h ≤ j → h + h ≤ length work → done ≡ counted steps → ValuesPost (table x h) h work work' done
 computed {h} {j} {steps} {x = x} inv all fits of = record {
-  stored = filling-done inv.filling all fits;
-  counted = let e : steps ≡ length (table x h) = omega (arith, inv.counted, inv.filling.reached, length-table x h) in of ∙ same-steps e;
+  stored = filling_done inv.filling all fits;
+  counted = let e : steps ≡ length (table x h) = omega (arith, inv.counted, inv.filling.reached, length-table x h) in of ∙ same_steps e;
 }
 
 -- all values of a half that is not forced
-pub computed-all : {forced : Bool} {h j steps : ℕ} {work work' : List ℤ} {x : ℕ → ℤ} {done : Work} → forced ≡ false → Computing x h work work' steps j → h ≤ j → h + h ≤ length work → done ≡ counted steps → ValuesPost (computedUnless forced (table x h)) h work work' done
+pub computed-all : {forced : Bool} {h j steps : ℕ} {work work' : List ℤ} {x : ℕ → ℤ} {done : Work} → forced ≡ false → Computing x h work work' steps j → h ≤ j → h + h ≤ length work → done ≡ counted steps → ValuesPost (computed_unless forced (table x h)) h work work' done
 computed-all {h = h} {work = work} {work' = work'} {x = x} {done = done} e inv all fits of =
-    subst (λ (t : Bool). ValuesPost (computedUnless t (table x h)) h work work' done) (sym e) (computed inv all fits of)
+    subst (λ (t : Bool). ValuesPost (computed_unless t (table x h)) h work work' done) (sym e) (computed inv all fits of)
 
 -- no value of a half that is forced
-pub computed-none : {forced : Bool} {h : ℕ} {work : List ℤ} {done : Work} (values : List ℤ) → forced ≡ true → done ≡ workOf [] → ValuesPost (computedUnless forced values) h work work done
+pub computed-none : {forced : Bool} {h : ℕ} {work : List ℤ} {done : Work} (values : List ℤ) → forced ≡ true → done ≡ work_of [] → ValuesPost (computed_unless forced values) h work work done
 computed-none {h = h} {work = work} {done = done} values e of =
-    subst (λ (t : Bool). ValuesPost (computedUnless t values) h work work done) (sym e) (record { stored = sym (splice-nil work h); counted = of })
+    subst (λ (t : Bool). ValuesPost (computed_unless t values) h work work done) (sym e) (record { stored = sym (splice-nil work h); counted = of })
 
 -- what a half's values leave of the array: its length, and all values above them
 module _ {values work work' : List ℤ} {h : ℕ} {done : Work} (c : ValuesPost values h work work' done) (short : length values ≤ h) (fits : h + h ≤ length work) where

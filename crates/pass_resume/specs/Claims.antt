@@ -2,19 +2,19 @@
 -- `well-formed-exactly` of proofs/WellFormed.antt.
 use Rattle.std.specs.Prelude.{◌≡◌, Bool, true, false, List, ℕ, ◌≤◌, length}
 use Rattle.code.specs.declared.Code.{Code}
-use Rattle.code.specs.Code.{codeLength}
-use Rattle.channel.specs.Channel.{firstOutside}
+use Rattle.code.specs.Code.{code_length}
+use Rattle.channel.specs.Channel.{first_outside}
 use Rattle.pass_resume.specs.declared.Resumed.{Resumed}
 use Rattle.pass_resume.specs.declared.Resumed.TheVariants.{Done, Refused}
-use Rattle.pass_resume.specs.Resume.{firstBad}
+use Rattle.pass_resume.specs.Resume.{first_bad}
 
 -- refusals 12, 13, 17, 18 and 19 in turn do not apply
 pub record WellFormed (mask : List ℕ) (c : Code) (channel prefix output : List ℕ) : Type 0 where
-  pub channel-size : length channel ≡ codeLength c
-  pub in-range : firstOutside channel ≡ length channel
-  pub prefix-size : length prefix ≤ codeLength c
-  pub prefix-good : firstBad mask prefix ≡ length prefix
-  pub output-size : length output ≡ codeLength c
+  pub channel_size : length channel ≡ code_length c
+  pub in_range : first_outside channel ≡ length channel
+  pub prefix_size : length prefix ≤ code_length c
+  pub prefix_good : first_bad mask prefix ≡ length prefix
+  pub output_size : length output ≡ code_length c
 
 abbrev pub accepts : Resumed → Bool
 accepts (Done steps) = true

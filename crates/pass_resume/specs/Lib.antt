@@ -1,4 +1,4 @@
 pub mod Resume
 pub mod ResumeSteps
 pub mod Claims
-pub mod Contracts
+pub mod Clauses

@@ -3,7 +3,7 @@
 use Rattle.std.specs.Prelude.{◌≡◌, List, ℕ, ◌+◌, ◌*◌, length, take}
 use Rattle.code.specs.declared.Code.{Code}
 use Rattle.code.specs.declared.Description.TheVariants.{Accepted}
-use Rattle.code.specs.Code.{codeLength}
+use Rattle.code.specs.Code.{code_length}
 use Rattle.code.specs.Description.{describe}
 use Rattle.pass_tree.specs.Skipped.{skipped}
 use Rattle.pass_resume.specs.declared.Resumed.TheVariants.{Done}
@@ -13,4 +13,4 @@ use Rattle.pass_resume.specs.Resume.{resumed}
 abbrev pub ResumeSteps : Type 0
 ResumeSteps =
     (d : List ℕ) (c : Code) (channel prefix output bits : List ℕ) (steps : ℕ) → describe d ≡ Accepted c → resumed d channel prefix output ≡ (Done steps, bits)
-    → (steps + skipped c.n (length prefix) ≡ c.n * codeLength c) × (take (length prefix) bits ≡ prefix)
+    → (steps + skipped c.n (length prefix) ≡ c.n * code_length c) × (take (length prefix) bits ≡ prefix)

@@ -2,8 +2,8 @@
 ghost use Rattle.std.specs.Prelude.{◌≡◌, ◌*◌, ◌≤◌, length};
 ghost use Rattle.refusal.specs.Judge.{judge};
 ghost use Rattle.code.specs.Claims.{Coded};
-ghost use Rattle.pass_resume.specs.Resume.{firstBad, resumingRefusals, resumedBy, resumed};
-ghost use Rattle.pass_resume.specs.Contracts.{badBit, resumePass, prefixRefusals, ResumePre};
+ghost use Rattle.pass_resume.specs.Resume.{first_bad, resuming_refusals, resumed_by, resumed};
+ghost use Rattle.pass_resume.specs.Clauses.{bad_bit, resume_pass, prefix_refusals, ResumePre};
 
 use arrays::{BitArray, SIZE};
 use code::{Code, Description};
@@ -21,7 +21,7 @@ pub enum Resumed {
 
 // Whether a prefix byte is other than 0 or 1, or a 1 at a frozen index, which the mask does not mark.
 fn is_bad(byte: u8, marked: u8) -> bool
-    ensures { result ≡ badBit byte marked }
+    ensures { result ≡ bad_bit byte marked }
 {
     1 < byte || byte == 1 && marked == 0
 }
@@ -29,7 +29,7 @@ fn is_bad(byte: u8, marked: u8) -> bool
 // The first index of a bad prefix byte, or the prefix's length.
 fn first_bad(mask: &[u8], prefix: &[u8]) -> usize
     requires { length prefix.now ≤ 8 * length mask.now }
-    ensures { result ≡ firstBad mask.now prefix.now }
+    ensures { result ≡ first_bad mask.now prefix.now }
 {
     let mut i = 0;
     while i < prefix.len() {
@@ -52,8 +52,8 @@ fn resume_pass(
 ) -> Work
     requires { ResumePre mask.now code channel.now prefix.now output.old
         × (length bits.old ≡ SIZE) }
-    ensures { (result ≡ (resumePass mask.now code channel.now prefix.now).work)
-        × (output.new ≡ (resumePass mask.now code channel.now prefix.now).bits) }
+    ensures { (result ≡ (resume_pass mask.now code channel.now prefix.now).work)
+        × (output.new ≡ (resume_pass mask.now code channel.now prefix.now).bits) }
 {
     let mut rules = [0u8; SIZE];
     let mut work = [0i32; SIZE];
@@ -78,7 +78,7 @@ fn resume_pass(
 // Refusals 17 to 19.
 fn judge_prefix(mask: &[u8], code: Code, prefix: &[u8], output: &[u8]) -> Judgement
     requires { Coded mask.now code }
-    ensures { result ≡ judge (prefixRefusals mask.now code prefix.now output.now) }
+    ensures { result ≡ judge (prefix_refusals mask.now code prefix.now output.now) }
 {
     let size = 1usize << code.n;
     if size < prefix.len() {
@@ -103,7 +103,7 @@ fn judge_resuming(
     output: &[u8],
 ) -> Judgement
     requires { Coded mask.now code }
-    ensures { result ≡ judge (resumingRefusals mask.now code channel.now prefix.now output.now) }
+    ensures { result ≡ judge (resuming_refusals mask.now code channel.now prefix.now output.now) }
 {
     match channel::judge_channel(code, channel) {
         Judgement::Fine => judge_prefix(mask, code, prefix, output),
@@ -122,7 +122,7 @@ fn resume_by(
 ) -> Resumed
     requires { Coded mask.now code
         × (length bits.old ≡ SIZE) }
-    ensures { (result, output.new) ≡ resumedBy mask.now code channel.now prefix.now output.old }
+    ensures { (result, output.new) ≡ resumed_by mask.now code channel.now prefix.now output.old }
 {
     match judge_resuming(mask, code, channel, prefix, output) {
         Judgement::Fine => {

@@ -5,16 +5,16 @@ use Prim.Native.Nat.{ℕ, ◌+◌, ◌^◌, ◌<◌, ◌≤◌}
 use native.Mathlib.Omega.{arith}
 use lib.IntN.{ℤ, pos}
 use lib.ListN.{length, get_or, take}
-use Rattle.laws.proofs.Indices.{lt-cases, take-agree}
+use Rattle.laws.proofs.Indices.{lt_cases, take-agree}
 use Rattle.values.specs.Values.{decided, Rule}
 use Rattle.pass_tree.specs.Node.{node}
 use Rattle.pass_tree.proofs.Node.{Short, length-bits}
-use Rattle.pass_tree.proofs.Decisions.{leafValue, leaf-before, decision}
+use Rattle.pass_tree.proofs.Decisions.{leaf_value, leaf-before, decision}
 
 -- two passes over the same values that have the same bits before index i
 module _ (s : ℕ) (p p' : List ℕ) (rule rule' : ℕ → Rule) (v : List ℤ) (short : Short s p) (short' : Short s p') (i : ℕ) (l : i < 2 ^ s)
     (e : take i (node s p rule v).bits ≡ take i (node s p' rule' v).bits) where
-  same : leafValue s v (node s p rule v).bits i ≡ leafValue s v (node s p' rule' v).bits i
+  same : leaf_value s v (node s p rule v).bits i ≡ leaf_value s v (node s p' rule' v).bits i
   same = leaf-before s v (node s p rule v).bits (node s p' rule' v).bits i l e
 
   -- their leaf values at i are equal, if both decide i
@@ -32,7 +32,7 @@ module _ (s : ℕ) (p : List ℕ) (rule rule' : ℕ → Rule) (v : List ℤ) (sh
       take-agree (node s p rule v).bits (node s p rule' v).bits 0 i (omega (arith, length-bits s p rule v short)) (omega (arith, length-bits s p rule' v short))
       (λ j m e.
       let k : j < 2 ^ s = omega arith in
-      lt-cases j (length p) (λ c. (decision s p rule v short j k).given c ∙ sym ((decision s p rule' v short j k).given c))
+      lt_cases j (length p) (λ c. (decision s p rule v short j k).given c ∙ sym ((decision s p rule' v short j k).given c))
       (λ c. same_bit s p p rule rule' v short short j k e c c (agree j c m)))
 
   -- the leaf value at i

@@ -8,11 +8,11 @@ use native.Mathlib.Omega.{arith}
 use lib.Dec.{leb}
 use lib.IntN.{ℤ, pos, nat_abs}
 use lib.ListN.{length, get_or, take, drop}
-use Rattle.values.specs.Values.{Rule, rightValues, leftValues}
+use Rattle.values.specs.Values.{Rule, right_values, left_values}
 use Rattle.values.specs.Claims.{Within}
 use Rattle.values.proofs.Bounds.{within_more, within-right, within-left}
 use Rattle.pass_tree.specs.Node.{node}
-use Rattle.pass_tree.proofs.Node.{left_of, left, right, leaf-cases, node-cases}
+use Rattle.pass_tree.proofs.Node.{left_of, left, right, leaf_cases, node_cases}
 
 within-nil : {m : ℕ} → Within m []
 within-nil = record { at = λ k. omega arith }
@@ -28,22 +28,22 @@ within-append : {m : ℕ} (xs ys : List ℤ) → Within m xs → Within m ys →
 within-append [] ys p q = q
 within-append (x ∷ xs) ys p q = within-cons (p.at 0) (within-append xs ys (record { at = λ k. p.at (suc k) }) q)
 
-pub within-leftOf : {m : ℕ} (h : ℕ) (p : List ℕ) {v : List ℤ} → Within m v → Within m (left_of h p v)
-within-leftOf {m} h p {v} w = chosen (leb h (length p))
+pub within-left_of : {m : ℕ} (h : ℕ) (p : List ℕ) {v : List ℤ} → Within m v → Within m (left_of h p v)
+within-left_of {m} h p {v} w = chosen (leb h (length p))
   where
-    chosen : (t : Bool) → Within m (cond t [] (leftValues h v))
+    chosen : (t : Bool) → Within m (cond t [] (left_values h v))
     chosen true = within-nil
     chosen false = within-left h w
 
 pub within-leaves : (s m : ℕ) (p : List ℕ) (rule : ℕ → Rule) (v : List ℤ) → Within m v → Within (m * 2 ^ s) (node s p rule v).leaves
 within-leaves zero m p rule v w =
-    leaf-cases (λ o. Within (m * 1) o.leaves) 0 p rule v (λ f. within-nil) (λ f. within-cons (omega (arith, w.at 0)) within-nil)
+    leaf_cases (λ o. Within (m * 1) o.leaves) 0 p rule v (λ f. within-nil) (λ f. within-cons (omega (arith, w.at 0)) within-nil)
 within-leaves (suc s) m p rule v w =
     let h : ℕ = 2 ^ s in
     let two : m * 2 ^ suc s ≡ m * h + m * h = ap (λ (k : ℕ). m * k) (two-pow-succ s) ∙ mul-add m h h in
     let twice : (m + m) * h ≡ m * h + m * h = add-mul m m h in
     let l = left s h p rule v in
-    let front = within-leaves s m (take h p) rule (left_of h p v) (within-leftOf h p w) in
-    let back = within-leaves s (m + m) (drop h p) (λ i. rule (h + i)) (rightValues h v l.sums) (within-right h l.sums w) in
-    node-cases (λ o. Within (m * 2 ^ suc s) o.leaves) s p rule v (λ f. within-nil)
+    let front = within-leaves s m (take h p) rule (left_of h p v) (within-left_of h p w) in
+    let back = within-leaves s (m + m) (drop h p) (λ i. rule (h + i)) (right_values h v l.sums) (within-right h l.sums w) in
+    node_cases (λ o. Within (m * 2 ^ suc s) o.leaves) s p rule v (λ f. within-nil)
     (λ f. within-append l.leaves (right s h p rule v).leaves (within_more (omega arith) front) (within_more (omega arith) back))

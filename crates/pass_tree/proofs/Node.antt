@@ -12,12 +12,12 @@ use lib.ListN.{length, get_or, take, drop, length-append, length-take, length-dr
 use Rattle.transform.specs.Transform.{xors}
 use Rattle.transform.proofs.Transformed.{length-transformed}
 use Rattle.transform.proofs.Xors.{length-xors}
-use Rattle.values.specs.Values.{Rule, rightValues, leftValues}
+use Rattle.values.specs.Values.{Rule, right_values, left_values}
 use Rattle.pass_tree.specs.Node.{Out, forced, leaf, join, node}
 
 -- the values of the left half that are computed
 abbrev pub left_of : ℕ → List ℕ → List ℤ → List ℤ
-left_of h p v = cond (leb h (length p)) [] (leftValues h v)
+left_of h p v = cond (leb h (length p)) [] (left_values h v)
 
 -- the two halves of a node at layer s + 1, with h = 2^s
 module _ (s h : ℕ) (p : List ℕ) (rule : ℕ → Rule) (v : List ℤ) where
@@ -25,10 +25,10 @@ module _ (s h : ℕ) (p : List ℕ) (rule : ℕ → Rule) (v : List ℤ) where
   left = node s (take h p) rule (left_of h p v)
 
   abbrev pub right : Out
-  right = node s (drop h p) (λ i. rule (h + i)) (rightValues h v left.sums)
+  right = node s (drop h p) (λ i. rule (h + i)) (right_values h v left.sums)
 
   abbrev pub halves : Out
-  halves = join h (left_of h p v) left (rightValues h v left.sums) right
+  halves = join h (left_of h p v) left (right_values h v left.sums) right
 
 pub node-forced : (s : ℕ) (p : List ℕ) (rule : ℕ → Rule) (v : List ℤ) → 2 ^ s ≤ length p → node s p rule v ≡ forced s p
 unfolding node
@@ -45,15 +45,15 @@ node-halves s p rule v l = ap (λ (t : Bool). cond t (forced (suc s) p) (halves 
 
 -- what holds of each case holds of the node
 module _ (P : Out → Type 0) (s : ℕ) (p : List ℕ) (rule : ℕ → Rule) (v : List ℤ) where
-  pub leaf-cases : (1 ≤ length p → P (forced 0 p)) → (length p < 1 → P (leaf (rule 0) (get_or v 0 (pos 0)))) → P (node 0 p rule v)
-  leaf-cases a b = go (leb 1 (length p)) refl
+  pub leaf_cases : (1 ≤ length p → P (forced 0 p)) → (length p < 1 → P (leaf (rule 0) (get_or v 0 (pos 0)))) → P (node 0 p rule v)
+  leaf_cases a b = go (leb 1 (length p)) refl
     where
       go : (t : Bool) → leb 1 (length p) ≡ t → P (node 0 p rule v)
       go true e = subst P (sym (node-forced 0 p rule v (leb-true _ _ e))) (a (leb-true _ _ e))
       go false e = subst P (sym (node-leaf p rule v (leb-false _ _ e))) (b (leb-false _ _ e))
 
-  pub node-cases : (2 ^ suc s ≤ length p → P (forced (suc s) p)) → (length p < 2 ^ suc s → P (halves s (2 ^ s) p rule v)) → P (node (suc s) p rule v)
-  node-cases a b = go (leb (2 ^ suc s) (length p)) refl
+  pub node_cases : (2 ^ suc s ≤ length p → P (forced (suc s) p)) → (length p < 2 ^ suc s → P (halves s (2 ^ s) p rule v)) → P (node (suc s) p rule v)
+  node_cases a b = go (leb (2 ^ suc s) (length p)) refl
     where
       go : (t : Bool) → leb (2 ^ suc s) (length p) ≡ t → P (node (suc s) p rule v)
       go true e = subst P (sym (node-forced (suc s) p rule v (leb-true _ _ e))) (a (leb-true _ _ e))
@@ -70,30 +70,30 @@ pub short-right : (s : ℕ) (p : List ℕ) → Short (suc s) p → Short s (drop
 short-right s p l = omega (arith, length-drop (2 ^ s) p, two-pow-succ s)
 
 pub length-bits : (s : ℕ) (p : List ℕ) (rule : ℕ → Rule) (v : List ℤ) → Short s p → length (node s p rule v).bits ≡ 2 ^ s
-length-bits zero p rule v l = leaf-cases (λ o. length o.bits ≡ 1) 0 p rule v (λ f. omega arith) (λ f. refl)
+length-bits zero p rule v l = leaf_cases (λ o. length o.bits ≡ 1) 0 p rule v (λ f. omega arith) (λ f. refl)
 length-bits (suc s) p rule v l =
     let h : ℕ = 2 ^ s in
     let a = length-bits s (take h p) rule (left_of h p v) (short-left s p) in
-    let b = length-bits s (drop h p) (λ i. rule (h + i)) (rightValues h v (left s h p rule v).sums) (short-right s p l) in
-    node-cases (λ o. length o.bits ≡ 2 ^ suc s) s p rule v (λ f. omega arith)
+    let b = length-bits s (drop h p) (λ i. rule (h + i)) (right_values h v (left s h p rule v).sums) (short-right s p l) in
+    node_cases (λ o. length o.bits ≡ 2 ^ suc s) s p rule v (λ f. omega arith)
     (λ f. omega (arith, two-pow-succ s, length-append (left s h p rule v).bits (right s h p rule v).bits))
 
 pub length-sums : (s : ℕ) (p : List ℕ) (rule : ℕ → Rule) (v : List ℤ) → length (node s p rule v).sums ≡ 2 ^ s
-length-sums zero p rule v = leaf-cases (λ o. length o.sums ≡ 1) 0 p rule v (λ f. length-transformed 0 p) (λ f. refl)
+length-sums zero p rule v = leaf_cases (λ o. length o.sums ≡ 1) 0 p rule v (λ f. length-transformed 0 p) (λ f. refl)
 length-sums (suc s) p rule v =
     let h : ℕ = 2 ^ s in
     let l : List ℕ = (left s h p rule v).sums in
     let r : List ℕ = (right s h p rule v).sums in
-    let b = length-sums s (drop h p) (λ i. rule (h + i)) (rightValues h v l) in
-    node-cases (λ o. length o.sums ≡ 2 ^ suc s) s p rule v (λ f. length-transformed (suc s) p)
+    let b = length-sums s (drop h p) (λ i. rule (h + i)) (right_values h v l) in
+    node_cases (λ o. length o.sums ≡ 2 ^ suc s) s p rule v (λ f. length-transformed (suc s) p)
     (λ f. omega (arith, two-pow-succ s, length-append (xors h l r) r, length-xors h l r))
 
 -- one leaf value for each index that is decided
 pub length-leaves : (s : ℕ) (p : List ℕ) (rule : ℕ → Rule) (v : List ℤ) → Short s p → length p + length (node s p rule v).leaves ≡ 2 ^ s
-length-leaves zero p rule v l = leaf-cases (λ o. length p + length o.leaves ≡ 1) 0 p rule v (λ f. omega arith) (λ f. omega arith)
+length-leaves zero p rule v l = leaf_cases (λ o. length p + length o.leaves ≡ 1) 0 p rule v (λ f. omega arith) (λ f. omega arith)
 length-leaves (suc s) p rule v l =
     let h : ℕ = 2 ^ s in
     let a = length-leaves s (take h p) rule (left_of h p v) (short-left s p) in
-    let b = length-leaves s (drop h p) (λ i. rule (h + i)) (rightValues h v (left s h p rule v).sums) (short-right s p l) in
-    node-cases (λ o. length p + length o.leaves ≡ 2 ^ suc s) s p rule v (λ f. omega arith)
+    let b = length-leaves s (drop h p) (λ i. rule (h + i)) (right_values h v (left s h p rule v).sums) (short-right s p l) in
+    node_cases (λ o. length p + length o.leaves ≡ 2 ^ suc s) s p rule v (λ f. omega arith)
     (λ f. omega (arith, two-pow-succ s, length-take h p, length-drop h p, length-append (left s h p rule v).leaves (right s h p rule v).leaves))

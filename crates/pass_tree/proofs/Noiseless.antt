@@ -11,15 +11,15 @@ use lib.IntN.{ℤ, pos}
 use lib.ListN.{length, get_or, take, drop, length-drop, take-append-drop, get_or-append}
 use lib.Pow.{pow_pos}
 use lib.Seq.{get_or-take, get_or-drop, get_or-append-add, length-take-le, take-nil, drop-nil}
-use Rattle.laws.proofs.Table.{getD-table}
+use Rattle.laws.proofs.Table.{get_or-table}
 use Rattle.laws.proofs.Indices.{by-halves}
 use Rattle.bits.specs.Claims.{Bits}
 use Rattle.bits.proofs.Lists.{bits-take, bits-drop}
 use Rattle.transform.specs.Transform.{transformed, xors}
 use Rattle.transform.proofs.Transformed.{bits-transformed, transformed-zero, transformed-suc}
-use Rattle.transform.proofs.Xors.{length-xors, getD-xors}
-use Rattle.values.specs.Values.{decided, Rule, frozen, usual, opposite, rightValues, leftValues, f, hard}
-use Rattle.values.proofs.Favours.{Favours, f-favours, g-favours}
+use Rattle.transform.proofs.Xors.{length-xors, get_or-xors}
+use Rattle.values.specs.Values.{decided, Rule, frozen, usual, opposite, right_values, left_values, f, hard}
+use Rattle.values.proofs.Favours.{Favours, f_favours, g_favours}
 use Rattle.pass_tree.specs.Node.{Out, leaf, join, node}
 use Rattle.pass_tree.proofs.Node.{node-leaf, node-halves, length-leaves}
 
@@ -39,8 +39,8 @@ decided-right usual x z c e = e
 decided-right opposite x z c e = absurd c
 
 -- a whole pass at two halves: no bit is forced in either
-pub plain-halves : (s : ℕ) (rule : ℕ → Rule) (v : List ℤ) → node (suc s) [] rule v ≡ (let h = 2 ^ s in let l = node s [] rule (leftValues h v) in join h (leftValues h v) l (rightValues h v l.sums) (node s [] (λ i. rule (h + i)) (rightValues h v l.sums)))
-plain-halves s rule v =
+pub plain_halves : (s : ℕ) (rule : ℕ → Rule) (v : List ℤ) → node (suc s) [] rule v ≡ (let h = 2 ^ s in let l = node s [] rule (left_values h v) in join h (left_values h v) l (right_values h v l.sums) (node s [] (λ i. rule (h + i)) (right_values h v l.sums)))
+plain_halves s rule v =
     let none : leb (2 ^ s) 0 ≡ false = lt-leb (2 ^ s) 0 (pow_pos s) in
     node-halves s [] rule v (pow_pos (suc s)) ∙ rw (none, take-nil (2 ^ s), drop-nil (2 ^ s))
 
@@ -76,7 +76,7 @@ module _ (s : ℕ) (u : List ℕ) where
     front : (j : ℕ) → j < h → Favours ((get_or L j 0 + get_or R j 0) % 2) (get_or v j (pos 0))
     front j l =
         subst (λ (x : ℕ). Favours x (get_or v j (pos 0)))
-        (ap (λ (x : List ℕ). get_or x j 0) (transformed-suc s u) ∙ get_or-append (xors h L R) R 0 j (omega (arith, length-xors h L R)) ∙ getD-xors h L R j l)
+        (ap (λ (x : List ℕ). get_or x j 0) (transformed-suc s u) ∙ get_or-append (xors h L R) R 0 j (omega (arith, length-xors h L R)) ∙ get_or-xors h L R j l)
         (signs j (omega (arith, two-pow-succ s)))
 
     back : (j : ℕ) → j < h → Favours (get_or R j 0) (get_or v (h + j) (pos 0))
@@ -86,18 +86,18 @@ module _ (s : ℕ) (u : List ℕ) where
         ∙ ap (λ (k : ℕ). get_or (xors h L R ++ R) (k + j) 0) (sym (length-xors h L R)) ∙ get_or-append-add (xors h L R) R j 0)
         (signs (h + j) (omega (arith, two-pow-succ s)))
 
-    left-signs : Signs h L (leftValues h v)
-    unfolding leftValues
+    left-signs : Signs h L (left_values h v)
+    unfolding left_values
     left-signs j l =
         let x : ((get_or L j 0 + get_or R j 0) % 2 + get_or R j 0) % 2 ≡ get_or L j 0 = omega (arith, (bits-transformed s (take h u)).at j) in
-        subst (Favours (get_or L j 0)) (sym (getD-table _ h j (pos 0) l))
-        (subst (λ (y : ℕ). Favours y (f (get_or v j (pos 0)) (get_or v (h + j) (pos 0)))) x (f-favours (front j l) (back j l)))
+        subst (Favours (get_or L j 0)) (sym (get_or-table _ h j (pos 0) l))
+        (subst (λ (y : ℕ). Favours y (f (get_or v j (pos 0)) (get_or v (h + j) (pos 0)))) x (f_favours (front j l) (back j l)))
 
-    right-signs : Signs h R (rightValues h v L)
-    unfolding rightValues
+    right-signs : Signs h R (right_values h v L)
+    unfolding right_values
     right-signs j l =
-        subst (Favours (get_or R j 0)) (sym (getD-table _ h j (pos 0) l))
-        (g-favours (get_or L j 0) ((bits-transformed s (take h u)).at j) ((bits-transformed s (drop h u)).at j) (front j l) (back j l))
+        subst (Favours (get_or R j 0)) (sym (get_or-table _ h j (pos 0) l))
+        (g_favours (get_or L j 0) ((bits-transformed s (take h u)).at j) ((bits-transformed s (drop h u)).at j) (front j l) (back j l))
 
 -- two halves that are recovered
 both : (s : ℕ) (u : List ℕ) (left right : List ℤ) (l r : Out) → length l.leaves ≡ 2 ^ s → Recovers s (take (2 ^ s) u) l → Recovers s (drop (2 ^ s) u) r → Recovers (suc s) u (join (2 ^ s) left l right r)
@@ -121,14 +121,14 @@ noiseless zero u rule v len b c signs =
 noiseless (suc s) u rule v len b c signs =
     let h : ℕ = 2 ^ s in
     let two = two-pow-succ s in
-    let l : Out = node s [] rule (leftValues h v) in
+    let l : Out = node s [] rule (left_values h v) in
     let pl : Recovers s (take h u) l =
-    noiseless s (take h u) rule (leftValues h v) (length-take-le h u (omega arith)) (bits-take h u b)
+    noiseless s (take h u) rule (left_values h v) (length-take-le h u (omega arith)) (bits-take h u b)
     (λ i m. subst (Carries (rule i)) (sym (get_or-take h u i 0 m)) (c i (omega arith))) (left-signs s u v signs) in
-    let r : Out = node s [] (λ i. rule (h + i)) (rightValues h v l.sums) in
+    let r : Out = node s [] (λ i. rule (h + i)) (right_values h v l.sums) in
     let pr : Recovers s (drop h u) r =
-    noiseless s (drop h u) (λ i. rule (h + i)) (rightValues h v l.sums) (length-drop h u ∙ omega arith) (bits-drop h u b)
+    noiseless s (drop h u) (λ i. rule (h + i)) (right_values h v l.sums) (length-drop h u ∙ omega arith) (bits-drop h u b)
     (λ i m. subst (Carries (rule (h + i))) (sym (get_or-drop h u i 0)) (c (h + i) (omega arith)))
-    (subst (λ (x : List ℕ). Signs h (transformed s (drop h u)) (rightValues h v x)) (sym pl.sums) (right-signs s u v signs)) in
-    let long : length l.leaves ≡ h = omega (arith, length-leaves s [] rule (leftValues h v) (omega arith)) in
-    subst (Recovers (suc s) u) (sym (plain-halves s rule v)) (both s u (leftValues h v) (rightValues h v l.sums) l r long pl pr)
+    (subst (λ (x : List ℕ). Signs h (transformed s (drop h u)) (right_values h v x)) (sym pl.sums) (right-signs s u v signs)) in
+    let long : length l.leaves ≡ h = omega (arith, length-leaves s [] rule (left_values h v) (omega arith)) in
+    subst (Recovers (suc s) u) (sym (plain_halves s rule v)) (both s u (left_values h v) (right_values h v l.sums) l r long pl pr)

@@ -7,14 +7,14 @@ use native.Mathlib.Omega.{arith}
 use lib.IntN.{ℤ, pos}
 use lib.ListN.{length, get_or, take, drop, length-drop}
 use lib.Seq.{take_all, take-length, get_or-take, get_or-drop, ext_get_or}
-use Rattle.laws.proofs.Indices.{lt-cases, take-agree}
+use Rattle.laws.proofs.Indices.{lt_cases, take-agree}
 use Rattle.transform.specs.Transform.{transformed}
 use Rattle.values.specs.Values.{Rule}
 use Rattle.pass_tree.specs.Node.{Out, node}
 use Rattle.pass_tree.proofs.Node.{Short, length-bits, length-leaves}
 use Rattle.pass_tree.proofs.Sums.{sums-transformed}
-use Rattle.pass_tree.proofs.StepsMost.{same-steps}
-use Rattle.pass_tree.proofs.Steps.{steps-length}
+use Rattle.pass_tree.proofs.StepsMost.{same_steps}
+use Rattle.pass_tree.proofs.Steps.{steps_length}
 use Rattle.pass_tree.proofs.Decisions.{decision}
 use Rattle.pass_tree.proofs.Causality.{same-leaf, same_bit}
 
@@ -33,7 +33,7 @@ module _ (s : ℕ) (p p' : List ℕ) (rule rule' : ℕ → Rule) (v : List ℤ) 
       let n' = length-bits s p' rule' v short' in
       sym (take_all (2 ^ s) o'.bits (omega arith))
       ∙ take-agree o'.bits o.bits 0 (2 ^ s) (omega arith) (omega arith)
-      (λ j l e. lt-cases j (length p')
+      (λ j l e. lt_cases j (length p')
       (λ c. (decision s p' rule' v short' j l).given c ∙ ap (λ (x : List ℕ). get_or x j 0) begins ∙ get_or-take (length p') o.bits j 0 c)
       (λ c. sym (same_bit s p p' rule rule' v short short' j l (sym e) (omega arith) c (agree j c l))))
       ∙ take_all (2 ^ s) o.bits (omega arith)
@@ -68,8 +68,8 @@ begins-forced s p rule v short =
     (λ j l _. sym ((decision s p rule v short j (omega arith)).given l))
 
 -- rules below the prefix do not matter
-pub rules-below : (s : ℕ) (p : List ℕ) (rule rule' : ℕ → Rule) (v : List ℤ) → Short s p → ((j : ℕ) → length p ≤ j → j < 2 ^ s → rule j ≡ rule' j) → node s p rule v ≡ node s p rule' v
-rules-below s p rule rule' v short agree =
+pub rules_below : (s : ℕ) (p : List ℕ) (rule rule' : ℕ → Rule) (v : List ℤ) → Short s p → ((j : ℕ) → length p ≤ j → j < 2 ^ s → rule j ≡ rule' j) → node s p rule v ≡ node s p rule' v
+rules_below s p rule rule' v short agree =
     let c : length p ≤ length p = omega arith in
     let e = begins-forced s p rule' v short in
     let back : (j : ℕ) → length p ≤ j → j < 2 ^ s → rule' j ≡ rule j = λ j m l. sym (agree j m l) in
@@ -77,5 +77,5 @@ rules-below s p rule rule' v short agree =
       bits = restart-bits s p p rule' rule v short short c e back i;
       sums = restart-sums s p p rule' rule v short short c e back i;
       leaves = restart-leaves s p p rule' rule v short short c e back 0 (add-zero (length p)) i;
-      work = same-steps (steps-length s p p rule rule' v v refl short) i;
+      work = same_steps (steps_length s p p rule rule' v v refl short) i;
     }

@@ -38,16 +38,16 @@ module _ (s : ℕ) (rule rule' : ℕ → Rule) (v : List ℤ) (i q : ℕ) (l : i
   trial-bit : (j : ℕ) → j < 2 ^ s → (r : Rule) → rule' j ≡ r → get_or trial.bits j 0 ≡ decided r (get_or trial.leaves j (pos 0))
   trial-bit j c r e = bit-decided s [] rule' v none j j (omega arith) c ∙ ap (λ (x : Rule). decided x (get_or trial.leaves j (pos 0))) e
 
-  opposite-bit : 1 - get_or first.bits i 0 ≡ get_or trial.bits i 0
-  opposite-bit =
+  opposite_bit : 1 - get_or first.bits i 0 ≡ get_or trial.bits i 0
+  opposite_bit =
       ap (λ (x : ℕ). 1 - x)
       (bit-decided s [] rule v none i i (omega arith) (omega arith)
       ∙ ap₂ decided plain (leaf-at s [] rule rule' v none i (λ j _ c. before j c) i (omega arith) (omega arith)))
       ∙ sym (trial-bit i (omega arith) opposite flip)
 
-  from-flip : (k : ℕ) → i + k < q → get_or ((1 - get_or first.bits i 0) ∷ replicate (q - (i + 1)) 0) k 0 ≡ get_or trial.bits (i + k) 0
-  from-flip zero c = rw add-zero opposite-bit
-  from-flip (suc k) c =
+  from_flip : (k : ℕ) → i + k < q → get_or ((1 - get_or first.bits i 0) ∷ replicate (q - (i + 1)) 0) k 0 ≡ get_or trial.bits (i + k) 0
+  from_flip zero c = rw add-zero opposite_bit
+  from_flip (suc k) c =
       get_or-replicate (q - (i + 1)) k 0 0 (omega arith) ∙ sym (trial-bit (i + suc k) (omega arith) frozen (zeros (i + suc k) (omega arith) c))
 
   pub begins-flipped : flipped first.bits i q ≡ take q trial.bits
@@ -61,5 +61,5 @@ module _ (s : ℕ) (rule rule' : ℕ → Rule) (v : List ℤ) (i q : ℕ) (l : i
       (omega (arith, length-replicate {A = ℕ} (q - (i + 1)) 0, length-take n back, length-drop i trial.bits, length-bits s [] rule' v none))
       (λ k c.
       let d : i + k < q = omega (arith, length-replicate {A = ℕ} (q - (i + 1)) 0) in
-      from-flip k d ∙ sym (get_or-take n back k 0 (omega arith) ∙ get_or-drop i trial.bits k 0)))
+      from_flip k d ∙ sym (get_or-take n back k 0 (omega arith) ∙ get_or-drop i trial.bits k 0)))
       ∙ sym (take-add i n trial.bits) ∙ ap (λ (k : ℕ). take k trial.bits) whole

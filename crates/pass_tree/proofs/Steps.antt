@@ -11,11 +11,11 @@ use lib.Dec.{leb}
 use lib.IntN.{ℤ}
 use lib.ListN.{length, take, drop, length-take, length-drop}
 use lib.Pow.{pow_pos}
-use Rattle.values.specs.Values.{Rule, rightValues, leftValues}
+use Rattle.values.specs.Values.{Rule, right_values, left_values}
 use Rattle.values.proofs.Lengths.{length-right, length-left}
 use Rattle.pass_tree.specs.Node.{Out, node}
 use Rattle.pass_tree.specs.Skipped.{skipped}
-use Rattle.pass_tree.proofs.Node.{left_of, left, right, leaf-cases, node-cases, node-forced, Short, short-left, short-right}
+use Rattle.pass_tree.proofs.Node.{left_of, left, right, leaf_cases, node_cases, node-forced, Short, short-left, short-right}
 
 -- whole blocks of 2^s before q save all their steps
 skipped-add : (s c q : ℕ) → skipped s (c * 2 ^ s + q) ≡ s * (c * 2 ^ s) + skipped s q
@@ -35,23 +35,23 @@ skipped-none zero = refl
 skipped-none (suc s) = omega (arith, skipped-none s)
 
 -- a longer prefix has as many whole blocks or more
-blocks-mono : (s : ℕ) {q q' : ℕ} → q ≤ q' → q - q % 2 ^ s ≤ q' - q' % 2 ^ s
-blocks-mono s {q} {q'} l =
+blocks_mono : (s : ℕ) {q q' : ℕ} → q ≤ q' → q - q % 2 ^ s ≤ q' - q' % 2 ^ s
+blocks_mono s {q} {q'} l =
     let h : ℕ = 2 ^ s in
     let fewer : q / h ≤ q' / h = (le-div_iff_mul-le (pow_pos s)).1 (omega (arith, div-mul-le_self q h)) in
     omega (arith, div-add-mod' q h, div-add-mod' q' h, mul-le-mul_right h fewer)
 
 -- so it saves as much or more
-pub skipped-mono : (s : ℕ) {q q' : ℕ} → q ≤ q' → skipped s q ≤ skipped s q'
+pub skipped_mono : (s : ℕ) {q q' : ℕ} → q ≤ q' → skipped s q ≤ skipped s q'
 unfolding skipped
-skipped-mono zero l = omega arith
-skipped-mono (suc s) l = omega (arith, skipped-mono s l, blocks-mono s l)
+skipped_mono zero l = omega arith
+skipped_mono (suc s) l = omega (arith, skipped_mono s l, blocks_mono s l)
 
 -- and above a leaf at least one step more for each index more
-pub skipped-grows : (s : ℕ) {q q' : ℕ} → q ≤ q' → skipped (suc s) q + (q' - q) ≤ skipped (suc s) q'
+pub skipped_grows : (s : ℕ) {q q' : ℕ} → q ≤ q' → skipped (suc s) q + (q' - q) ≤ skipped (suc s) q'
 unfolding skipped
-skipped-grows zero {q} {q'} l = omega (arith, mod-one q, mod-one q')
-skipped-grows (suc s) l = omega (arith, skipped-grows s l, blocks-mono (suc s) l)
+skipped_grows zero {q} {q'} l = omega (arith, mod-one q, mod-one q')
+skipped_grows (suc s) l = omega (arith, skipped_grows s l, blocks_mono (suc s) l)
 
 -- at the end of the node all is saved
 skipped-whole : (s : ℕ) → skipped s (2 ^ s) ≡ s * 2 ^ s
@@ -96,40 +96,40 @@ pub skipped-starred : StarredSkipped
 unfolding skipped
 skipped-starred = refl
 
-pub length-leftOf : (h : ℕ) (p : List ℕ) (v : List ℤ) → length (left_of h p v) ≡ cond (leb h (length p)) 0 h
-length-leftOf h p v = go (leb h (length p))
+pub length-left_of : (h : ℕ) (p : List ℕ) (v : List ℤ) → length (left_of h p v) ≡ cond (leb h (length p)) 0 h
+length-left_of h p v = go (leb h (length p))
   where
-    go : (t : Bool) → length (cond t [] (leftValues h v)) ≡ cond t 0 h
+    go : (t : Bool) → length (cond t [] (left_values h v)) ≡ cond t 0 h
     go true = refl
     go false = length-left h v
 
-pub steps-and-skipped : (s : ℕ) (p : List ℕ) (rule : ℕ → Rule) (v : List ℤ) → Short s p → (node s p rule v).work.steps + skipped s (length p) ≡ s * 2 ^ s
+pub steps_and_skipped : (s : ℕ) (p : List ℕ) (rule : ℕ → Rule) (v : List ℤ) → Short s p → (node s p rule v).work.steps + skipped s (length p) ≡ s * 2 ^ s
 unfolding skipped
-steps-and-skipped zero p rule v l = leaf-cases (λ o. o.work.steps + 0 ≡ 0) 0 p rule v (λ f. refl) (λ f. refl)
-steps-and-skipped (suc s) p rule v l =
+steps_and_skipped zero p rule v l = leaf_cases (λ o. o.work.steps + 0 ≡ 0) 0 p rule v (λ f. refl) (λ f. refl)
+steps_and_skipped (suc s) p rule v l =
     let h : ℕ = 2 ^ s in
     let q : ℕ = length p in
     let lo : Out = left s h p rule v in
     let a : lo.work.steps + skipped s (min h q) ≡ s * h =
-    ap (λ (k : ℕ). lo.work.steps + skipped s k) (sym (length-take h p)) ∙ steps-and-skipped s (take h p) rule (left_of h p v) (short-left s p) in
+    ap (λ (k : ℕ). lo.work.steps + skipped s k) (sym (length-take h p)) ∙ steps_and_skipped s (take h p) rule (left_of h p v) (short-left s p) in
     let ro : Out = right s h p rule v in
     let b : ro.work.steps + skipped s (q - h) ≡ s * h =
-    ap (λ (k : ℕ). ro.work.steps + skipped s k) (sym (length-drop h p)) ∙ steps-and-skipped s (drop h p) (λ i. rule (h + i)) (rightValues h v lo.sums) (short-right s p l) in
+    ap (λ (k : ℕ). ro.work.steps + skipped s k) (sym (length-drop h p)) ∙ steps_and_skipped s (drop h p) (λ i. rule (h + i)) (right_values h v lo.sums) (short-right s p l) in
     let two : suc s * 2 ^ suc s ≡ s * h + s * h + (h + h) = ap (λ (k : ℕ). suc s * k) (two-pow-succ s) ∙ omega arith in
     let saved : q ≡ 2 ^ suc s → skipped (suc s) q ≡ suc s * 2 ^ suc s = λ e. ap (skipped (suc s)) e ∙ skipped-whole (suc s) in
-    node-cases (λ o. o.work.steps + skipped (suc s) q ≡ suc s * 2 ^ suc s) s p rule v
+    node_cases (λ o. o.work.steps + skipped (suc s) q ≡ suc s * 2 ^ suc s) s p rule v
     (λ f. omega (arith, saved (omega arith)))
-    (λ f. omega (arith, skipped-suc s q f, length-leftOf h p v, length-right h v lo.sums))
+    (λ f. omega (arith, skipped-suc s q f, length-left_of h p v, length-right h v lo.sums))
 
 -- a whole pass
-pub steps-whole : (s : ℕ) (rule : ℕ → Rule) (v : List ℤ) → (node s [] rule v).work.steps ≡ s * 2 ^ s
-steps-whole s rule v = omega (arith, steps-and-skipped s [] rule v (omega arith), skipped-none s)
+pub steps_whole : (s : ℕ) (rule : ℕ → Rule) (v : List ℤ) → (node s [] rule v).work.steps ≡ s * 2 ^ s
+steps_whole s rule v = omega (arith, steps_and_skipped s [] rule v (omega arith), skipped-none s)
 
 -- a pass whose bits are all forced
-pub steps-forced : (s : ℕ) (p : List ℕ) (rule : ℕ → Rule) (v : List ℤ) → length p ≡ 2 ^ s → (node s p rule v).work.steps ≡ 0
-steps-forced s p rule v e = ap (λ (o : Out). o.work.steps) (node-forced s p rule v (omega arith))
+pub steps_forced : (s : ℕ) (p : List ℕ) (rule : ℕ → Rule) (v : List ℤ) → length p ≡ 2 ^ s → (node s p rule v).work.steps ≡ 0
+steps_forced s p rule v e = ap (λ (o : Out). o.work.steps) (node-forced s p rule v (omega arith))
 
 -- prefixes of one length
-pub steps-length : (s : ℕ) (p p' : List ℕ) (rule rule' : ℕ → Rule) (v v' : List ℤ) → length p ≡ length p' → Short s p → (node s p rule v).work.steps ≡ (node s p' rule' v').work.steps
-steps-length s p p' rule rule' v v' e l =
-    omega (arith, steps-and-skipped s p rule v l, steps-and-skipped s p' rule' v' (omega arith), ap (skipped s) e)
+pub steps_length : (s : ℕ) (p p' : List ℕ) (rule rule' : ℕ → Rule) (v v' : List ℤ) → length p ≡ length p' → Short s p → (node s p rule v).work.steps ≡ (node s p' rule' v').work.steps
+steps_length s p p' rule rule' v v' e l =
+    omega (arith, steps_and_skipped s p rule v l, steps_and_skipped s p' rule' v' (omega arith), ap (skipped s) e)

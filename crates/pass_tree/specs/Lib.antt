@@ -1,4 +1,4 @@
 pub mod Node
 pub mod Skipped
 pub mod Claims
-pub mod Contracts
+pub mod Clauses

@@ -1,7 +1,7 @@
 // The work of a node of the tree.
 ghost use Rattle.std.specs.Prelude.{◌≡◌, [], ◌+◌, ◌^◌, ◌<◌};
-ghost use Rattle.pass_tree.specs.Node.{workOf, plusWork};
-ghost use Rattle.pass_tree.specs.Contracts.{counted};
+ghost use Rattle.pass_tree.specs.Node.{work_of, plus_work};
+ghost use Rattle.pass_tree.specs.Clauses.{counted};
 
 // What a part of a pass did.
 #[derive(Drop)]
@@ -13,7 +13,7 @@ pub struct Work {
 impl Work {
     // Nothing.
     pub fn none() -> Work
-        ensures { result ≡ workOf [] }
+        ensures { result ≡ work_of [] }
     {
         Work { steps: 0 }
     }
@@ -28,7 +28,7 @@ impl Work {
     // All that two parts did.
     pub fn plus(self, other: Work) -> Work
         requires { self.steps + other.steps < 2 ^ 32 }
-        ensures { result ≡ plusWork self other }
+        ensures { result ≡ plus_work self other }
     {
         Work {
             steps: self.steps + other.steps,

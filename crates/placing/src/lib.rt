@@ -1,10 +1,10 @@
 // Placing bits by a mask, and taking them out again. Each walks the mask once, counts its looks and keeps the count of ones.
 ghost use Rattle.std.specs.Prelude.{◌≡◌, cond, ◌+◌, ◌*◌, ◌≤◌, ◌<◌, eqb, length, get_or, set};
-ghost use Rattle.laws.specs.Contracts.{splice};
+ghost use Rattle.laws.specs.Clauses.{splice};
 ghost use Rattle.placing.specs.Place.{taken, placed};
-ghost use Rattle.placing.specs.Contracts.{PlacePre};
+ghost use Rattle.placing.specs.Clauses.{PlacePre};
 ghost use Rattle.bits.specs.Claims.{Bits};
-ghost use Rattle.bits.specs.Packing.{packedByte, packed};
+ghost use Rattle.bits.specs.Packing.{packed_byte, packed};
 ghost use Rattle.walk.specs.Walked.{walked};
 
 use walk::Walk;
@@ -31,7 +31,7 @@ fn placed_byte(mask: &[u8], message: &[u8], m: usize, start: Walk) -> PlacedByte
     requires { PlacePre mask.now message.now
         × (m < length mask.now)
         × (start ≡ walked mask.now (8 * m)) }
-    ensures { (result.byte ≡ packedByte (placed mask.now message.now (8 * length mask.now)) m)
+    ensures { (result.byte ≡ packed_byte (placed mask.now message.now (8 * length mask.now)) m)
         × (result.walk ≡ walked mask.now (8 * (m + 1))) }
 {
     let mut walk = start;

@@ -2,17 +2,17 @@
 ghost use Rattle.std.specs.Prelude.{◌≡◌};
 ghost use Rattle.encoder.specs.Encode.{encoded};
 ghost use Rattle.pass_resume.specs.Resume.{resumed};
-ghost use Rattle.decoder.specs.Decoder.{decodedFull, decodedHalf, decodedRestarted, setsFull, setsHalf, setsRestarted};
-ghost use Rattle.hearing_buffer.specs.Lent.{openedIn, addedIn, clearedIn, fullIn, restartedIn};
-ghost use Rattle.hearing_preview.specs.Preview.{previewedIn};
-ghost use Rattle.polar_number.specs.Number.{numbered, encodedParts, resumedParts, decodedParts, keptParts};
+ghost use Rattle.decoder.specs.Decoder.{decoded_full, decoded_half, decoded_restarted, sets_full, sets_half, sets_restarted};
+ghost use Rattle.hearing_buffer.specs.Lent.{opened_in, added_in, cleared_in, full_in, restarted_in};
+ghost use Rattle.hearing_preview.specs.Preview.{previewed_in};
+ghost use Rattle.polar_number.specs.Number.{numbered, encoded_parts, resumed_parts, decoded_parts, kept_parts};
 
 use polar_number::{decoded_answer, encoded_answer, kept_answer, resumed_answer};
 
 #[unsafe(no_mangle)]
 pub extern "C" fn polar_encode(description: &[u8], payload: &[u8], codeword: &mut [u8]) -> u64
     ensures { (result, codeword.new)
-        ≡ numbered encodedParts (encoded description.now payload.now codeword.old) }
+        ≡ numbered encoded_parts (encoded description.now payload.now codeword.old) }
 {
     encoded_answer(encoder::encode(description, payload, codeword))
 }
@@ -25,7 +25,7 @@ pub extern "C" fn polar_resume(
     bits: &mut [u8],
 ) -> u64
     ensures { (result, bits.new)
-        ≡ numbered resumedParts (resumed description.now channel.now prefix.now bits.old) }
+        ≡ numbered resumed_parts (resumed description.now channel.now prefix.now bits.old) }
 {
     resumed_answer(pass_resume::resume(description, channel, prefix, bits))
 }
@@ -38,7 +38,7 @@ pub extern "C" fn polar_decode_full(
     payload: &mut [u8],
 ) -> u64
     ensures { (result, payload.new)
-        ≡ numbered decodedParts (decodedFull description.now channel.now limit payload.old) }
+        ≡ numbered decoded_parts (decoded_full description.now channel.now limit payload.old) }
 {
     decoded_answer(flip_decoder::decode_full(description, channel, limit, payload))
 }
@@ -51,7 +51,7 @@ pub extern "C" fn polar_decode_half(
     payload: &mut [u8],
 ) -> u64
     ensures { (result, payload.new)
-        ≡ numbered decodedParts (decodedHalf description.now channel.now limit payload.old) }
+        ≡ numbered decoded_parts (decoded_half description.now channel.now limit payload.old) }
 {
     decoded_answer(flip_decoder::decode_half(description, channel, limit, payload))
 }
@@ -64,7 +64,7 @@ pub extern "C" fn polar_decode_restarted(
     payload: &mut [u8],
 ) -> u64
     ensures { (result, payload.new)
-        ≡ numbered decodedParts (decodedRestarted description.now channel.now limit payload.old) }
+        ≡ numbered decoded_parts (decoded_restarted description.now channel.now limit payload.old) }
 {
     decoded_answer(flip_decoder::decode_restarted(description, channel, limit, payload))
 }
@@ -78,7 +78,7 @@ pub extern "C" fn polar_decode_sets_full(
     payload: &mut [u8],
 ) -> u64
     ensures { (result, payload.new)
-        ≡ numbered decodedParts (setsFull description.now channel.now w limit payload.old) }
+        ≡ numbered decoded_parts (sets_full description.now channel.now w limit payload.old) }
 {
     decoded_answer(sets_decoder::decode_sets_full(description, channel, w, limit, payload))
 }
@@ -92,7 +92,7 @@ pub extern "C" fn polar_decode_sets_half(
     payload: &mut [u8],
 ) -> u64
     ensures { (result, payload.new)
-        ≡ numbered decodedParts (setsHalf description.now channel.now w limit payload.old) }
+        ≡ numbered decoded_parts (sets_half description.now channel.now w limit payload.old) }
 {
     decoded_answer(sets_decoder::decode_sets_half(description, channel, w, limit, payload))
 }
@@ -106,7 +106,7 @@ pub extern "C" fn polar_decode_sets_restarted(
     payload: &mut [u8],
 ) -> u64
     ensures { (result, payload.new)
-        ≡ numbered decodedParts (setsRestarted description.now channel.now w limit payload.old) }
+        ≡ numbered decoded_parts (sets_restarted description.now channel.now w limit payload.old) }
 {
     decoded_answer(sets_decoder::decode_sets_restarted(description, channel, w, limit, payload))
 }
@@ -114,7 +114,7 @@ pub extern "C" fn polar_decode_sets_restarted(
 #[unsafe(no_mangle)]
 pub extern "C" fn polar_hearing_open(description: &[u8], state: &mut [u8]) -> u64
     ensures { (result, state.new)
-        ≡ numbered keptParts (openedIn description.now state.old) }
+        ≡ numbered kept_parts (opened_in description.now state.old) }
 {
     kept_answer(hearing_buffer::open(description, state))
 }
@@ -122,7 +122,7 @@ pub extern "C" fn polar_hearing_open(description: &[u8], state: &mut [u8]) -> u6
 #[unsafe(no_mangle)]
 pub extern "C" fn polar_hearing_add(state: &mut [u8], channel: &[u8]) -> u64
     ensures { (result, state.new)
-        ≡ numbered keptParts (addedIn state.old channel.now) }
+        ≡ numbered kept_parts (added_in state.old channel.now) }
 {
     kept_answer(hearing_buffer::add(state, channel))
 }
@@ -130,7 +130,7 @@ pub extern "C" fn polar_hearing_add(state: &mut [u8], channel: &[u8]) -> u64
 #[unsafe(no_mangle)]
 pub extern "C" fn polar_hearing_clear(state: &mut [u8]) -> u64
     ensures { (result, state.new)
-        ≡ numbered keptParts (clearedIn state.old) }
+        ≡ numbered kept_parts (cleared_in state.old) }
 {
     kept_answer(hearing_buffer::clear(state))
 }
@@ -138,7 +138,7 @@ pub extern "C" fn polar_hearing_clear(state: &mut [u8]) -> u64
 #[unsafe(no_mangle)]
 pub extern "C" fn polar_hearing_decode_full(state: &[u8], limit: u32, payload: &mut [u8]) -> u64
     ensures { (result, payload.new)
-        ≡ numbered decodedParts (fullIn state.now limit payload.old) }
+        ≡ numbered decoded_parts (full_in state.now limit payload.old) }
 {
     decoded_answer(hearing_buffer::decode_full(state, limit, payload))
 }
@@ -150,7 +150,7 @@ pub extern "C" fn polar_hearing_decode_restarted(
     payload: &mut [u8],
 ) -> u64
     ensures { (result, payload.new)
-        ≡ numbered decodedParts (restartedIn state.now limit payload.old) }
+        ≡ numbered decoded_parts (restarted_in state.now limit payload.old) }
 {
     decoded_answer(hearing_buffer::decode_restarted(state, limit, payload))
 }
@@ -163,7 +163,7 @@ pub extern "C" fn polar_hearing_preview(
     payload: &mut [u8],
 ) -> u64
     ensures { ((result, payload.new)
-        ≡ numbered decodedParts (previewedIn state.now channel.now limit payload.old))
+        ≡ numbered decoded_parts (previewed_in state.now channel.now limit payload.old))
         × (state.now ≡ state.now) }
 {
     decoded_answer(hearing_preview::preview_in(state, channel, limit, payload))

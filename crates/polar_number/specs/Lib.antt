@@ -1,3 +1,3 @@
 pub mod Number
 pub mod Claims
-pub mod Contracts
+pub mod Clauses

@@ -26,35 +26,35 @@ abbrev pub parts : ℕ → ℕ → ℕ → Parts
 parts refusal value steps = record { refusal = refusal; value = value; steps = steps }
 
 -- the parts side by side
-abbrev pub packedParts : Parts → ℕ
-packedParts p = p.refusal + p.value * 2 ^ 8 + p.steps * 2 ^ 32
+abbrev pub packed_parts : Parts → ℕ
+packed_parts p = p.refusal + p.value * 2 ^ 8 + p.steps * 2 ^ 32
 
 -- the number of an answer, and the bytes that the output holds afterwards
 abbrev pub numbered : {A : Type 0} → (A → Parts) → A × List ℕ → ℕ × List ℕ
-numbered parts_of answer = (packedParts (parts_of answer.0), answer.1)
+numbered parts_of answer = (packed_parts (parts_of answer.0), answer.1)
 
 -- the parts of a refusal
-abbrev pub refusalParts : Refusal → Parts
-refusalParts (refusal.Alone i) = parts i 0 0
-refusalParts (refusal.At i index) = parts i index 0
+abbrev pub refusal_parts : Refusal → Parts
+refusal_parts (refusal.Alone i) = parts i 0 0
+refusal_parts (refusal.At i index) = parts i index 0
 
 -- the parts of an encoder's answer
-abbrev pub encodedParts : Encoded → Parts
-encodedParts encode.Done = parts 0 0 0
-encodedParts (encode.Refused x) = refusalParts x
+abbrev pub encoded_parts : Encoded → Parts
+encoded_parts encode.Done = parts 0 0 0
+encoded_parts (encode.Refused x) = refusal_parts x
 
 -- the parts of a resumed pass's answer
-abbrev pub resumedParts : Resumed → Parts
-resumedParts (resume.Done steps) = parts 0 0 steps
-resumedParts (resume.Refused x) = refusalParts x
+abbrev pub resumed_parts : Resumed → Parts
+resumed_parts (resume.Done steps) = parts 0 0 steps
+resumed_parts (resume.Refused x) = refusal_parts x
 
 -- the parts of an answer to a call on a lent state: it carries the count of hearings
-abbrev pub keptParts : Kept → Parts
-keptParts (keep.Done count) = parts 0 count 0
-keptParts (keep.Refused x) = refusalParts x
+abbrev pub kept_parts : Kept → Parts
+kept_parts (keep.Done count) = parts 0 count 0
+kept_parts (keep.Refused x) = refusal_parts x
 
 -- the parts of a decoder's answer: refusal 16 carries its T
-abbrev pub decodedParts : Decoded → Parts
-decodedParts (decode.Accepted trial steps) = parts 0 trial steps
-decodedParts (decode.Refused16 trials steps) = parts 16 trials steps
-decodedParts (decode.Refused x) = refusalParts x
+abbrev pub decoded_parts : Decoded → Parts
+decoded_parts (decode.Accepted trial steps) = parts 0 trial steps
+decoded_parts (decode.Refused16 trials steps) = parts 16 trials steps
+decoded_parts (decode.Refused x) = refusal_parts x

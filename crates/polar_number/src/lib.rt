@@ -1,7 +1,7 @@
 // The number that an answer comes back as to C.
 ghost use Rattle.std.specs.Prelude.{◌≡◌, ◌<◌, ◌^◌};
-ghost use Rattle.polar_number.specs.Number.{parts, packedParts, refusalParts, encodedParts, resumedParts, decodedParts, keptParts};
-ghost use Rattle.polar_number.specs.Contracts.{Fitting};
+ghost use Rattle.polar_number.specs.Number.{parts, packed_parts, refusal_parts, encoded_parts, resumed_parts, decoded_parts, kept_parts};
+ghost use Rattle.polar_number.specs.Clauses.{Fitting};
 
 use encoder::Encoded;
 use flip_run::Decoded;
@@ -11,16 +11,16 @@ use refusal::Refusal;
 
 // The number that comes back: refusal, then trial or index, then steps.
 fn answer(refusal: u8, value: u64, steps: u64) -> u64
-    requires { packedParts (parts refusal value steps) < 2 ^ 64 }
-    ensures { result ≡ packedParts (parts refusal value steps) }
+    requires { packed_parts (parts refusal value steps) < 2 ^ 64 }
+    ensures { result ≡ packed_parts (parts refusal value steps) }
 {
     refusal as u64 + value * 0x100 + steps * 0x1_0000_0000
 }
 
 // The number of a refusal.
 fn refusal_answer(refused: Refusal) -> u64
-    requires { Fitting (refusalParts refused) }
-    ensures { result ≡ packedParts (refusalParts refused) }
+    requires { Fitting (refusal_parts refused) }
+    ensures { result ≡ packed_parts (refusal_parts refused) }
 {
     match refused {
         Refusal::Alone(i) => answer(i, 0, 0),
@@ -30,8 +30,8 @@ fn refusal_answer(refused: Refusal) -> u64
 
 // The number of an encoder's answer.
 pub fn encoded_answer(encoded: Encoded) -> u64
-    requires { Fitting (encodedParts encoded) }
-    ensures { result ≡ packedParts (encodedParts encoded) }
+    requires { Fitting (encoded_parts encoded) }
+    ensures { result ≡ packed_parts (encoded_parts encoded) }
 {
     match encoded {
         Encoded::Done => answer(0, 0, 0),
@@ -41,8 +41,8 @@ pub fn encoded_answer(encoded: Encoded) -> u64
 
 // The number of a resumed pass's answer.
 pub fn resumed_answer(resumed: Resumed) -> u64
-    requires { Fitting (resumedParts resumed) }
-    ensures { result ≡ packedParts (resumedParts resumed) }
+    requires { Fitting (resumed_parts resumed) }
+    ensures { result ≡ packed_parts (resumed_parts resumed) }
 {
     match resumed {
         Resumed::Done { steps } => answer(0, 0, steps as u64),
@@ -52,8 +52,8 @@ pub fn resumed_answer(resumed: Resumed) -> u64
 
 // The number of a decoder's answer.
 pub fn decoded_answer(decoded: Decoded) -> u64
-    requires { Fitting (decodedParts decoded) }
-    ensures { result ≡ packedParts (decodedParts decoded) }
+    requires { Fitting (decoded_parts decoded) }
+    ensures { result ≡ packed_parts (decoded_parts decoded) }
 {
     match decoded {
         Decoded::Accepted { trial, steps } => answer(0, trial as u64, steps as u64),
@@ -64,8 +64,8 @@ pub fn decoded_answer(decoded: Decoded) -> u64
 
 // The number of an answer to a call on a lent state.
 pub fn kept_answer(kept: Kept) -> u64
-    requires { Fitting (keptParts kept) }
-    ensures { result ≡ packedParts (keptParts kept) }
+    requires { Fitting (kept_parts kept) }
+    ensures { result ≡ packed_parts (kept_parts kept) }
 {
     match kept {
         Kept::Done { count } => answer(0, count as u64, 0),

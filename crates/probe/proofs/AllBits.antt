@@ -10,19 +10,19 @@ use lib.ListN.{length, get_or, drop}
 use lib.Seq.{drop-cons}
 use Rattle.bits.specs.Claims.{Bits}
 use Rattle.bits.proofs.Lists.{bits-nil, bits-cons}
-use Rattle.probe.specs.Contracts.{allBits}
+use Rattle.probe.specs.Clauses.{all_bits}
 
-pub all-bits : (xs : List ℕ) → allBits xs ≡ true → Bits xs
+pub all-bits : (xs : List ℕ) → all_bits xs ≡ true → Bits xs
 all-bits [] e = bits-nil
 all-bits (x ∷ xs) e =
-    let both = (and-eq-true_iff (ltb x 2) (allBits xs)).0 e in bits-cons (ltb-true x 2 both.0) (all-bits xs both.1)
+    let both = (and-eq-true_iff (ltb x 2) (all_bits xs)).0 e in bits-cons (ltb-true x 2 both.0) (all-bits xs both.1)
 
 module _ (xs : List ℕ) (i : ℕ) (l : i < length xs) where
-  here : allBits (drop i xs) ≡ (ltb (get_or xs i 0) 2 && allBits (drop (i + 1) xs))
+  here : all_bits (drop i xs) ≡ (ltb (get_or xs i 0) 2 && all_bits (drop (i + 1) xs))
   here = rw (add-one, drop-cons xs i 0)
 
-  pub all-next : get_or xs i 0 < 2 → allBits (drop (i + 1) xs) ≡ allBits (drop i xs)
-  all-next h = sym (here ∙ ap (λ t. t && allBits (drop (i + 1) xs)) (lt-ltb _ _ h))
+  pub all-next : get_or xs i 0 < 2 → all_bits (drop (i + 1) xs) ≡ all_bits (drop i xs)
+  all-next h = sym (here ∙ ap (λ t. t && all_bits (drop (i + 1) xs)) (lt-ltb _ _ h))
 
-  pub all-stop : 2 ≤ get_or xs i 0 → false ≡ allBits (drop i xs)
-  all-stop h = sym (here ∙ ap (λ t. t && allBits (drop (i + 1) xs)) (le-ltb _ _ h))
+  pub all_stop : 2 ≤ get_or xs i 0 → false ≡ all_bits (drop i xs)
+  all_stop h = sym (here ∙ ap (λ t. t && all_bits (drop (i + 1) xs)) (le-ltb _ _ h))

@@ -9,7 +9,7 @@ use Rattle.code.specs.declared.Description.{Description}
 use Rattle.code.specs.declared.Description.TheVariants.{Accepted, Refused}
 use Rattle.quantiser.specs.declared.Quantised.{Quantised}
 use Rattle.quantiser.specs.declared.Quantised.TheVariants.{Done, Refused}
-use Rattle.quantiser_level.specs.Level.{plusZero}
+use Rattle.quantiser_level.specs.Level.{plus_zero}
 
 -- a refusal's first index, or 0
 abbrev pub index_of : Refusal → ℕ
@@ -17,11 +17,11 @@ index_of (Alone i) = 0
 index_of (At i index) = index
 
 -- an accepted description is 0, with n, r, polynomial, start and k; a refused one its refusal, with the numbers as they were
-abbrev pub descriptionNumbers : Description → List ℕ → ℕ × List ℕ
-descriptionNumbers (Accepted c) numbers = (0, set (set (set (set (set numbers 0 c.n) 1 c.r) 2 c.polynomial) 3 c.start) 4 c.k)
-descriptionNumbers (Refused x) numbers = (number_of x, numbers)
+abbrev pub description_numbers : Description → List ℕ → ℕ × List ℕ
+description_numbers (Accepted c) numbers = (0, set (set (set (set (set numbers 0 c.n) 1 c.r) 2 c.polynomial) 3 c.start) 4 c.k)
+description_numbers (Refused x) numbers = (number_of x, numbers)
 
 -- quantised samples are their peak, with 0 and the clipped count; a refusal is positive zero, with the refusal and its first index or 0
-abbrev pub quantisedNumbers : Quantised → List ℕ → Float × List ℕ
-quantisedNumbers (Done s) numbers = (s.peak, set (set numbers 0 0) 1 s.clipped)
-quantisedNumbers (Refused x) numbers = (plusZero, set (set numbers 0 (number_of x)) 1 (index_of x))
+abbrev pub quantised_numbers : Quantised → List ℕ → Float × List ℕ
+quantised_numbers (Done s) numbers = (s.peak, set (set numbers 0 0) 1 s.clipped)
+quantised_numbers (Refused x) numbers = (plus_zero, set (set numbers 0 (number_of x)) 1 (index_of x))

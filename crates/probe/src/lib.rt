@@ -4,8 +4,8 @@ ghost use Rattle.std.specs.Prelude.{◌≡◌};
 ghost use Rattle.refusal.specs.Judge.{number_of};
 ghost use Rattle.code.specs.Description.{describe};
 ghost use Rattle.quantiser.specs.Quantise.{quantised};
-ghost use Rattle.probe.specs.Numbers.{index_of, descriptionNumbers, quantisedNumbers};
-ghost use Rattle.probe.specs.Contracts.{allBits, packing, unpacking, bit_at, onesAnswer, placingAnswer, takingAnswer};
+ghost use Rattle.probe.specs.Numbers.{index_of, description_numbers, quantised_numbers};
+ghost use Rattle.probe.specs.Clauses.{all_bits, packing, unpacking, bit_at, ones_answer, placing_answer, taking_answer};
 
 use arrays::BYTES;
 use code::Description;
@@ -32,7 +32,7 @@ fn refusal_index(x: Refusal) -> u64
 // Returns the refusal's number, or 0. `numbers` holds n, r, polynomial, start and k of an accepted description.
 #[unsafe(no_mangle)]
 pub extern "C" fn probe_description(d: &[u8], numbers: &mut [u64; 5]) -> u64
-    ensures { (result, numbers.new) ≡ descriptionNumbers (describe d.now) numbers.old }
+    ensures { (result, numbers.new) ≡ description_numbers (describe d.now) numbers.old }
 {
     match code::read_description(d) {
         Description::Accepted(code) => {
@@ -49,7 +49,7 @@ pub extern "C" fn probe_description(d: &[u8], numbers: &mut [u64; 5]) -> u64
 
 // Whether every byte is 0 or 1.
 fn are_bits(bits: &[u8]) -> bool
-    ensures { result ≡ allBits bits.now }
+    ensures { result ≡ all_bits bits.now }
 {
     let mut i = 0;
     while i < bits.len() {
@@ -102,7 +102,7 @@ pub extern "C" fn probe_mask_bit(mask: &[u8], i: usize) -> u64
 // Returns the number of ones of a mask.
 #[unsafe(no_mangle)]
 pub extern "C" fn probe_ones(mask: &[u8]) -> u64
-    ensures { result ≡ onesAnswer mask.now }
+    ensures { result ≡ ones_answer mask.now }
 {
     if 65536 < mask.len() {
         return 0xffff_ffff_ffff_ffff;
@@ -113,7 +113,7 @@ pub extern "C" fn probe_ones(mask: &[u8]) -> u64
 // Places a message. Returns the number of looks.
 #[unsafe(no_mangle)]
 pub extern "C" fn probe_place(mask: &[u8], message: &[u8], u: &mut [u8]) -> u64
-    ensures { (result, u.new) ≡ placingAnswer mask.now message.now u.old }
+    ensures { (result, u.new) ≡ placing_answer mask.now message.now u.old }
 {
     if BYTES < mask.len() {
         return 0xffff_ffff_ffff_ffff;
@@ -133,7 +133,7 @@ pub extern "C" fn probe_place(mask: &[u8], message: &[u8], u: &mut [u8]) -> u64
 // Takes a message out. Returns the number of looks.
 #[unsafe(no_mangle)]
 pub extern "C" fn probe_take_out(mask: &[u8], u: &[u8], message: &mut [u8]) -> u64
-    ensures { (result, message.new) ≡ takingAnswer mask.now u.now message.old }
+    ensures { (result, message.new) ≡ taking_answer mask.now u.now message.old }
 {
     if u.len() / 8 < mask.len() {
         return 0xffff_ffff_ffff_ffff;
@@ -152,7 +152,7 @@ pub extern "C" fn probe_quantise(
     output: &mut [u8],
     numbers: &mut [u64; 2],
 ) -> f32
-    ensures { ((result, numbers.new) ≡ quantisedNumbers (quantised scale samples.now output.old).0 numbers.old)
+    ensures { ((result, numbers.new) ≡ quantised_numbers (quantised scale samples.now output.old).0 numbers.old)
         × (output.new ≡ (quantised scale samples.now output.old).1) }
 {
     match quantiser::quantise(scale, samples, output) {

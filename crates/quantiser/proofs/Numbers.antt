@@ -11,13 +11,13 @@ use lib.Ieee.Fits.{and_l}
 use lib.ListN.{length, get_or}
 use Rattle.laws.proofs.Choice.{cond_ind}
 use Rattle.laws.proofs.First.{first-before}
-use Rattle.quantiser.specs.Quantise.{product, validScale}
+use Rattle.quantiser.specs.Quantise.{product, valid_scale}
 use Rattle.quantiser.specs.Claims.{WellFormed}
 
 -- `y != y`
-pub differs-nan : (y : Float) → ne y y ≡ true → is_nan y ≡ true
+pub differs_nan : (y : Float) → ne y y ≡ true → is_nan y ≡ true
 unfolding is_nan
-differs-nan y h = ap is_nan (differs_from_itself y (subst T (sym h) tt))
+differs_nan y h = ap is_nan (differs_from_itself y (subst T (sym h) tt))
 
 pub same_number : (y : Float) → ne y y ≡ false → is_nan y ≡ false
 unfolding is_nan
@@ -43,8 +43,8 @@ unfolding round
 round_number f s a c = units_number f s _ _
 
 -- a valid scale times a number
-product-number : (f : Format) (scale y : Float) → T (validScale scale) → is_nan y ≡ false → T (not (is_nan (mul f scale y)))
-unfolding mul is_nan validScale lt
+product-number : (f : Format) (scale y : Float) → T (valid_scale scale) → is_nan y ≡ false → T (not (is_nan (mul f scale y)))
+unfolding mul is_nan valid_scale lt
 product-number f nan y v n = absurd v
 product-number f (inf true) y v n = absurd v
 product-number f (inf false) y v n = absurd v
@@ -57,4 +57,4 @@ product-number f (fin false m e) (fin t q d) v n = round_number f _ _ _
 -- so every product of an admitted call is
 pub admitted-number : {scale : Float} {samples : List Float} {output : List ℕ} → WellFormed scale samples output → (k : ℕ) → k < length samples → T (not (is_nan (product scale samples k)))
 admitted-number {scale} {samples} a k h =
-    product-number binary32 scale (get_or samples k nan) a.scale-valid (first-before (λ i. is_nan (get_or samples i nan)) (length samples) k (omega (arith, a.all-numbers)))
+    product-number binary32 scale (get_or samples k nan) a.scale_valid (first-before (λ i. is_nan (get_or samples i nan)) (length samples) k (omega (arith, a.all_numbers)))

@@ -3,13 +3,13 @@ use mathlib.Core.Path.{◌≡◌, refl}
 use mathlib.Core.List.{List, [], ◌∷◌}
 use Prim.Native.Nat.{ℕ}
 use lib.Ieee.{Float, binary32, of_bits, mul, lt, is_nan}
-use Rattle.laws.specs.First.{firstWhere}
+use Rattle.laws.specs.First.{first_where}
 use Rattle.laws.specs.Table.{table}
-use Rattle.refusal.specs.Judge.{judge, refusedOr}
-use Rattle.quantiser_level.specs.Level.{magnitude, quarters, whole, level, isClipped}
+use Rattle.refusal.specs.Judge.{judge, refused_or}
+use Rattle.quantiser_level.specs.Level.{magnitude, quarters, whole, level, is_clipped}
 use Rattle.quantiser.specs.declared.Quantised.{Quantised}
 use Rattle.quantiser.specs.declared.Quantised.TheVariants.{Done}
-use Rattle.quantiser.specs.Quantise.{larger, peakOf, clippedOf, validScale, quantised}
+use Rattle.quantiser.specs.Quantise.{larger, peak_of, clipped_of, valid_scale, quantised}
 
 -- 0.125, −0.125, 0.375, 7.8125 and 7.875
 abbrev row : List Float
@@ -26,5 +26,5 @@ abbrev answer : Quantised × List ℕ
 answer = (Done record { peak = of_bits binary32 0x40fc_0000; clipped = 1 }, 1 ∷ 255 ∷ 2 ∷ 31 ∷ 31 ∷ [])
 
 pub row_is : quantised (of_bits binary32 0x3f80_0000) row (0 ∷ 0 ∷ 0 ∷ 0 ∷ 0 ∷ []) ≡ answer
-unfolding of_bits mul lt is_nan judge refusedOr table firstWhere magnitude quarters whole level isClipped larger peakOf clippedOf validScale quantised
+unfolding of_bits mul lt is_nan judge refused_or table first_where magnitude quarters whole level is_clipped larger peak_of clipped_of valid_scale quantised
 row_is = refl

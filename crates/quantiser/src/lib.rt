@@ -1,8 +1,8 @@
 // The sample quantiser: samples times a scale, as channel values in quarter units.
 ghost use Rattle.std.specs.Prelude.{◌≡◌};
 ghost use Rattle.refusal.specs.Judge.{judge};
-ghost use Rattle.quantiser.specs.Quantise.{larger, validScale, firstNan, quantisingRefusals, quantised};
-ghost use Rattle.quantiser.specs.Contracts.{accepted};
+ghost use Rattle.quantiser.specs.Quantise.{larger, valid_scale, first_nan, quantising_refusals, quantised};
+ghost use Rattle.quantiser.specs.Clauses.{accepted};
 ghost use Rattle.quantiser.specs.Claims.{WellFormed};
 
 use quantiser_level::quantise_one;
@@ -53,7 +53,7 @@ fn fill(scale: f32, samples: &[f32], output: &mut [u8]) -> Summary
 
 // Whether a scale is finite and above zero.
 fn is_valid(scale: f32) -> bool
-    ensures { result ≡ validScale scale }
+    ensures { result ≡ valid_scale scale }
 {
     if 0.0 < scale {
         scale < f32::from_bits(0x7f80_0000)
@@ -64,7 +64,7 @@ fn is_valid(scale: f32) -> bool
 
 // The index of the first sample that is not a number, or the length if there is none.
 fn first_nan(samples: &[f32]) -> usize
-    ensures { result ≡ firstNan samples.now }
+    ensures { result ≡ first_nan samples.now }
 {
     let mut i = 0usize;
     while i < samples.len() {
@@ -79,7 +79,7 @@ fn first_nan(samples: &[f32]) -> usize
 
 // Judges a call: refusals 20 to 22.
 fn judge_quantising(scale: f32, samples: &[f32], output: &[u8]) -> Judgement
-    ensures { result ≡ judge (quantisingRefusals scale samples.now output.now) }
+    ensures { result ≡ judge (quantising_refusals scale samples.now output.now) }
 {
     if samples.len() != output.len() {
         return Judgement::Refused(Refusal::Alone(20));

@@ -12,33 +12,33 @@ use lib.Ieee.Fits.{up_pos, down_pos}
 use Rattle.laws.proofs.Choice.{cond_ind}
 use Rattle.laws.proofs.Signed.{abs_neg}
 use Rattle.channel.specs.Channel.{clip}
-use Rattle.quantiser_level.specs.Level.{plusZero, quarters, signed, whole, level, isClipped}
-use Rattle.quantiser_level.proofs.Nearest.{nearest_zero, nearest-from, nearest-below, nearest-closest}
+use Rattle.quantiser_level.specs.Level.{plus_zero, quarters, signed, whole, level, is_clipped}
+use Rattle.quantiser_level.proofs.Nearest.{nearest_zero, nearest_from, nearest-below, nearest_closest}
 
-abs-signed : (s : Bool) (n : ℕ) → nat_abs (signed s n) ≡ n
-abs-signed true n = abs_neg (pos n)
-abs-signed false n = refl
+abs_signed : (s : Bool) (n : ℕ) → nat_abs (signed s n) ≡ n
+abs_signed true n = abs_neg (pos n)
+abs_signed false n = refl
 
 clip-signed : (s : Bool) (n : ℕ) → clip (signed s n) ≡ signed s (min 31 n)
 clip-signed true zero = refl
 clip-signed true (suc n) = refl
 clip-signed false n = refl
 
-abs-whole : (p : Float) → nat_abs (whole p) ≡ quarters p
+abs_whole : (p : Float) → nat_abs (whole p) ≡ quarters p
 unfolding whole
-abs-whole p = abs-signed (lt p plusZero) (quarters p)
+abs_whole p = abs_signed (lt p plus_zero) (quarters p)
 
-pub level-signed : (p : Float) → level p ≡ signed (lt p plusZero) (min 31 (quarters p))
+pub level-signed : (p : Float) → level p ≡ signed (lt p plus_zero) (min 31 (quarters p))
 unfolding level whole
-level-signed p = clip-signed (lt p plusZero) (quarters p)
+level-signed p = clip-signed (lt p plus_zero) (quarters p)
 
 -- the count that a clipped value adds
-pub one-if : (r : ℕ) (p : Float) → (31 < quarters p → r ≡ 1) → (quarters p ≤ 31 → r ≡ 0) → r ≡ cond (isClipped p) 1 0
-unfolding isClipped
-one-if r p f g = rw abs-whole (cond_ind (λ (x : ℕ). r ≡ x) (ltb 31 (quarters p)) 1 0 (λ t. f (ltb→lt 31 _ t)) (λ t. g (nltb→le 31 _ t)))
+pub one_if : (r : ℕ) (p : Float) → (31 < quarters p → r ≡ 1) → (quarters p ≤ 31 → r ≡ 0) → r ≡ cond (is_clipped p) 1 0
+unfolding is_clipped
+one_if r p f g = rw abs_whole (cond_ind (λ (x : ℕ). r ≡ x) (ltb 31 (quarters p)) 1 0 (λ t. f (ltb→lt 31 _ t)) (λ t. g (nltb→le 31 _ t)))
 
-pub level-le : (p : Float) → nat_abs (level p) ≤ 31
-level-le p = rw (level-signed, abs-signed) (omega arith)
+pub level_le : (p : Float) → nat_abs (level p) ≤ 31
+level_le p = rw (level-signed, abs_signed) (omega arith)
 
 -- ---- a finite p's own sign, −0 giving 0 as +0 does
 
@@ -56,15 +56,15 @@ module _ (s : Bool) (m : ℕ) (e : ℤ) where
   abbrev four : ℕ
   four = 4 * (m * up e)
 
-  pub quarters-from : (2 * quarters (fin s m e) - 1) * down e ≤ 2 * four
+  pub quarters_from : (2 * quarters (fin s m e) - 1) * down e ≤ 2 * four
   unfolding quarters
-  quarters-from = nearest-from four (down e)
+  quarters_from = nearest_from four (down e)
 
   pub quarters-below : 2 * four < (2 * quarters (fin s m e) + 1) * down e
   unfolding quarters
   quarters-below = nearest-below four (down e) (down_pos e)
 
   -- no whole number is nearer to 4p
-  pub whole-closest : (z : ℤ) → nat_abs (signed s four -ℤ whole (fin s m e) *ℤ pos (down e)) ≤ nat_abs (signed s four -ℤ z *ℤ pos (down e))
+  pub whole_closest : (z : ℤ) → nat_abs (signed s four -ℤ whole (fin s m e) *ℤ pos (down e)) ≤ nat_abs (signed s four -ℤ z *ℤ pos (down e))
   unfolding quarters
-  whole-closest z = rw whole-signed (nearest-closest four (down e) (down_pos e) s z)
+  whole_closest z = rw whole-signed (nearest_closest four (down e) (down_pos e) s z)

@@ -13,15 +13,15 @@ use lib.Ieee.Exact.{HasValue, odd_sign}
 use lib.Ieee.Fits.{down_pos}
 use lib.Pow.{pow_pos, pow_mono, pow-add, shl_lt}
 use Rattle.quantiser_level.specs.Level.{magnitude, nearest, quarters}
-use Rattle.quantiser_level.proofs.Nearest.{nearest-same, nearest_zero, nearest-least}
+use Rattle.quantiser_level.proofs.Nearest.{nearest-same, nearest_zero, nearest_least}
 
 -- a pattern is a sign, an exponent's field and digits
 abbrev fields_of : ℕ → Float
 fields_of b = of_fields binary32 (leb 0x8000_0000 b) (b % 0x8000_0000 / 0x80_0000) (b % 0x80_0000)
 
-ofBits-fields : (b : ℕ) → of_bits binary32 b ≡ fields_of b
+of_bits_fields : (b : ℕ) → of_bits binary32 b ≡ fields_of b
 unfolding of_bits
-ofBits-fields b = refl
+of_bits_fields b = refl
 
 -- ---- the magnitude has the sign bit cleared
 
@@ -30,23 +30,23 @@ unfolding odd magnitude
 magnitude-odd d s zero k l = refl
 magnitude-odd d s (suc q) k l = refl
 
-magnitude-cond : (a b : Bool) (s : Bool) (v : Float) → magnitude (cond a (cond b (inf s) nan) v) ≡ cond a (cond b (inf false) nan) (magnitude v)
+magnitude_cond : (a b : Bool) (s : Bool) (v : Float) → magnitude (cond a (cond b (inf s) nan) v) ≡ cond a (cond b (inf false) nan) (magnitude v)
 unfolding magnitude
-magnitude-cond true true s v = refl
-magnitude-cond true false s v = refl
-magnitude-cond false b s v = refl
+magnitude_cond true true s v = refl
+magnitude_cond true false s v = refl
+magnitude_cond false b s v = refl
 
 magnitude-fields : (s : Bool) (x t : ℕ) → magnitude (of_fields binary32 s x t) ≡ of_fields binary32 false x t
 unfolding of_fields
 magnitude-fields s zero t = magnitude-odd 24 s t 0 149
-magnitude-fields s (suc x) t = magnitude-cond (eqb (suc x) 255) (eqb t 0) s _ ∙ ap (cond (eqb (suc x) 255) _) (magnitude-odd 24 s (0x80_0000 + t) x 149)
+magnitude-fields s (suc x) t = magnitude_cond (eqb (suc x) 255) (eqb t 0) s _ ∙ ap (cond (eqb (suc x) 255) _) (magnitude-odd 24 s (0x80_0000 + t) x 149)
 
 cleared-fields : (b : ℕ) → of_bits binary32 (b % 0x8000_0000) ≡ magnitude (of_bits binary32 b)
 cleared-fields b =
     let s : leb 0x8000_0000 (b % 0x8000_0000) ≡ false = lt-leb 0x8000_0000 (b % 0x8000_0000) (omega arith) in
     let x : b % 0x8000_0000 % 0x8000_0000 ≡ b % 0x8000_0000 = omega arith in
     let t : b % 0x8000_0000 % 0x80_0000 ≡ b % 0x80_0000 = omega arith in
-    ofBits-fields (b % 0x8000_0000) ∙ rw (s, x, t) (sym (ap magnitude (ofBits-fields b) ∙ magnitude-fields _ _ _))
+    of_bits_fields (b % 0x8000_0000) ∙ rw (s, x, t) (sym (ap magnitude (of_bits_fields b) ∙ magnitude-fields _ _ _))
 
 module _ (p : Float) (held : T (fits binary32 p)) where
   pub magnitude-bits : of_bits binary32 (to_bits binary32 p % 0x8000_0000) ≡ magnitude p
@@ -101,24 +101,24 @@ units-large zero t X = absurd (omega arith)
 units-large (suc x) t X =
     le_trans (mul-le-mul_left 0x80_0000 (pow_mono {i = 129} (le_of_suc-le-suc X))) (mul-le-mul_right (2 ^ x) (le-add_right 0x80_0000 t))
 
-quarters-infinite : (s : Bool) (t : ℕ) → T (not (is_nan (of_fields binary32 s 255 t))) → 32 ≤ quarters (of_fields binary32 s 255 t)
+quarters_infinite : (s : Bool) (t : ℕ) → T (not (is_nan (of_fields binary32 s 255 t))) → 32 ≤ quarters (of_fields binary32 s 255 t)
 unfolding of_fields is_nan quarters
-quarters-infinite s zero n = lit≤ tt
-quarters-infinite s (suc t) n = absurd (rw eqb-suc-zero at n)
+quarters_infinite s zero n = lit≤ tt
+quarters_infinite s (suc t) n = absurd (rw eqb-suc-zero at n)
 
 quarters-large : (s : Bool) (x t : ℕ) → 130 ≤ x → x < 256 → T (not (is_nan (of_fields binary32 s x t))) → 32 ≤ quarters (of_fields binary32 s x t)
 quarters-large s x t X H n = elim (eq-or-lt_of_le (le_of_suc-le-suc H)) [
-  | inl e ↦ subst (λ (y : ℕ). T (not (is_nan (of_fields binary32 s y t))) → 32 ≤ quarters (of_fields binary32 s y t)) (sym e) (quarters-infinite s t) n
-  | inr l ↦ rw (quarters-fields s x t l) (nearest-least 32 (4 * units x t) (2 ^ 149) (pow_pos 149) (large (units x t) (2 ^ 146) (units-large x t X)))
+  | inl e ↦ subst (λ (y : ℕ). T (not (is_nan (of_fields binary32 s y t))) → 32 ≤ quarters (of_fields binary32 s y t)) (sym e) (quarters_infinite s t) n
+  | inr l ↦ rw (quarters-fields s x t l) (nearest_least 32 (4 * units x t) (2 ^ 149) (pow_pos 149) (large (units x t) (2 ^ 146) (units-large x t X)))
 ]
 
 -- between: 4|p| is the significand, shifted, in units of 2^-25
 scaled : (q u w : ℕ) → 4 * (q * (u * w)) * 0x200_0000 ≡ q * u * (0x800_0000 * w)
 scaled q u w = omega (arith, mul_left_comm (q * u) 0x800_0000 w, mul_assoc q u w)
 
-quarters-between : (s : Bool) (x t : ℕ) → 123 ≤ x → x < 255 → quarters (of_fields binary32 s x t) ≡ nearest ((0x80_0000 + t) * 2 ^ (x - 123)) 0x200_0000
-quarters-between s zero t L H = absurd (omega arith)
-quarters-between s (suc x) t L H =
+quarters_between : (s : Bool) (x t : ℕ) → 123 ≤ x → x < 255 → quarters (of_fields binary32 s x t) ≡ nearest ((0x80_0000 + t) * 2 ^ (x - 123)) 0x200_0000
+quarters_between s zero t L H = absurd (omega arith)
+quarters_between s (suc x) t L H =
     let k = suc x - 123 in
     let e : x ≡ k + 122 = omega arith in
     quarters-fields s (suc x) t H
@@ -130,8 +130,8 @@ abbrev pub shifted : ℕ → ℕ
 shifted c = (0x80_0000 + c % 0x80_0000) * 2 ^ (c / 0x80_0000 - 123)
 
 -- a shift of at most six leaves 30 bits
-pub shifted-lt : (c : ℕ) → c ≤ 0x40ff_ffff → shifted c < 0x4000_0000
-shifted-lt c h = lt_of_lt_of_le (shl_lt 24 (c / 0x80_0000 - 123) (omega arith)) (pow_mono {i = 24 + (c / 0x80_0000 - 123)} {j = 30} (omega arith))
+pub shifted_lt : (c : ℕ) → c ≤ 0x40ff_ffff → shifted c < 0x4000_0000
+shifted_lt c h = lt_of_lt_of_le (shl_lt 24 (c / 0x80_0000 - 123) (omega arith)) (pow_mono {i = 24 + (c / 0x80_0000 - 123)} {j = 30} (omega arith))
 
 -- what the code makes of the bits m of a magnitude
 abbrev clamp : ℕ → ℕ
@@ -156,10 +156,10 @@ converted-is n m low between high = by (ltb m 0x3e00_0000) (ltb 0x40ff_ffff m) r
         let from : 0x3e00_0000 ≤ m = ltb-false m 0x3e00_0000 e in
         let to : m ≤ 0x40ff_ffff = ltb-false 0x40ff_ffff m f in
         let l : clamp m ≡ m = omega arith in
-        ap converted l ∙ omega (arith, shifted-lt m to, between from to)
+        ap converted l ∙ omega (arith, shifted_lt m to, between from to)
 
-quarters-pattern : (b : ℕ) → T (not (is_nan (fields_of b))) → converted (clamp (b % 0x8000_0000)) ≡ min 32 (quarters (fields_of b))
-quarters-pattern b n =
+quarters_pattern : (b : ℕ) → T (not (is_nan (fields_of b))) → converted (clamp (b % 0x8000_0000)) ≡ min 32 (quarters (fields_of b))
+quarters_pattern b n =
     let s = leb 0x8000_0000 b in
     let m = b % 0x8000_0000 in
     let x = m / 0x80_0000 in
@@ -167,11 +167,11 @@ quarters-pattern b n =
     let e : t ≡ m % 0x80_0000 = omega arith in
     converted-is (quarters (fields_of b)) m
     (λ l. quarters-small s x t (omega arith) (omega arith))
-    (λ l u. quarters-between s x t (omega arith) (omega arith) ∙ ap (λ (y : ℕ). nearest ((0x80_0000 + y) * 2 ^ (x - 123)) 0x200_0000) e)
+    (λ l u. quarters_between s x t (omega arith) (omega arith) ∙ ap (λ (y : ℕ). nearest ((0x80_0000 + y) * 2 ^ (x - 123)) 0x200_0000) e)
     (λ l. quarters-large s x t (omega arith) (omega arith) n)
 
 pub quarters-bits : (p : Float) → T (fits binary32 p) → T (not (is_nan p)) → converted (clamp (to_bits binary32 p % 0x8000_0000)) ≡ min 32 (quarters p)
 quarters-bits p held number =
     let b = to_bits binary32 p in
-    let e : fields_of b ≡ p = sym (ofBits-fields b) ∙ of_bits-to_bits binary32 p held in
-    quarters-pattern b (rw e number) ∙ ap (λ (v : Float). min 32 (quarters v)) e
+    let e : fields_of b ≡ p = sym (of_bits_fields b) ∙ of_bits-to_bits binary32 p held in
+    quarters_pattern b (rw e number) ∙ ap (λ (v : Float). min 32 (quarters v)) e

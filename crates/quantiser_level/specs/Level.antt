@@ -6,8 +6,8 @@ use Rattle.channel.specs.Channel.{byte_of, clip}
 use Rattle.quantiser_level.specs.declared.Level.{Level}
 
 -- positive zero
-abbrev pub plusZero : Float
-plusZero = fin false 0 (pos 0)
+abbrev pub plus_zero : Float
+plus_zero = fin false 0 (pos 0)
 
 -- p without its sign
 unfoldable pub magnitude : Float → Float
@@ -32,16 +32,16 @@ signed negative n = cond negative (neg_ℤ (pos n)) (pos n)
 
 -- the whole number nearest to 4p, halves away from zero
 unfoldable pub whole : Float → ℤ
-whole p = signed (lt p plusZero) (quarters p)
+whole p = signed (lt p plus_zero) (quarters p)
 
 -- the whole number that the output byte stands for
 unfoldable pub level : Float → ℤ
 level p = clip (whole p)
 
 -- whether the nearest whole number lies outside −31..31
-unfoldable pub isClipped : Float → Bool
-isClipped p = ltb 31 (nat_abs (whole p))
+unfoldable pub is_clipped : Float → Bool
+is_clipped p = ltb 31 (nat_abs (whole p))
 
 -- what becomes of p: its byte, 1 if it is clipped, else 0, and its magnitude
-abbrev pub levelOf : Float → Level
-levelOf p = record { byte = byte_of (level p); clipped = cond (isClipped p) 1 0; magnitude = magnitude p }
+abbrev pub level_of : Float → Level
+level_of p = record { byte = byte_of (level p); clipped = cond (is_clipped p) 1 0; magnitude = magnitude p }

@@ -3,7 +3,7 @@ ghost use Rattle.std.specs.Prelude.{◌≡◌, not, ◌<◌, min, T};
 ghost use Rattle.std.specs.Float.{binary32};
 ghost use Rattle.std.specs.Float.Ieee.{mul, is_nan};
 ghost use Rattle.channel.specs.Channel.{byte_of};
-ghost use Rattle.quantiser_level.specs.Level.{magnitude, nearest, quarters, level, levelOf};
+ghost use Rattle.quantiser_level.specs.Level.{magnitude, nearest, quarters, level, level_of};
 
 // What becomes of one sample.
 #[derive(Drop)]
@@ -65,7 +65,7 @@ fn absolute(p: f32) -> f32
 // What becomes of the sample y. The product is a number if the scale is valid and y is a number.
 pub fn quantise_one(scale: f32, y: f32) -> Level
     requires { T (not (is_nan (mul binary32 scale y))) }
-    ensures { result ≡ levelOf (mul binary32 scale y) }
+    ensures { result ≡ level_of (mul binary32 scale y) }
 {
     let p = scale * y;
     let n = nearest_quarters(p);

@@ -1,6 +1,6 @@
 // Reads records from standard input, and prints a line for each. What is read next, what is printed and when it is written is decided and proved
 // in `receive_stream`: this file only reads and writes.
-ghost use Rattle.receive.specs.Contracts.{Rooms, StreamOver};
+ghost use Rattle.receive.specs.Clauses.{Rooms, StreamOver};
 
 use code::LONGEST;
 use libc::{STDIN_FILENO, STDOUT_FILENO};

@@ -2,28 +2,28 @@
 -- is the empty list if none is held.
 use Rattle.std.specs.Prelude.{List, [], ◌∷◌, ℕ, ltb, eqb, length, drop, replicate}
 use Rattle.refusal.specs.declared.Refusal.TheVariants.{Alone}
-use Rattle.refusal.specs.Judge.{judge, refusedOr, number_of}
-use Rattle.bits.specs.Packing.{bytesFor}
-use Rattle.code.specs.Description.{word, describe, onDescription}
+use Rattle.refusal.specs.Judge.{judge, refused_or, number_of}
+use Rattle.bits.specs.Packing.{bytes_for}
+use Rattle.code.specs.Description.{word, describe, on_description}
 use Rattle.flip_run.specs.declared.Decoded.{Decoded}
 use Rattle.flip_run.specs.declared.Decoded.TheVariants.{Accepted, Refused16, Refused}
-use Rattle.decoder.specs.Decoder.{decodedRestarted}
-use Rattle.receive_lines.specs.Line.{okLine, noLine}
+use Rattle.decoder.specs.Decoder.{decoded_restarted}
+use Rattle.receive_lines.specs.Line.{ok_line, no_line}
 
 -- the line of a decoder's answer and the payload that it wrote: refusal 16 is `Refused16`
-abbrev pub answerLine : Decoded → List ℕ → List ℕ
-answerLine (Accepted trial steps) payload = okLine trial steps payload
-answerLine (Refused16 trials steps) payload = noLine 16
-answerLine (Refused x) payload = noLine (number_of x)
+abbrev pub answer_line : Decoded → List ℕ → List ℕ
+answer_line (Accepted trial steps) payload = ok_line trial steps payload
+answer_line (Refused16 trials steps) payload = no_line 16
+answer_line (Refused x) payload = no_line (number_of x)
 
 -- restarted decoding under the held description, into as many bytes as its payload takes
-unfoldable pub decodingLine : List ℕ → List ℕ → ℕ → List ℕ
-decodingLine held channel limit =
-    onDescription (describe held) (λ x. noLine (number_of x))
-    (λ c. let a = decodedRestarted held channel limit (replicate (bytesFor c.k) 0) in answerLine a.0 a.1)
+unfoldable pub decoding_line : List ℕ → List ℕ → ℕ → List ℕ
+decoding_line held channel limit =
+    on_description (describe held) (λ x. no_line (number_of x))
+    (λ c. let a = decoded_restarted held channel limit (replicate (bytes_for c.k) 0) in answer_line a.0 a.1)
 
 -- a channel record: T is in bytes 4 and 5, the values are in bytes 6 on
-unfoldable pub channelLine : List ℕ → List ℕ → List ℕ
-channelLine held bytes =
-    refusedOr (judge ((eqb (length held) 0, Alone 23) ∷ (ltb (length bytes) 6, Alone 24) ∷ [])) (λ x. noLine (number_of x))
-    (decodingLine held (drop 6 bytes) (word bytes 4))
+unfoldable pub channel_line : List ℕ → List ℕ → List ℕ
+channel_line held bytes =
+    refused_or (judge ((eqb (length held) 0, Alone 23) ∷ (ltb (length bytes) 6, Alone 24) ∷ [])) (λ x. no_line (number_of x))
+    (decoding_line held (drop 6 bytes) (word bytes 4))

@@ -3,11 +3,11 @@ ghost use Rattle.std.specs.Prelude.{◌≤◌, length};
 ghost use Rattle.refusal.specs.Judge.{number_of};
 ghost use Rattle.code.specs.Claims.{Coded};
 ghost use Rattle.flip_trial.specs.declared.Restart.TheVariants.{AfterFlip};
-ghost use Rattle.decoder.specs.Decoder.{single, decodedUnder};
-ghost use Rattle.receive_lines.specs.Line.{noLine};
-ghost use Rattle.receive_lines.specs.Contracts.{PutPost};
-ghost use Rattle.receive_frame.specs.Contracts.{lineOfAnswer};
-ghost use Rattle.receive_frame.specs.Frame.{answerLine, decodingLine, channelLine};
+ghost use Rattle.decoder.specs.Decoder.{single, decoded_under};
+ghost use Rattle.receive_lines.specs.Line.{no_line};
+ghost use Rattle.receive_lines.specs.Clauses.{PutPost};
+ghost use Rattle.receive_frame.specs.Clauses.{line_of_answer};
+ghost use Rattle.receive_frame.specs.Frame.{answer_line, decoding_line, channel_line};
 
 use arrays::BYTES;
 use code::{Code, Description};
@@ -19,7 +19,7 @@ use refusal::Refusal;
 // The line of a refusal: its number alone.
 pub fn put_refusal(line: &mut [u8], refused: Refusal) -> usize
     requires { LINE ≤ length line.old }
-    ensures { PutPost line.old 0 (noLine (number_of refused)) line.new result }
+    ensures { PutPost line.old 0 (no_line (number_of refused)) line.new result }
 {
     receive_lines::put_line(line, b"no", refused.number() as u64)
 }
@@ -27,7 +27,7 @@ pub fn put_refusal(line: &mut [u8], refused: Refusal) -> usize
 // The line of a decoder's answer and the payload that it wrote.
 fn put_answer(line: &mut [u8], answer: Decoded, payload: &[u8]) -> usize
     requires { (length payload.now ≤ BYTES) × (LINE ≤ length line.old) }
-    ensures { PutPost line.old 0 (answerLine answer payload.now) line.new result }
+    ensures { PutPost line.old 0 (answer_line answer payload.now) line.new result }
 {
     match answer {
         Decoded::Accepted { trial, steps } => receive_lines::put_ok(
@@ -57,7 +57,7 @@ fn put_decoded(
         × (length payload.old ≤ BYTES)
         × (LINE ≤ length line.old) }
     ensures { PutPost line.old 0
-        (lineOfAnswer (decodedUnder (single limit) AfterFlip mask.now code channel.now payload.old))
+        (line_of_answer (decoded_under (single limit) AfterFlip mask.now code channel.now payload.old))
         line.new result }
 {
     let terms = Terms {
@@ -71,7 +71,7 @@ fn put_decoded(
 // The line of restarted decoding under the held description.
 fn put_decoding(line: &mut [u8], held: &[u8], channel: &[u8], limit: u32) -> usize
     requires { LINE ≤ length line.old }
-    ensures { PutPost line.old 0 (decodingLine held.now channel.now limit) line.new result }
+    ensures { PutPost line.old 0 (decoding_line held.now channel.now limit) line.new result }
 {
     match code::read_description(held) {
         Description::Accepted(code) => {
@@ -87,7 +87,7 @@ fn put_decoding(line: &mut [u8], held: &[u8], channel: &[u8], limit: u32) -> usi
 // The line of a channel record.
 pub fn put_channel(line: &mut [u8], held: &[u8], bytes: &[u8]) -> usize
     requires { LINE ≤ length line.old }
-    ensures { PutPost line.old 0 (channelLine held.now bytes.now) line.new result }
+    ensures { PutPost line.old 0 (channel_line held.now bytes.now) line.new result }
 {
     if held.len() == 0 {
         return receive_lines::put_line(line, b"no", 23);

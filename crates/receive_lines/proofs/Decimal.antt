@@ -8,33 +8,33 @@ use native.Mathlib.Omega.{arith}
 use borrow.Author.Tests.{ltb-true, ltb-false, lt-ltb, le-ltb}
 use lib.Dec.{ltb}
 use lib.ListN.{length, get_or, length-append}
-use Rattle.receive_lines.specs.Line.{digit, decimalIn, decimal}
-use Rattle.receive_lines.specs.Claims.{readFrom}
+use Rattle.receive_lines.specs.Line.{digit, decimal_in, decimal}
+use Rattle.receive_lines.specs.Claims.{read_from}
 
 -- one place more
-decimal-in : (places n : ℕ) (t : Bool) → ltb n 10 ≡ t → decimalIn (suc places) n ≡ cond t (digit n ∷ []) (decimalIn places (n / 10) ++ (digit (n % 10) ∷ []))
-unfolding decimalIn
-decimal-in places n t e = ap (λ (b : Bool). cond b (digit n ∷ []) (decimalIn places (n / 10) ++ (digit (n % 10) ∷ []))) e
+decimal_in_lem : (places n : ℕ) (t : Bool) → ltb n 10 ≡ t → decimal_in (suc places) n ≡ cond t (digit n ∷ []) (decimal_in places (n / 10) ++ (digit (n % 10) ∷ []))
+unfolding decimal_in
+decimal_in_lem places n t e = ap (λ (b : Bool). cond b (digit n ∷ []) (decimal_in places (n / 10) ++ (digit (n % 10) ∷ []))) e
 
 -- more places than suffice change nothing
-places-enough : (p q n : ℕ) → n < p → n < q → decimalIn p n ≡ decimalIn q n
-places-enough zero q n h k = absurd (omega arith)
-places-enough (suc p) zero n h k = absurd (omega arith)
-places-enough (suc p) (suc q) n h k = go (ltb n 10) refl (λ l m. places-enough p q (n / 10) l m)
+places_enough : (p q n : ℕ) → n < p → n < q → decimal_in p n ≡ decimal_in q n
+places_enough zero q n h k = absurd (omega arith)
+places_enough (suc p) zero n h k = absurd (omega arith)
+places_enough (suc p) (suc q) n h k = go (ltb n 10) refl (λ l m. places_enough p q (n / 10) l m)
   where
-    go : (t : Bool) → ltb n 10 ≡ t → (n / 10 < p → n / 10 < q → decimalIn p (n / 10) ≡ decimalIn q (n / 10)) → decimalIn (suc p) n ≡ decimalIn (suc q) n
-    go true e rest = decimal-in p n true e ∙ sym (decimal-in q n true e)
+    go : (t : Bool) → ltb n 10 ≡ t → (n / 10 < p → n / 10 < q → decimal_in p (n / 10) ≡ decimal_in q (n / 10)) → decimal_in (suc p) n ≡ decimal_in (suc q) n
+    go true e rest = decimal_in_lem p n true e ∙ sym (decimal_in_lem q n true e)
     go false e rest =
         let big = ltb-false n 10 e in
-        decimal-in p n false e ∙ ap (λ (ds : List ℕ). ds ++ (digit (n % 10) ∷ [])) (rest (omega arith) (omega arith)) ∙ sym (decimal-in q n false e)
+        decimal_in_lem p n false e ∙ ap (λ (ds : List ℕ). ds ++ (digit (n % 10) ∷ [])) (rest (omega arith) (omega arith)) ∙ sym (decimal_in_lem q n false e)
 
 pub decimal-small : (n : ℕ) → n < 10 → decimal n ≡ digit n ∷ []
-decimal-small n h = decimal-in n n true (lt-ltb n 10 h)
+decimal-small n h = decimal_in_lem n n true (lt-ltb n 10 h)
 
 pub decimal-more : (n : ℕ) → 10 ≤ n → decimal n ≡ decimal (n / 10) ++ (digit (n % 10) ∷ [])
 decimal-more n h =
-    decimal-in n n false (le-ltb n 10 h)
-    ∙ ap (λ (ds : List ℕ). ds ++ (digit (n % 10) ∷ [])) (places-enough n (suc (n / 10)) (n / 10) (omega arith) (omega arith))
+    decimal_in_lem n n false (le-ltb n 10 h)
+    ∙ ap (λ (ds : List ℕ). ds ++ (digit (n % 10) ∷ [])) (places_enough n (suc (n / 10)) (n / 10) (omega arith) (omega arith))
 
 pub length-small : (n : ℕ) → n < 10 → length (decimal n) ≡ 1
 length-small n h = ap length (decimal-small n h)
@@ -56,31 +56,31 @@ module _ (P : ℕ → List ℕ → Type 0)
           let big = ltb-false n 10 e in
           subst (P n) (sym (decimal-more n big)) (more n (decimal (n / 10)) big (rest (omega arith)))
 
-  decimal-ind : (n : ℕ) → P n (decimal n)
-  decimal-ind n = decimal-below (suc n) n (omega arith)
+  decimal_ind : (n : ℕ) → P n (decimal n)
+  decimal_ind n = decimal-below (suc n) n (omega arith)
 
 -- a number below 10^(p + 1) has at most p + 1 digits
 pub length-decimal : (n p : ℕ) → n < 10 ^ suc p → length (decimal n) ≤ suc p
-length-decimal = decimal-ind (λ n ds. (p : ℕ) → n < 10 ^ suc p → length ds ≤ suc p) (λ n h p l. omega arith) more
+length-decimal = decimal_ind (λ n ds. (p : ℕ) → n < 10 ^ suc p → length ds ≤ suc p) (λ n h p l. omega arith) more
   where
     more : (n : ℕ) (ds : List ℕ) → 10 ≤ n → ((p : ℕ) → n / 10 < 10 ^ suc p → length ds ≤ suc p) → (p : ℕ) → n < 10 ^ suc p → length (ds ++ (digit (n % 10) ∷ [])) ≤ suc p
     more n ds h f zero l = absurd (omega (arith, pow-suc 10 0))
     more n ds h f (suc p) l = omega (arith, length-append ds (digit (n % 10) ∷ []), f p (omega (arith, pow-suc 10 (suc p))))
 
-read-append : (x : ℕ) (ds es : List ℕ) → readFrom x (ds ++ es) ≡ readFrom (readFrom x ds) es
-read-append x [] es = refl
-read-append x (d ∷ ds) es = read-append (x * 10 + (d - digit 0)) ds es
+read_append : (x : ℕ) (ds es : List ℕ) → read_from x (ds ++ es) ≡ read_from (read_from x ds) es
+read_append x [] es = refl
+read_append x (d ∷ ds) es = read_append (x * 10 + (d - digit 0)) ds es
 
 -- the digits, read back, are the number
-pub decimal-reads : (n : ℕ) → readFrom 0 (decimal n) ≡ n
-decimal-reads = decimal-ind (λ n ds. readFrom 0 ds ≡ n) (λ n h. omega arith) more
+pub decimal_reads : (n : ℕ) → read_from 0 (decimal n) ≡ n
+decimal_reads = decimal_ind (λ n ds. read_from 0 ds ≡ n) (λ n h. omega arith) more
   where
-    more : (n : ℕ) (ds : List ℕ) → 10 ≤ n → readFrom 0 ds ≡ n / 10 → readFrom 0 (ds ++ (digit (n % 10) ∷ [])) ≡ n
-    more n ds h e = read-append 0 ds (digit (n % 10) ∷ []) ∙ ap (λ (x : ℕ). x * 10 + (digit (n % 10) - digit 0)) e ∙ omega arith
+    more : (n : ℕ) (ds : List ℕ) → 10 ≤ n → read_from 0 ds ≡ n / 10 → read_from 0 (ds ++ (digit (n % 10) ∷ [])) ≡ n
+    more n ds h e = read_append 0 ds (digit (n % 10) ∷ []) ∙ ap (λ (x : ℕ). x * 10 + (digit (n % 10) - digit 0)) e ∙ omega arith
 
 -- the first digit is not 0 unless the number is
-pub decimal-leads : (n : ℕ) → get_or (decimal n) 0 0 ≡ digit 0 → n ≡ 0
-decimal-leads n = (decimal-ind (λ n ds. (1 ≤ length ds) × (get_or ds 0 0 ≡ digit 0 → n ≡ 0)) (λ n h. (omega arith, λ e. omega arith)) more n).1
+pub decimal_leads : (n : ℕ) → get_or (decimal n) 0 0 ≡ digit 0 → n ≡ 0
+decimal_leads n = (decimal_ind (λ n ds. (1 ≤ length ds) × (get_or ds 0 0 ≡ digit 0 → n ≡ 0)) (λ n h. (omega arith, λ e. omega arith)) more n).1
   where
     more : (n : ℕ) (ds : List ℕ) → 10 ≤ n → (1 ≤ length ds) × (get_or ds 0 0 ≡ digit 0 → n / 10 ≡ 0) → (1 ≤ length (ds ++ (digit (n % 10) ∷ []))) × (get_or (ds ++ (digit (n % 10) ∷ [])) 0 0 ≡ digit 0 → n ≡ 0)
     more n [] h p = absurd (omega (arith, p.0))

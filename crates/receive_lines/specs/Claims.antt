@@ -3,6 +3,6 @@ use Rattle.std.specs.Prelude.{List, [], ◌∷◌, ℕ, ◌+◌, ◌-◌, ◌*�
 use Rattle.receive_lines.specs.Line.{digit}
 
 -- the number that decimal digits make after x
-abbrev pub readFrom : ℕ → List ℕ → ℕ
-readFrom x [] = x
-readFrom x (d ∷ ds) = readFrom (x * 10 + (d - digit 0)) ds
+abbrev pub read_from : ℕ → List ℕ → ℕ
+read_from x [] = x
+read_from x (d ∷ ds) = read_from (x * 10 + (d - digit 0)) ds

@@ -1,4 +1,4 @@
 pub mod Text
 pub mod Line
 pub mod Claims
-pub mod Contracts
+pub mod Clauses

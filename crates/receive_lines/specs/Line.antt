@@ -8,22 +8,22 @@ abbrev pub digit : ℕ → ℕ
 digit d = code "0" + d
 
 -- the decimal digits of n, if `places` digits suffice
-unfoldable pub decimalIn : ℕ → ℕ → List ℕ
-decimalIn zero n = []
-decimalIn (suc places) n = cond (ltb n 10) (digit n ∷ []) (decimalIn places (n / 10) ++ (digit (n % 10) ∷ []))
+unfoldable pub decimal_in : ℕ → ℕ → List ℕ
+decimal_in zero n = []
+decimal_in (suc places) n = cond (ltb n 10) (digit n ∷ []) (decimal_in places (n / 10) ++ (digit (n % 10) ∷ []))
 
 -- a number in decimal, with no leading zero; `decimal-reads` and `decimal-leads` of proofs/Decimal.antt prove it
 abbrev pub decimal : ℕ → List ℕ
-decimal n = decimalIn (suc n) n
+decimal n = decimal_in (suc n) n
 
 -- the lower-case hexadecimal digit d: 0 to 9, then a to f
-abbrev pub hexDigit : ℕ → ℕ
-hexDigit d = cond (ltb d 10) (code "0" + d) (code "a" + (d - 10))
+abbrev pub hex_digit : ℕ → ℕ
+hex_digit d = cond (ltb d 10) (code "0" + d) (code "a" + (d - 10))
 
 -- bytes in lower-case hexadecimal, two digits a byte
 abbrev pub hex : List ℕ → List ℕ
 hex [] = []
-hex (byte ∷ bytes) = hexDigit (byte / 16) ∷ hexDigit (byte % 16) ∷ hex bytes
+hex (byte ∷ bytes) = hex_digit (byte / 16) ∷ hex_digit (byte % 16) ∷ hex bytes
 
 -- the fields after a line's first word, a space before each, and one line feed after each line
 abbrev pub fields : List (List ℕ) → List ℕ
@@ -35,25 +35,25 @@ abbrev pub line : List ℕ → List (List ℕ) → List ℕ
 line word rest = word ++ fields rest
 
 -- `code N k r`
-abbrev pub codeLine : ℕ → ℕ → ℕ → List ℕ
-codeLine N k r = line (text "code") (decimal N ∷ decimal k ∷ decimal r ∷ [])
+abbrev pub code_line : ℕ → ℕ → ℕ → List ℕ
+code_line N k r = line (text "code") (decimal N ∷ decimal k ∷ decimal r ∷ [])
 
 -- `ok trial steps payload`
-abbrev pub okLine : ℕ → ℕ → List ℕ → List ℕ
-okLine trial steps payload = line (text "ok") (decimal trial ∷ decimal steps ∷ hex payload ∷ [])
+abbrev pub ok_line : ℕ → ℕ → List ℕ → List ℕ
+ok_line trial steps payload = line (text "ok") (decimal trial ∷ decimal steps ∷ hex payload ∷ [])
 
 -- `no` and the refusal's number
-abbrev pub noLine : ℕ → List ℕ
-noLine refusal = line (text "no") (decimal refusal ∷ [])
+abbrev pub no_line : ℕ → List ℕ
+no_line refusal = line (text "no") (decimal refusal ∷ [])
 
 -- `skip` and the kind's number
-abbrev pub skipLine : ℕ → List ℕ
-skipLine kind = line (text "skip") (decimal kind ∷ [])
+abbrev pub skip_line : ℕ → List ℕ
+skip_line kind = line (text "skip") (decimal kind ∷ [])
 
 -- `cut` alone
-abbrev pub cutLine : List ℕ
-cutLine = line (text "cut") []
+abbrev pub cut_line : List ℕ
+cut_line = line (text "cut") []
 
 -- `end` and the number of whole records
-abbrev pub endLine : ℕ → List ℕ
-endLine count = line (text "end") (decimal count ∷ [])
+abbrev pub end_line : ℕ → List ℕ
+end_line count = line (text "end") (decimal count ∷ [])

@@ -1,7 +1,7 @@
 // The lines that `receive` prints, put into a buffer.
 ghost use Rattle.std.specs.Prelude.{◌≡◌, [], ◌∷◌, ◌+◌, ◌*◌, ◌≤◌, ◌<◌, length};
-ghost use Rattle.receive_lines.specs.Line.{decimal, hexDigit, hex, codeLine, okLine, cutLine, endLine, line as line_of};
-ghost use Rattle.receive_lines.specs.Contracts.{spaced, PutPost};
+ghost use Rattle.receive_lines.specs.Line.{decimal, hex_digit, hex, code_line, ok_line, cut_line, end_line, line as line_of};
+ghost use Rattle.receive_lines.specs.Clauses.{spaced, PutPost};
 
 use arrays::BYTES;
 
@@ -45,7 +45,7 @@ fn put_number(line: &mut [u8], at: usize, n: u64) -> usize
 // A lower-case hexadecimal digit.
 fn hex_digit(d: u8) -> u8
     requires { d < 16 }
-    ensures { result ≡ hexDigit d }
+    ensures { result ≡ hex_digit d }
 {
     if d < 10 { b'0' + d } else { b'a' + (d - 10) }
 }
@@ -79,7 +79,7 @@ pub fn put_line(line: &mut [u8], word: &[u8], n: u64) -> usize
 // The line `code N k r`.
 pub fn put_code(line: &mut [u8], size: u64, k: u64, r: u64) -> usize
     requires { LINE ≤ length line.old }
-    ensures { PutPost line.old 0 (codeLine size k r) line.new result }
+    ensures { PutPost line.old 0 (code_line size k r) line.new result }
 {
     let at = put_bytes(line, 0, b"code");
     let at = put_number(line, at, size);
@@ -91,7 +91,7 @@ pub fn put_code(line: &mut [u8], size: u64, k: u64, r: u64) -> usize
 // The line `ok trial steps payload`.
 pub fn put_ok(line: &mut [u8], trial: u64, steps: u64, payload: &[u8]) -> usize
     requires { (length payload.now ≤ BYTES) × (LINE ≤ length line.old) }
-    ensures { PutPost line.old 0 (okLine trial steps payload.now) line.new result }
+    ensures { PutPost line.old 0 (ok_line trial steps payload.now) line.new result }
 {
     let at = put_bytes(line, 0, b"ok");
     let at = put_number(line, at, trial);
@@ -104,7 +104,7 @@ pub fn put_ok(line: &mut [u8], trial: u64, steps: u64, payload: &[u8]) -> usize
 // The line `cut`: the input ends inside a record, or a length is below 4.
 pub fn put_cut(line: &mut [u8]) -> usize
     requires { LINE ≤ length line.old }
-    ensures { PutPost line.old 0 cutLine line.new result }
+    ensures { PutPost line.old 0 cut_line line.new result }
 {
     put_bytes(line, 0, b"cut\n")
 }
@@ -112,7 +112,7 @@ pub fn put_cut(line: &mut [u8]) -> usize
 // The last line: `end` and the number of whole records.
 pub fn put_end(line: &mut [u8], count: u64) -> usize
     requires { LINE ≤ length line.old }
-    ensures { PutPost line.old 0 (endLine count) line.new result }
+    ensures { PutPost line.old 0 (end_line count) line.new result }
 {
     put_line(line, b"end", count)
 }

@@ -1,2 +1,2 @@
 pub mod Respond
-pub mod Contracts
+pub mod Clauses

@@ -1,7 +1,7 @@
 // What `receive` does with one record: the line that it prints, and the description that it holds.
 ghost use Rattle.std.specs.Prelude.{◌≡◌, ◌≤◌, ◌<◌, length, take};
-ghost use Rattle.receive_record.specs.Contracts.{RespondPre, RespondPost, headerOf};
-ghost use Rattle.receive_record.specs.Respond.{descriptionResponse, responded};
+ghost use Rattle.receive_record.specs.Clauses.{RespondPre, RespondPost, header_of};
+ghost use Rattle.receive_record.specs.Respond.{description_response, responded};
 
 use code::{Description, LONGEST};
 use receive_frame::{put_channel, put_refusal};
@@ -28,7 +28,7 @@ pub struct Response {
 // Length and kind at the start of a record. Both are words of 16 bits.
 pub fn read_header(bytes: &[u8]) -> Header
     requires { 4 ≤ length bytes.now }
-    ensures { (result ≡ headerOf bytes.now) × (result.length < 65536) }
+    ensures { (result ≡ header_of bytes.now) × (result.length < 65536) }
 {
     Header {
         length: code::read_word(bytes, 0) as usize,
@@ -39,7 +39,7 @@ pub fn read_header(bytes: &[u8]) -> Header
 // Responds to a description: it is held if it is accepted.
 fn respond_description(held: &mut [u8], size: usize, bytes: &[u8], line: &mut [u8]) -> Response
     requires { RespondPre LONGEST LINE held.old size bytes.now line.old }
-    ensures { RespondPost (descriptionResponse (take size held.old) bytes.now) line.new held.new result }
+    ensures { RespondPost (description_response (take size held.old) bytes.now) line.new held.new result }
 {
     match code::read_description(bytes) {
         Description::Accepted(code) => Response {

@@ -3,14 +3,14 @@ use Rattle.std.specs.Prelude.{◌≡◌, false, ℕ, ◌≤◌, ◌<◌, length,
 use mathlib.Core.List.{List, [], ◌∷◌, ◌++◌, flatten}
 use Rattle.code.specs.Description.{word}
 use Rattle.receive_record.specs.Respond.{responded}
-use Rattle.receive_stream.specs.Stream.{startsWhole}
+use Rattle.receive_stream.specs.Stream.{starts_whole}
 
 -- a whole record
 pub record IsRecord (bytes : List ℕ) : Type 0 where
   -- it has length and kind
   pub least : 4 ≤ length bytes
   -- its length field is the number of its bytes
-  pub length-is : word bytes 0 ≡ length bytes
+  pub length_is : word bytes 0 ≡ length bytes
 
 -- Whole records in order, and what is left of the input.
 -- `records-of` and `records-only` of proofs/Split.antt prove that `recordsOf` finds these and no others.
@@ -20,9 +20,9 @@ pub record Split (input : List ℕ) (records : List (List ℕ)) (left : List ℕ
   -- each record is whole
   pub each : (i : ℕ) → i < length records → IsRecord (get_or records i [])
   -- what is left begins with no whole record
-  pub none : startsWhole left ≡ false
+  pub none : starts_whole left ≡ false
 
 -- the description that is held after records
-abbrev pub heldAfter : List ℕ → List (List ℕ) → List ℕ
-heldAfter held [] = held
-heldAfter held (bytes ∷ more) = heldAfter (responded held bytes).1 more
+abbrev pub held_after : List ℕ → List (List ℕ) → List ℕ
+held_after held [] = held
+held_after held (bytes ∷ more) = held_after (responded held bytes).1 more

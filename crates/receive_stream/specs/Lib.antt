@@ -1,4 +1,4 @@
 pub mod Stream
 pub mod Program
 pub mod Claims
-pub mod Contracts
+pub mod Clauses

@@ -1,9 +1,9 @@
 // What `receive` prints for a stream of records: how many bytes it reads next, what they say, and when its output is written. The program only
 // reads and writes.
 ghost use Rattle.std.specs.Prelude.{◌≡◌, ◌++◌, ◌+◌, ◌≤◌, ◌<◌, length};
-ghost use Rattle.receive_lines.specs.Line.{cutLine, endLine};
-ghost use Rattle.receive_stream.specs.Contracts.{room, mostTurns, starting, ahead_of, Fits};
-ghost use Rattle.receive_stream.specs.Contracts.{ReadyPost, RespondToPre, RespondToPost, EndPost, AdvancePre, AdvancePost};
+ghost use Rattle.receive_lines.specs.Line.{cut_line, end_line};
+ghost use Rattle.receive_stream.specs.Clauses.{room, most_turns, starting, ahead_of, Fits};
+ghost use Rattle.receive_stream.specs.Clauses.{ReadyPost, RespondToPre, RespondToPost, EndPost, AdvancePre, AdvancePost};
 
 use code::LONGEST;
 use receive_lines::LINE;
@@ -109,8 +109,8 @@ fn respond_to(stream: Stream, bytes: &[u8], held: &mut [u8], output: &mut [u8]) 
 // Ends a stream with the line `end`. All output is written.
 fn finish(stream: Stream, output: &mut [u8]) -> Stream
     requires { (stream.waiting + LINE ≤ length output.old)
-        × (stream.turns < mostTurns) }
-    ensures { EndPost stream (endLine stream.count) output.old output.new result }
+        × (stream.turns < most_turns) }
+    ensures { EndPost stream (end_line stream.count) output.old output.new result }
 {
     let waiting = stream.waiting;
     let end = receive_lines::put_end(&mut output[waiting..], stream.count);
@@ -127,8 +127,8 @@ fn finish(stream: Stream, output: &mut [u8]) -> Stream
 
 // Ends a stream with the lines `cut` and `end`.
 fn cut(stream: Stream, output: &mut [u8]) -> Stream
-    requires { (stream.waiting + room ≤ length output.old) × (stream.turns < mostTurns) }
-    ensures { EndPost stream (cutLine ++ endLine stream.count) output.old output.new result }
+    requires { (stream.waiting + room ≤ length output.old) × (stream.turns < most_turns) }
+    ensures { EndPost stream (cut_line ++ end_line stream.count) output.old output.new result }
 {
     let waiting = stream.waiting;
     let end = receive_lines::put_cut(&mut output[waiting..]);

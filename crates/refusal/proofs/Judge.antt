@@ -8,7 +8,7 @@ use native.Mathlib.Omega.{arith}
 use Rattle.refusal.specs.declared.Refusal.{Refusal}
 use Rattle.refusal.specs.declared.Judgement.{Judgement}
 use Rattle.refusal.specs.declared.Judgement.TheVariants.{Fine, Refused}
-use Rattle.refusal.specs.Judge.{judge, refusedOr}
+use Rattle.refusal.specs.Judge.{judge, refused_or}
 
 pub judge-none : judge [] ≡ Fine
 unfolding judge
@@ -16,14 +16,14 @@ judge-none = refl
 
 module _ (t : Bool) (x : Refusal) (rest : List (Bool × Refusal)) where
   -- the first test holds
-  pub judge-yes : t ≡ true → judge ((t, x) ∷ rest) ≡ Refused x
+  pub judge_yes : t ≡ true → judge ((t, x) ∷ rest) ≡ Refused x
   unfolding judge
-  judge-yes e = rw e
+  judge_yes e = rw e
 
   -- it does not
-  pub judge-no : t ≡ false → judge ((t, x) ∷ rest) ≡ judge rest
+  pub judge_no : t ≡ false → judge ((t, x) ∷ rest) ≡ judge rest
   unfolding judge
-  judge-no e = rw e
+  judge_no e = rw e
 
   -- if no test holds, the first does not
   pub judge-past : judge ((t, x) ∷ rest) ≡ Fine → (t ≡ false) × (judge rest ≡ Fine)
@@ -36,69 +36,69 @@ module _ (t : Bool) (x : Refusal) (rest : List (Bool × Refusal)) where
 
 -- what a call answers, `refuse` being its answer to a refusal
 module _ {X : Type 0} (refuse : Refusal → X) (answer : X) where
-  pub refused-fine : (j : Judgement) → j ≡ Fine → refusedOr j refuse answer ≡ answer
-  unfolding refusedOr
-  refused-fine j e = rw e
+  pub refused_fine : (j : Judgement) → j ≡ Fine → refused_or j refuse answer ≡ answer
+  unfolding refused_or
+  refused_fine j e = rw e
 
-  pub refused-by : (j : Judgement) (x : Refusal) → j ≡ Refused x → refusedOr j refuse answer ≡ refuse x
-  unfolding refusedOr
-  refused-by j x e = rw e
+  pub refused_by : (j : Judgement) (x : Refusal) → j ≡ Refused x → refused_or j refuse answer ≡ refuse x
+  unfolding refused_or
+  refused_by j x e = rw e
 
   -- at a test that holds
-  pub at_test : (t : Bool) (x : Refusal) (rest : List (Bool × Refusal)) → t ≡ true → refuse x ≡ refusedOr (judge ((t, x) ∷ rest)) refuse answer
-  at_test t x rest e = sym (refused-by _ x (judge-yes t x rest e))
+  pub at_test : (t : Bool) (x : Refusal) (rest : List (Bool × Refusal)) → t ≡ true → refuse x ≡ refused_or (judge ((t, x) ∷ rest)) refuse answer
+  at_test t x rest e = sym (refused_by _ x (judge_yes t x rest e))
 
   -- past a test that does not hold
-  pub past-test : (t : Bool) (x : Refusal) (rest : List (Bool × Refusal)) → t ≡ false → refusedOr (judge ((t, x) ∷ rest)) refuse answer ≡ refusedOr (judge rest) refuse answer
-  past-test t x rest e = ap (λ (j : Judgement). refusedOr j refuse answer) (judge-no t x rest e)
+  pub past-test : (t : Bool) (x : Refusal) (rest : List (Bool × Refusal)) → t ≡ false → refused_or (judge ((t, x) ∷ rest)) refuse answer ≡ refused_or (judge rest) refuse answer
+  past-test t x rest e = ap (λ (j : Judgement). refused_or j refuse answer) (judge_no t x rest e)
 
   -- past all of them
-  pub past_all : refusedOr (judge []) refuse answer ≡ answer
-  past_all = refused-fine (judge []) judge-none
+  pub past_all : refused_or (judge []) refuse answer ≡ answer
+  past_all = refused_fine (judge []) judge-none
 
 -- what a call answers, `accepts` telling its answer from every refusal
 module _ {X : Type 0} (accepts : X → Bool) (refuse : Refusal → X) (refuses : (x : Refusal) → accepts (refuse x) ≡ false) (answer : X) where
   -- if it accepts, no test holds
-  pub accepted-fine : (j : Judgement) → accepts (refusedOr j refuse answer) ≡ true → j ≡ Fine
-  unfolding refusedOr
+  pub accepted-fine : (j : Judgement) → accepts (refused_or j refuse answer) ≡ true → j ≡ Fine
+  unfolding refused_or
   accepted-fine Fine e = refl
   accepted-fine (Refused x) e = absurd (true≢false (sym e ∙ refuses x))
 
   -- so it accepts exactly the input of which the tests judge that it is well-formed
-  pub accepts-exactly : accepts answer ≡ true → (j : Judgement) {W : Type 0} → (W ↔ (j ≡ Fine)) → W ↔ (accepts (refusedOr j refuse answer) ≡ true)
-  accepts-exactly a j fine = (λ w. ap accepts (refused-fine refuse answer j (fine.0 w)) ∙ a, λ e. fine.1 (accepted-fine j e))
+  pub accepts-exactly : accepts answer ≡ true → (j : Judgement) {W : Type 0} → (W ↔ (j ≡ Fine)) → W ↔ (accepts (refused_or j refuse answer) ≡ true)
+  accepts-exactly a j fine = (λ w. ap accepts (refused_fine refuse answer j (fine.0 w)) ∙ a, λ e. fine.1 (accepted-fine j e))
 
 -- the tests of one list, then those of another
-pub judge-append : (xs ys : List (Bool × Refusal)) → judge (xs ++ ys) ≡ refusedOr (judge xs) Refused (judge ys)
-unfolding judge refusedOr
+pub judge-append : (xs ys : List (Bool × Refusal)) → judge (xs ++ ys) ≡ refused_or (judge xs) Refused (judge ys)
+unfolding judge refused_or
 judge-append [] ys = refl
 judge-append (x ∷ xs) ys = go x.0 (judge-append xs ys)
   where
-    go : (t : Bool) → judge (xs ++ ys) ≡ refusedOr (judge xs) Refused (judge ys) → cond t (Refused x.1) (judge (xs ++ ys)) ≡ refusedOr (cond t (Refused x.1) (judge xs)) Refused (judge ys)
+    go : (t : Bool) → judge (xs ++ ys) ≡ refused_or (judge xs) Refused (judge ys) → cond t (Refused x.1) (judge (xs ++ ys)) ≡ refused_or (cond t (Refused x.1) (judge xs)) Refused (judge ys)
     go true e = refl
     go false e = e
 
 module _ (xs ys : List (Bool × Refusal)) where
   -- the first list is decided
   pub append-fine : judge xs ≡ Fine → judge (xs ++ ys) ≡ judge ys
-  append-fine e = judge-append xs ys ∙ refused-fine Refused (judge ys) (judge xs) e
+  append-fine e = judge-append xs ys ∙ refused_fine Refused (judge ys) (judge xs) e
 
-  pub append-refused : (x : Refusal) → judge xs ≡ Refused x → judge (xs ++ ys) ≡ Refused x
-  append-refused x e = judge-append xs ys ∙ refused-by Refused (judge ys) (judge xs) x e
+  pub append_refused : (x : Refusal) → judge xs ≡ Refused x → judge (xs ++ ys) ≡ Refused x
+  append_refused x e = judge-append xs ys ∙ refused_by Refused (judge ys) (judge xs) x e
 
   -- if no test of both lists holds, none of either does
   pub append-past : judge (xs ++ ys) ≡ Fine → (judge xs ≡ Fine) × (judge ys ≡ Fine)
-  unfolding refusedOr
+  unfolding refused_or
   append-past e = go (judge xs) refl (sym (judge-append xs ys) ∙ e)
     where
-      go : (j : Judgement) → judge xs ≡ j → refusedOr j Refused (judge ys) ≡ Fine → (judge xs ≡ Fine) × (judge ys ≡ Fine)
+      go : (j : Judgement) → judge xs ≡ j → refused_or j Refused (judge ys) ≡ Fine → (judge xs ≡ Fine) × (judge ys ≡ Fine)
       go Fine h f = (h, f)
       go (Refused x) h f = let z : ◌≡◌ {A = ℕ} 0 1 = cc in absurd (omega arith)
 
 -- a test between them that does not hold
-pub judge-without : (xs ys : List (Bool × Refusal)) (t : Bool) (x : Refusal) → t ≡ false → judge (xs ++ ((t, x) ∷ ys)) ≡ judge (xs ++ ys)
-judge-without xs ys t x e =
-    judge-append xs ((t, x) ∷ ys) ∙ ap (refusedOr (judge xs) Refused) (judge-no t x ys e) ∙ sym (judge-append xs ys)
+pub judge_without : (xs ys : List (Bool × Refusal)) (t : Bool) (x : Refusal) → t ≡ false → judge (xs ++ ((t, x) ∷ ys)) ≡ judge (xs ++ ys)
+judge_without xs ys t x e =
+    judge-append xs ((t, x) ∷ ys) ∙ ap (refused_or (judge xs) Refused) (judge_no t x ys e) ∙ sym (judge-append xs ys)
 
 -- what holds of each refusal in which a list of tests can end: a test is reached only if those before it fail
 module _ (P : Refusal → Type 0) where
@@ -110,10 +110,10 @@ module _ (P : Refusal → Type 0) where
   Judged Fine = Unit
   Judged (Refused x) = P x
 
-  pub judged-reached : (tests : List (Bool × Refusal)) → Reached tests → Judged (judge tests)
+  pub judged_reached : (tests : List (Bool × Refusal)) → Reached tests → Judged (judge tests)
   unfolding judge
-  judged-reached [] h = tt
-  judged-reached (x ∷ xs) h = go x.0 refl (λ e. judged-reached xs (h.1 e))
+  judged_reached [] h = tt
+  judged_reached (x ∷ xs) h = go x.0 refl (λ e. judged_reached xs (h.1 e))
     where
       go : (t : Bool) → x.0 ≡ t → (x.0 ≡ false → Judged (judge xs)) → Judged (cond t (Refused x.1) (judge xs))
       go true e rest = h.0 e

@@ -15,9 +15,9 @@ abbrev pub outside : ℕ → ℕ → ℕ → Bool
 outside x least most = ltb x least || ltb most x
 
 -- what a call answers: `refuse` of its refusal, or `answer` if there is none
-unfoldable pub refusedOr : {X : Type 0} → Judgement → (Refusal → X) → X → X
-refusedOr Fine refuse answer = answer
-refusedOr (Refused x) refuse answer = refuse x
+unfoldable pub refused_or : {X : Type 0} → Judgement → (Refusal → X) → X → X
+refused_or Fine refuse answer = answer
+refused_or (Refused x) refuse answer = refuse x
 
 -- the refusal beside the first test that holds
 unfoldable pub judge : List (Bool × Refusal) → Judgement

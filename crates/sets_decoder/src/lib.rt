@@ -2,9 +2,9 @@
 ghost use Rattle.std.specs.Prelude.{◌≡◌, ◌≤◌};
 ghost use Rattle.refusal.specs.Judge.{outside, judge};
 ghost use Rattle.arrays.specs.Claims.{longest};
-ghost use Rattle.code.specs.Code.{informationCount};
+ghost use Rattle.code.specs.Code.{information_count};
 ghost use Rattle.code.specs.Claims.{Coded};
-ghost use Rattle.decoder.specs.Decoder.{sets, mostLimit, ownRefusals, decodedUnder, decodedAs, setsFull, setsHalf, setsRestarted};
+ghost use Rattle.decoder.specs.Decoder.{sets, most_limit, own_refusals, decoded_under, decoded_as, sets_full, sets_half, sets_restarted};
 
 use code::{Code, Description};
 use decoder::Search;
@@ -17,8 +17,8 @@ const MOST_TRIALS: usize = 512;
 
 // The largest trial limit: K + 1 if w is 1, otherwise MOST_TRIALS.
 fn most_limit(w: u32, code: Code) -> usize
-    requires { informationCount code ≤ longest }
-    ensures { result ≡ mostLimit w code }
+    requires { information_count code ≤ longest }
+    ensures { result ≡ most_limit w code }
 {
     if w == 1 {
         code.k + code.r as usize + 1
@@ -36,16 +36,16 @@ fn is_bad_count(w: u32) -> bool
 
 // Whether the trial limit is outside its range.
 fn is_bad_limit(search: Search, code: Code) -> bool
-    requires { informationCount code ≤ longest }
-    ensures { result ≡ outside search.limit 1 (mostLimit search.w code) }
+    requires { information_count code ≤ longest }
+    ensures { result ≡ outside search.limit 1 (most_limit search.w code) }
 {
     refusal::is_outside(search.limit as usize, 1, most_limit(search.w, code))
 }
 
 // Refusals 26 and 14.
 fn judge_search(search: Search, code: Code) -> Judgement
-    requires { informationCount code ≤ longest }
-    ensures { result ≡ judge (ownRefusals (sets search.w search.limit) code) }
+    requires { information_count code ≤ longest }
+    ensures { result ≡ judge (own_refusals (sets search.w search.limit) code) }
 {
     if is_bad_count(search.w) {
         return Judgement::Refused(Refusal::Alone(26));
@@ -60,7 +60,7 @@ fn judge_search(search: Search, code: Code) -> Judgement
 fn decode_by(search: Search, mask: &[u8], code: Code, channel: &[u8], output: &mut [u8]) -> Decoded
     requires { Coded mask.now code }
     ensures { (result, output.new)
-        ≡ decodedUnder (sets search.w search.limit) search.restart mask.now code channel.now output.old }
+        ≡ decoded_under (sets search.w search.limit) search.restart mask.now code channel.now output.old }
 {
     let own = judge_search(search, code);
     match decoder::judge_call(own, code, channel, output) {
@@ -72,7 +72,7 @@ fn decode_by(search: Search, mask: &[u8], code: Code, channel: &[u8], output: &m
 // Decodes a channel's values into the packed payload, by a description.
 fn decode(search: Search, description: &[u8], channel: &[u8], output: &mut [u8]) -> Decoded
     ensures { (result, output.new)
-        ≡ decodedAs (sets search.w search.limit) search.restart description.now channel.now output.old }
+        ≡ decoded_as (sets search.w search.limit) search.restart description.now channel.now output.old }
 {
     match code::read_description(description) {
         Description::Accepted(code) => {
@@ -90,7 +90,7 @@ pub fn decode_sets_full(
     limit: u32,
     output: &mut [u8],
 ) -> Decoded
-    ensures { (result, output.new) ≡ setsFull description.now channel.now w limit output.old }
+    ensures { (result, output.new) ≡ sets_full description.now channel.now w limit output.old }
 {
     let full = Search {
         restart: Restart::Root,
@@ -108,7 +108,7 @@ pub fn decode_sets_half(
     limit: u32,
     output: &mut [u8],
 ) -> Decoded
-    ensures { (result, output.new) ≡ setsHalf description.now channel.now w limit output.old }
+    ensures { (result, output.new) ≡ sets_half description.now channel.now w limit output.old }
 {
     let half = Search {
         restart: Restart::Half,
@@ -126,7 +126,7 @@ pub fn decode_sets_restarted(
     limit: u32,
     output: &mut [u8],
 ) -> Decoded
-    ensures { (result, output.new) ≡ setsRestarted description.now channel.now w limit output.old }
+    ensures { (result, output.new) ≡ sets_restarted description.now channel.now w limit output.old }
 {
     let restarted = Search {
         restart: Restart::AfterFlip,

@@ -9,17 +9,17 @@ use native.Mathlib.Omega.{arith}
 use borrow.Author.Tests.{lt-ltb, le-ltb, eq-eqb, ne_eqb}
 use lib.Dec.{ltb, eqb, leb-suc-suc, eqb-suc-suc}
 use lib.ListN.{length, get_or, take, set}
-use Rattle.laws.specs.Insert.{insertBy, earlier}
-use Rattle.laws.proofs.Indices.{lt-cases}
+use Rattle.laws.specs.Insert.{insert_by, earlier}
+use Rattle.laws.proofs.Indices.{lt_cases}
 use Rattle.laws.proofs.Pairs.{take-member}
-use Rattle.laws.proofs.Insert.{insert-member}
-use Rattle.decoder.specs.Candidate.{Candidate, precedes, insertEach}
-use Rattle.sets_queue.specs.Contracts.{base, digits, setKey, digitAt, indicesOf, Digits, insertKeys}
+use Rattle.laws.proofs.Insert.{insert_member}
+use Rattle.decoder.specs.Candidate.{Candidate, precedes, insert_each}
+use Rattle.sets_queue.specs.Clauses.{base, digits, set_key, digit_at, indices_of, Digits, insert_keys}
 
 -- two numbers of a high part and a low part below P
-less-parts : (P a b d e : ℕ) → d < P → e < P → ltb (a * P + d) (b * P + e) ≡ ltb a b || (eqb a b && ltb d e)
-less-parts P a b d e l m =
-    lt-cases a b lower (λ h. lt-cases b a (higher h) (λ k. same (omega arith)))
+less_parts : (P a b d e : ℕ) → d < P → e < P → ltb (a * P + d) (b * P + e) ≡ ltb a b || (eqb a b && ltb d e)
+less_parts P a b d e l m =
+    lt_cases a b lower (λ h. lt_cases b a (higher h) (λ k. same (omega arith)))
   where
     lower : a < b → ltb (a * P + d) (b * P + e) ≡ ltb a b || (eqb a b && ltb d e)
     lower h =
@@ -34,24 +34,24 @@ less-parts P a b d e l m =
 
     same : a ≡ b → ltb (a * P + d) (b * P + e) ≡ ltb a b || (eqb a b && ltb d e)
     same q =
-        lt-cases d e (λ h. lt-ltb (a * P + d) (b * P + e) (omega (arith, ap (λ (k : ℕ). k * P) q)) ∙ sym (lt-ltb d e h))
+        lt_cases d e (λ h. lt-ltb (a * P + d) (b * P + e) (omega (arith, ap (λ (k : ℕ). k * P) q)) ∙ sym (lt-ltb d e h))
         (λ h. le-ltb (a * P + d) (b * P + e) (omega (arith, ap (λ (k : ℕ). k * P) q)) ∙ sym (le-ltb d e h))
         ∙ sym (ap₂ (λ (t u : Bool). t || (u && ltb d e)) (le-ltb a b (omega arith)) (eq-eqb a b q))
 
 -- ---- digits
 
-pow-positive : (p : ℕ) → 0 < base ^ p
-pow-positive zero = omega arith
-pow-positive (suc p) = omega (arith, pow-suc base p, pow-positive p)
+pow_positive : (p : ℕ) → 0 < base ^ p
+pow_positive zero = omega arith
+pow_positive (suc p) = omega (arith, pow-suc base p, pow_positive p)
 
-digits-tail : {p i : ℕ} {is : List ℕ} → Digits (suc p) (i ∷ is) → Digits p is
-digits-tail d = record { few = omega (arith, d.few); below = λ a l. d.below (suc a) (omega arith) }
+digits_tail : {p i : ℕ} {is : List ℕ} → Digits (suc p) (i ∷ is) → Digits p is
+digits_tail d = record { few = omega (arith, d.few); below = λ a l. d.below (suc a) (omega arith) }
 
 digits-below : (p : ℕ) (is : List ℕ) → Digits p is → digits p is < base ^ p
 digits-below zero is d = omega arith
-digits-below (suc p) [] d = pow-positive (suc p)
+digits-below (suc p) [] d = pow_positive (suc p)
 digits-below (suc p) (i ∷ is) d =
-    let low : digits p is < base ^ p = digits-below p is (digits-tail d) in
+    let low : digits p is < base ^ p = digits-below p is (digits_tail d) in
     let high : suc (suc i) * base ^ p ≤ base * base ^ p = mul-le-mul (let l : suc (suc i) ≤ base = omega (arith, d.below 0 (omega arith)) in l) (omega arith) in
     omega (arith, pow-suc base p)
 
@@ -61,11 +61,11 @@ earlier-digits zero is [] d e = refl
 earlier-digits zero is (j ∷ js) d e = absurd (omega (arith, e.few))
 earlier-digits (suc p) is [] d e = le-ltb (digits (suc p) is) 0 (omega arith)
 earlier-digits (suc p) [] (j ∷ js) d e =
-    lt-ltb 0 (digits (suc p) (j ∷ js)) (let more : 1 * base ^ p ≤ suc j * base ^ p = mul-le-mul (let l : 1 ≤ suc j = omega arith in l) (omega arith) in omega (arith, pow-positive p))
+    lt-ltb 0 (digits (suc p) (j ∷ js)) (let more : 1 * base ^ p ≤ suc j * base ^ p = mul-le-mul (let l : 1 ≤ suc j = omega arith in l) (omega arith) in omega (arith, pow_positive p))
 earlier-digits (suc p) (i ∷ is) (j ∷ js) d e =
-    less-parts (base ^ p) (suc i) (suc j) (digits p is) (digits p js) (digits-below p is (digits-tail d)) (digits-below p js (digits-tail e))
+    less_parts (base ^ p) (suc i) (suc j) (digits p is) (digits p js) (digits-below p is (digits_tail d)) (digits-below p js (digits_tail e))
     ∙ ap₂ (λ (t u : Bool). t || (u && ltb (digits p is) (digits p js))) (leb-suc-suc (suc i) j) (eqb-suc-suc i j)
-    ∙ ap (λ (t : Bool). ltb i j || (eqb i j && t)) (earlier-digits p is js (digits-tail d) (digits-tail e))
+    ∙ ap (λ (t : Bool). ltb i j || (eqb i j && t)) (earlier-digits p is js (digits_tail d) (digits_tail e))
 
 -- ---- keys
 
@@ -73,96 +73,96 @@ earlier-digits (suc p) (i ∷ is) (j ∷ js) d e =
 abbrev pub Keyed : Candidate → Type 0
 Keyed x = Digits 3 x.flips
 
-key-before : (x y : Candidate) → Keyed x → Keyed y → ltb (setKey x) (setKey y) ≡ precedes x y
+key-before : (x y : Candidate) → Keyed x → Keyed y → ltb (set_key x) (set_key y) ≡ precedes x y
 key-before x y d e =
-    less-parts (base ^ 3) x.metric y.metric (digits 3 x.flips) (digits 3 y.flips) (digits-below 3 x.flips d) (digits-below 3 y.flips e)
+    less_parts (base ^ 3) x.metric y.metric (digits 3 x.flips) (digits 3 y.flips) (digits-below 3 x.flips d) (digits-below 3 y.flips e)
     ∙ ap (λ (t : Bool). ltb x.metric y.metric || (eqb x.metric y.metric && t)) (earlier-digits 3 x.flips y.flips d e)
 
-keys-insert : (x : Candidate) (ys : List Candidate) → Keyed x → ((y : Candidate) → Memᴰ y ys → Keyed y) → map setKey (insertBy precedes x ys) ≡ insertBy ltb (setKey x) (map setKey ys)
-unfolding insertBy
-keys-insert x [] d e = refl
-keys-insert x (y ∷ ys) d e =
-    go (precedes x y) (keys-insert x ys d (λ z m. e z (Memᴰ.tail m)))
-    ∙ ap (λ (t : Bool). cond t (setKey x ∷ setKey y ∷ map setKey ys) (setKey y ∷ insertBy ltb (setKey x) (map setKey ys))) (sym (key-before x y d (e y (Memᴰ.head refl))))
+keys_insert : (x : Candidate) (ys : List Candidate) → Keyed x → ((y : Candidate) → Memᴰ y ys → Keyed y) → map set_key (insert_by precedes x ys) ≡ insert_by ltb (set_key x) (map set_key ys)
+unfolding insert_by
+keys_insert x [] d e = refl
+keys_insert x (y ∷ ys) d e =
+    go (precedes x y) (keys_insert x ys d (λ z m. e z (Memᴰ.tail m)))
+    ∙ ap (λ (t : Bool). cond t (set_key x ∷ set_key y ∷ map set_key ys) (set_key y ∷ insert_by ltb (set_key x) (map set_key ys))) (sym (key-before x y d (e y (Memᴰ.head refl))))
   where
-    go : (t : Bool) → map setKey (insertBy precedes x ys) ≡ insertBy ltb (setKey x) (map setKey ys)
-        → map setKey (cond t (x ∷ y ∷ ys) (y ∷ insertBy precedes x ys)) ≡ cond t (setKey x ∷ setKey y ∷ map setKey ys) (setKey y ∷ insertBy ltb (setKey x) (map setKey ys))
+    go : (t : Bool) → map set_key (insert_by precedes x ys) ≡ insert_by ltb (set_key x) (map set_key ys)
+        → map set_key (cond t (x ∷ y ∷ ys) (y ∷ insert_by precedes x ys)) ≡ cond t (set_key x ∷ set_key y ∷ map set_key ys) (set_key y ∷ insert_by ltb (set_key x) (map set_key ys))
     go true h = refl
-    go false h = ap (λ (ks : List ℕ). setKey y ∷ ks) h
+    go false h = ap (λ (ks : List ℕ). set_key y ∷ ks) h
 
-keys-take : (m : ℕ) (xs : List Candidate) → map setKey (take m xs) ≡ take m (map setKey xs)
-keys-take zero xs = refl
-keys-take (suc m) [] = refl
-keys-take (suc m) (x ∷ xs) = ap (λ (ks : List ℕ). setKey x ∷ ks) (keys-take m xs)
+keys_take : (m : ℕ) (xs : List Candidate) → map set_key (take m xs) ≡ take m (map set_key xs)
+keys_take zero xs = refl
+keys_take (suc m) [] = refl
+keys_take (suc m) (x ∷ xs) = ap (λ (ks : List ℕ). set_key x ∷ ks) (keys_take m xs)
 
 -- each of some candidates in its place
-pub keys-insert-each : (m : ℕ) (xs ys : List Candidate) → ((x : Candidate) → Memᴰ x xs → Keyed x) → ((y : Candidate) → Memᴰ y ys → Keyed y)
-    → map setKey (insertEach m xs ys) ≡ insertKeys m (map setKey xs) (map setKey ys)
-unfolding insertEach insertKeys
-keys-insert-each m [] ys d e = refl
-keys-insert-each m (x ∷ xs) ys d e =
+pub keys_insert_each : (m : ℕ) (xs ys : List Candidate) → ((x : Candidate) → Memᴰ x xs → Keyed x) → ((y : Candidate) → Memᴰ y ys → Keyed y)
+    → map set_key (insert_each m xs ys) ≡ insert_keys m (map set_key xs) (map set_key ys)
+unfolding insert_each insert_keys
+keys_insert_each m [] ys d e = refl
+keys_insert_each m (x ∷ xs) ys d e =
     let here : Keyed x = d x (Memᴰ.head refl) in
-    keys-insert-each m xs (take m (insertBy precedes x ys)) (λ z p. d z (Memᴰ.tail p))
-    (λ z p. ⊎_elim (λ q. subst Keyed (sym q) here) (e z) (insert-member precedes x ys (take-member m (insertBy precedes x ys) p)))
-    ∙ ap (insertKeys m (map setKey xs)) (keys-take m (insertBy precedes x ys) ∙ ap (take m) (keys-insert x ys here e))
+    keys_insert_each m xs (take m (insert_by precedes x ys)) (λ z p. d z (Memᴰ.tail p))
+    (λ z p. ⊎_elim (λ q. subst Keyed (sym q) here) (e z) (insert_member precedes x ys (take-member m (insert_by precedes x ys) p)))
+    ∙ ap (insert_keys m (map set_key xs)) (keys_take m (insert_by precedes x ys) ∙ ap (take m) (keys_insert x ys here e))
 
 -- ---- a key's indices
 
 module _ (key : ℕ) where
   abbrev x : ℕ
-  x = digitAt (base ^ 2) key
+  x = digit_at (base ^ 2) key
 
   abbrev y : ℕ
-  y = digitAt base key
+  y = digit_at base key
 
   abbrev z : ℕ
-  z = digitAt 1 key
+  z = digit_at 1 key
 
-  pub one_index : y ≡ 0 → indicesOf key ≡ (x - 1) ∷ []
+  pub one_index : y ≡ 0 → indices_of key ≡ (x - 1) ∷ []
   one_index e = ap (λ (k : ℕ). (x - 1) ∷ cond (eqb k 0) [] ((y - 1) ∷ cond (eqb z 0) [] ((z - 1) ∷ []))) e
 
-  more-indices : (y ≡ 0 → ⊥) → indicesOf key ≡ (x - 1) ∷ (y - 1) ∷ cond (eqb z 0) [] ((z - 1) ∷ [])
-  more-indices f = ap (λ (t : Bool). (x - 1) ∷ cond t [] ((y - 1) ∷ cond (eqb z 0) [] ((z - 1) ∷ []))) (ne_eqb y 0 f)
+  more_indices : (y ≡ 0 → ⊥) → indices_of key ≡ (x - 1) ∷ (y - 1) ∷ cond (eqb z 0) [] ((z - 1) ∷ [])
+  more_indices f = ap (λ (t : Bool). (x - 1) ∷ cond t [] ((y - 1) ∷ cond (eqb z 0) [] ((z - 1) ∷ []))) (ne_eqb y 0 f)
 
-  pub two-indices : (y ≡ 0 → ⊥) → z ≡ 0 → indicesOf key ≡ (x - 1) ∷ (y - 1) ∷ []
-  two-indices f e = more-indices f ∙ ap (λ (k : ℕ). (x - 1) ∷ (y - 1) ∷ cond (eqb k 0) [] ((z - 1) ∷ [])) e
+  pub two_indices : (y ≡ 0 → ⊥) → z ≡ 0 → indices_of key ≡ (x - 1) ∷ (y - 1) ∷ []
+  two_indices f e = more_indices f ∙ ap (λ (k : ℕ). (x - 1) ∷ (y - 1) ∷ cond (eqb k 0) [] ((z - 1) ∷ [])) e
 
-  pub three-indices : (y ≡ 0 → ⊥) → (z ≡ 0 → ⊥) → indicesOf key ≡ (x - 1) ∷ (y - 1) ∷ (z - 1) ∷ []
-  three-indices f g = more-indices f ∙ ap (λ (t : Bool). (x - 1) ∷ (y - 1) ∷ cond t [] ((z - 1) ∷ [])) (ne_eqb z 0 g)
+  pub three_indices : (y ≡ 0 → ⊥) → (z ≡ 0 → ⊥) → indices_of key ≡ (x - 1) ∷ (y - 1) ∷ (z - 1) ∷ []
+  three_indices f g = more_indices f ∙ ap (λ (t : Bool). (x - 1) ∷ (y - 1) ∷ cond t [] ((z - 1) ∷ [])) (ne_eqb z 0 g)
 
 module _ (m : ℕ) where
   abbrev keyed : List ℕ → ℕ
   keyed is = m * base ^ 3 + digits 3 is
 
-  first-digit : (is : List ℕ) → 0 < length is → Digits 3 is → digitAt (base ^ 2) (keyed is) ≡ suc (get_or is 0 0)
+  first-digit : (is : List ℕ) → 0 < length is → Digits 3 is → digit_at (base ^ 2) (keyed is) ≡ suc (get_or is 0 0)
   first-digit [] l d = absurd (omega arith)
-  first-digit (i ∷ is) l d = let b = digits-below 2 is (digits-tail d) in omega (arith, d.below 0 (omega arith))
+  first-digit (i ∷ is) l d = let b = digits-below 2 is (digits_tail d) in omega (arith, d.below 0 (omega arith))
 
-  pub first_some : (is : List ℕ) → 0 < length is → Digits 3 is → 0 < digitAt (base ^ 2) (keyed is)
+  pub first_some : (is : List ℕ) → 0 < length is → Digits 3 is → 0 < digit_at (base ^ 2) (keyed is)
   first_some is l d = omega (arith, first-digit is l d)
 
-  pub indices-back : (is : List ℕ) → 0 < length is → Digits 3 is → indicesOf (keyed is) ≡ is
-  indices-back [] l d = absurd (omega arith)
-  indices-back (i ∷ []) l d =
-      let second : digitAt base (keyed (i ∷ [])) ≡ 0 = omega arith in
-      let one : digitAt (base ^ 2) (keyed (i ∷ [])) - 1 ≡ i = omega (arith, first-digit (i ∷ []) l d) in
+  pub indices_back : (is : List ℕ) → 0 < length is → Digits 3 is → indices_of (keyed is) ≡ is
+  indices_back [] l d = absurd (omega arith)
+  indices_back (i ∷ []) l d =
+      let second : digit_at base (keyed (i ∷ [])) ≡ 0 = omega arith in
+      let one : digit_at (base ^ 2) (keyed (i ∷ [])) - 1 ≡ i = omega (arith, first-digit (i ∷ []) l d) in
       one_index (keyed (i ∷ [])) second ∙ ap (λ (x : ℕ). x ∷ []) one
-  indices-back (i ∷ j ∷ []) l d =
+  indices_back (i ∷ j ∷ []) l d =
       let is : List ℕ = i ∷ j ∷ [] in
-      let second : digitAt base (keyed is) ≡ suc j = omega (arith, d.below 1 (omega arith)) in
-      let third : digitAt 1 (keyed is) ≡ 0 = omega arith in
-      let one : digitAt (base ^ 2) (keyed is) - 1 ≡ i = omega (arith, first-digit is l d) in
-      let two : digitAt base (keyed is) - 1 ≡ j = omega arith in
-      two-indices (keyed is) (λ e. omega arith) third ∙ ap₂ (λ (x y : ℕ). x ∷ y ∷ []) one two
-  indices-back (i ∷ j ∷ k ∷ []) l d =
+      let second : digit_at base (keyed is) ≡ suc j = omega (arith, d.below 1 (omega arith)) in
+      let third : digit_at 1 (keyed is) ≡ 0 = omega arith in
+      let one : digit_at (base ^ 2) (keyed is) - 1 ≡ i = omega (arith, first-digit is l d) in
+      let two : digit_at base (keyed is) - 1 ≡ j = omega arith in
+      two_indices (keyed is) (λ e. omega arith) third ∙ ap₂ (λ (x y : ℕ). x ∷ y ∷ []) one two
+  indices_back (i ∷ j ∷ k ∷ []) l d =
       let is : List ℕ = i ∷ j ∷ k ∷ [] in
-      let second : digitAt base (keyed is) ≡ suc j = omega (arith, d.below 1 (omega arith), d.below 2 (omega arith)) in
-      let third : digitAt 1 (keyed is) ≡ suc k = omega (arith, d.below 2 (omega arith)) in
-      let one : digitAt (base ^ 2) (keyed is) - 1 ≡ i = omega (arith, first-digit is l d) in
-      let two : digitAt base (keyed is) - 1 ≡ j = omega arith in
-      let three : digitAt 1 (keyed is) - 1 ≡ k = omega arith in
-      three-indices (keyed is) (λ e. omega arith) (λ e. omega arith) ∙ ap₂ (λ (x y : ℕ). x ∷ y ∷ (digitAt 1 (keyed is) - 1) ∷ []) one two ∙ ap (λ (z : ℕ). i ∷ j ∷ z ∷ []) three
-  indices-back (i ∷ j ∷ k ∷ h ∷ is) l d = absurd (omega (arith, d.few))
+      let second : digit_at base (keyed is) ≡ suc j = omega (arith, d.below 1 (omega arith), d.below 2 (omega arith)) in
+      let third : digit_at 1 (keyed is) ≡ suc k = omega (arith, d.below 2 (omega arith)) in
+      let one : digit_at (base ^ 2) (keyed is) - 1 ≡ i = omega (arith, first-digit is l d) in
+      let two : digit_at base (keyed is) - 1 ≡ j = omega arith in
+      let three : digit_at 1 (keyed is) - 1 ≡ k = omega arith in
+      three_indices (keyed is) (λ e. omega arith) (λ e. omega arith) ∙ ap₂ (λ (x y : ℕ). x ∷ y ∷ (digit_at 1 (keyed is) - 1) ∷ []) one two ∙ ap (λ (z : ℕ). i ∷ j ∷ z ∷ []) three
+  indices_back (i ∷ j ∷ k ∷ h ∷ is) l d = absurd (omega (arith, d.few))
 
 -- what the first entries of an array of three hold once they are stored
 module _ (x y z : ℕ) where
@@ -170,13 +170,13 @@ module _ (x y z : ℕ) where
   stored_one [] e = absurd (omega arith)
   stored_one (a ∷ w) e = refl
 
-  pub stored-two : (w : List ℕ) → length w ≡ 3 → take 2 (set (set w 0 x) 1 y) ≡ x ∷ y ∷ []
-  stored-two [] e = absurd (omega arith)
-  stored-two (a ∷ []) e = absurd (omega arith)
-  stored-two (a ∷ b ∷ w) e = refl
+  pub stored_two : (w : List ℕ) → length w ≡ 3 → take 2 (set (set w 0 x) 1 y) ≡ x ∷ y ∷ []
+  stored_two [] e = absurd (omega arith)
+  stored_two (a ∷ []) e = absurd (omega arith)
+  stored_two (a ∷ b ∷ w) e = refl
 
-  pub stored-three : (w : List ℕ) → length w ≡ 3 → take 3 (set (set (set w 0 x) 1 y) 2 z) ≡ x ∷ y ∷ z ∷ []
-  stored-three [] e = absurd (omega arith)
-  stored-three (a ∷ []) e = absurd (omega arith)
-  stored-three (a ∷ b ∷ []) e = absurd (omega arith)
-  stored-three (a ∷ b ∷ c ∷ w) e = refl
+  pub stored_three : (w : List ℕ) → length w ≡ 3 → take 3 (set (set (set w 0 x) 1 y) 2 z) ≡ x ∷ y ∷ z ∷ []
+  stored_three [] e = absurd (omega arith)
+  stored_three (a ∷ []) e = absurd (omega arith)
+  stored_three (a ∷ b ∷ []) e = absurd (omega arith)
+  stored_three (a ∷ b ∷ c ∷ w) e = refl

@@ -6,12 +6,12 @@ use native.Mathlib.Omega.{arith}
 use lib.Dec.{ltb}
 use lib.ListN.{length, get_or, take, drop, set, length-set, length-take, get_or-append}
 use lib.Seq.{get_or-take, get_or-drop, get_or-append-add, get_or-set_same, get_or-set_other, take_all}
-use Rattle.laws.specs.Insert.{insertBy}
-use Rattle.laws.proofs.Indices.{lt-cases}
-use Rattle.laws.proofs.Insert.{length-insert}
-use Rattle.flip_order.proofs.Pairwise.{pairwise-tail}
-use Rattle.sets_queue.specs.Contracts.{insertKeys, Pool, Place, Shifted, PoolPre}
-use Rattle.sets_queue.proofs.Inserting.{insert-at, insert-ordered, take-ordered, insert-one}
+use Rattle.laws.specs.Insert.{insert_by}
+use Rattle.laws.proofs.Indices.{lt_cases}
+use Rattle.laws.proofs.Insert.{length_insert}
+use Rattle.flip_order.proofs.Pairwise.{pairwise_tail}
+use Rattle.sets_queue.specs.Clauses.{insert_keys, Pool, Place, Shifted, PoolPre}
+use Rattle.sets_queue.proofs.Inserting.{insert_at, insert_ordered, take-ordered, insert_one}
 
 -- ---- the search for a place, from the end down
 
@@ -23,7 +23,7 @@ above-none key end keys = record { at = λ i l m. absurd (omega arith) }
 
 pub above_more : {key j end : ℕ} {keys : List ℕ} → Above key j end keys → key < get_or keys (j - 1) 0 → Above key (j - 1) end keys
 above_more {key} {j} {end} {keys} p l = record {
-  at = λ i m n. lt-cases i j (λ h. subst (λ (k : ℕ). key < get_or keys k 0) (omega arith) l) (λ h. p.at i h n);
+  at = λ i m n. lt_cases i j (λ h. subst (λ (k : ℕ). key < get_or keys k 0) (omega arith) l) (λ h. p.at i h n);
 }
 
 -- ---- the shift, from the end down
@@ -38,12 +38,12 @@ pub record Shifting (at end : ℕ) (keys keys' : List ℕ) (j : ℕ) : Type 0 wh
 pub shift_none : (at end : ℕ) (keys : List ℕ) → at ≤ end → Shifting at end keys keys end
 shift_none at end keys l = record { least = l; most = omega arith; whole = refl; up = λ i m n. absurd (omega arith); same = λ i m. refl }
 
-pub shift-more : {at end : ℕ} {keys keys' : List ℕ} {j : ℕ} → Shifting at end keys keys' j → at < j → j < length keys → Shifting at end keys (set keys' j (get_or keys' (j - 1) 0)) (j - 1)
-shift-more {at} {end} {keys} {keys'} {j} p l room = record {
+pub shift_more : {at end : ℕ} {keys keys' : List ℕ} {j : ℕ} → Shifting at end keys keys' j → at < j → j < length keys → Shifting at end keys (set keys' j (get_or keys' (j - 1) 0)) (j - 1)
+shift_more {at} {end} {keys} {keys'} {j} p l room = record {
   least = omega arith;
   most = omega (arith, p.most);
   whole = length-set keys' j (get_or keys' (j - 1) 0) ∙ p.whole;
-  up = λ i m n. lt-cases i j (moved i m) (λ h. get_or-set_other keys' j (suc i) (get_or keys' (j - 1) 0) 0 (λ e. omega arith) ∙ p.up i h n);
+  up = λ i m n. lt_cases i j (moved i m) (λ h. get_or-set_other keys' j (suc i) (get_or keys' (j - 1) 0) 0 (λ e. omega arith) ∙ p.up i h n);
   same = λ i m. get_or-set_other keys' j i (get_or keys' (j - 1) 0) 0 (λ e. omega arith) ∙ p.same i (omega arith);
 }
   where
@@ -55,15 +55,15 @@ shift-more {at} {end} {keys} {keys'} {j} p l room = record {
         ∙ get_or-set_same keys' j (get_or keys' (j - 1) 0) 0 (omega (arith, p.whole))
         ∙ p.same (j - 1) (omega arith) ∙ ap (λ (k : ℕ). get_or keys k 0) d
 
-pub shift-done : {at end : ℕ} {keys keys' : List ℕ} {j : ℕ} → Shifting at end keys keys' j → j ≤ at → Shifted at end keys keys'
-shift-done p l = record { whole = p.whole; up = λ i m n. p.up i (omega (arith, p.least)) n; below = λ i m. p.same i (omega (arith, p.least)) }
+pub shift_done : {at end : ℕ} {keys keys' : List ℕ} {j : ℕ} → Shifting at end keys keys' j → j ≤ at → Shifted at end keys keys'
+shift_done p l = record { whole = p.whole; up = λ i m n. p.up i (omega (arith, p.least)) n; below = λ i m. p.same i (omega (arith, p.least)) }
 
 -- ---- a key in its place
 
 -- the place among the keys of a pool
 module _ {key low count p : ℕ} {keys ks : List ℕ} (pool : Pool keys low count ks) (place : Place key low count keys p) where
-  pub inserted : insertBy ltb key ks ≡ take (p - low) ks ++ (key ∷ drop (p - low) ks)
-  inserted = insert-at key ks (p - low) before after
+  pub inserted : insert_by ltb key ks ≡ take (p - low) ks ++ (key ∷ drop (p - low) ks)
+  inserted = insert_at key ks (p - low) before after
     where
       last : low < p → get_or ks (p - low - 1) 0 ≤ key
       last l =
@@ -72,7 +72,7 @@ module _ {key low count p : ℕ} {keys ks : List ℕ} (pool : Pool keys low coun
 
       before : (a : ℕ) → a < p - low → a < length ks → get_or ks a 0 ≤ key
       before a l m =
-          lt-cases a (p - low - 1) (λ h. omega (arith, pool.ordered.at a (p - low - 1) h (omega (arith, place.most, pool.ends)), last (omega arith)))
+          lt_cases a (p - low - 1) (λ h. omega (arith, pool.ordered.at a (p - low - 1) h (omega (arith, place.most, pool.ends)), last (omega arith)))
           (λ h. let e : a ≡ p - low - 1 = omega arith in subst (λ (k : ℕ). get_or ks k 0 ≤ key) (sym e) (last (omega arith)))
 
       after : (a : ℕ) → p - low ≤ a → a < length ks → key < get_or ks a 0
@@ -80,7 +80,7 @@ module _ {key low count p : ℕ} {keys ks : List ℕ} (pool : Pool keys low coun
 
   -- what the list holds at each place
   abbrev new : List ℕ
-  new = insertBy ltb key ks
+  new = insert_by ltb key ks
 
   front_length : length (take (p - low) ks) ≡ p - low
   front_length = omega (arith, length-take (p - low) ks, place.most, pool.ends)
@@ -106,8 +106,8 @@ module _ {key low count p : ℕ} {keys ks : List ℕ} (pool : Pool keys low coun
       ap (λ (k : ℕ). get_or new k 0) e ∙ new-past (suc (a - (p - low))) ∙ get_or-drop (p - low) ks (a - (p - low)) 0 ∙ ap (λ (k : ℕ). get_or ks k 0) f
 
   -- the room is full, and the key not below the last of it
-  turned-away : p ≡ low + length ks → take (length ks) (insertBy ltb key ks) ≡ ks
-  turned-away e =
+  turned_away : p ≡ low + length ks → take (length ks) (insert_by ltb key ks) ≡ ks
+  turned_away e =
       let d : p - low ≡ length ks = omega (arith, pool.ends) in
       ap (take (length ks)) (inserted ∙ ap (λ (k : ℕ). take k ks ++ (key ∷ drop k ks)) d) ∙ ap (λ (xs : List ℕ). take (length ks) (xs ++ (key ∷ drop (length ks) ks))) (take_all (length ks) ks (omega arith))
       ∙ take-front ks (key ∷ drop (length ks) ks)
@@ -122,14 +122,14 @@ module _ {key low count p : ℕ} {keys ks : List ℕ} (pool : Pool keys low coun
     m = room - low
 
     kept-length : length (take m new) ≡ min (suc (length ks)) m
-    kept-length = omega (arith, length-take m new, length-insert ltb key ks)
+    kept-length = omega (arith, length-take m new, length_insert ltb key ks)
 
     at_each : (a : ℕ) → a < length (take m new) → get_or (set keys' p key) (low + a) 0 ≡ get_or new a 0
     at_each a l =
-        lt-cases a (p - low)
+        lt_cases a (p - low)
         (λ h. get_or-set_other keys' p (low + a) key 0 (λ e. omega (arith, place.least)) ∙ s.below (low + a) (omega (arith, place.least))
         ∙ pool.at a (omega (arith, place.most, pool.ends)) ∙ sym (new-before a h))
-        (λ h. lt-cases (p - low) a (λ g. past a g l)
+        (λ h. lt_cases (p - low) a (λ g. past a g l)
         (λ g.
         let e : low + a ≡ p = omega (arith, place.least) in
         let d : p - low ≡ a = omega arith in
@@ -142,31 +142,31 @@ module _ {key low count p : ℕ} {keys ks : List ℕ} (pool : Pool keys low coun
             let e : low + suc b ≡ suc (low + b) = omega arith in
             ap (λ (k : ℕ). get_or (set keys' p key) k 0) e
             ∙ get_or-set_other keys' p (suc (low + b)) key 0 (λ e. omega (arith, place.least))
-            ∙ s.up (low + b) (omega (arith, place.least)) (omega (arith, kept-length, pool.ends, on.low-most, on.count_most))
+            ∙ s.up (low + b) (omega (arith, place.least)) (omega (arith, kept-length, pool.ends, on.low_most, on.count_most))
             ∙ pool.at b (omega (arith, kept-length)) ∙ sym (new-after b (omega arith))
 
-    pub pool-put : Pool (set keys' p key) low (min (count + 1) room) (insertKeys (room - low) (key ∷ []) ks)
-    pool-put =
-        subst (Pool (set keys' p key) low (min (count + 1) room)) (sym (insert-one m key ks))
+    pub pool_put : Pool (set keys' p key) low (min (count + 1) room) (insert_keys (room - low) (key ∷ []) ks)
+    pool_put =
+        subst (Pool (set keys' p key) low (min (count + 1) room)) (sym (insert_one m key ks))
         (record {
-          ends = omega (arith, kept-length, pool.ends, on.low-most, on.count_most);
+          ends = omega (arith, kept-length, pool.ends, on.low_most, on.count_most);
           at = λ a l. at_each a l ∙ sym (get_or-take m new a 0 (omega (arith, kept-length)));
-          ordered = take-ordered m new (insert-ordered key ks pool.ordered);
+          ordered = take-ordered m new (insert_ordered key ks pool.ordered);
         })
 
-  pub pool-full : {room : ℕ} → PoolPre low count room keys → p ≡ room → Pool keys low count (insertKeys (room - low) (key ∷ []) ks)
-  pool-full {room} on e =
+  pub pool_full : {room : ℕ} → PoolPre low count room keys → p ≡ room → Pool keys low count (insert_keys (room - low) (key ∷ []) ks)
+  pool_full {room} on e =
       let d : room - low ≡ length ks = omega (arith, place.most, pool.ends, on.count_most) in
-      subst (Pool keys low count) (sym (insert-one (room - low) key ks ∙ ap (λ (k : ℕ). take k (insertBy ltb key ks)) d ∙ turned-away (omega (arith, place.most, on.count_most, pool.ends)))) pool
+      subst (Pool keys low count) (sym (insert_one (room - low) key ks ∙ ap (λ (k : ℕ). take k (insert_by ltb key ks)) d ∙ turned_away (omega (arith, place.most, on.count_most, pool.ends)))) pool
 
 -- ---- the first key is taken
 
-pub pool-next : {keys : List ℕ} {low count k : ℕ} {ks : List ℕ} → Pool keys low count (k ∷ ks) → Pool keys (low + 1) count ks
-pool-next {keys} {low} p = record {
+pub pool_next : {keys : List ℕ} {low count k : ℕ} {ks : List ℕ} → Pool keys low count (k ∷ ks) → Pool keys (low + 1) count ks
+pool_next {keys} {low} p = record {
   ends = omega (arith, p.ends);
   at = λ a l. let e : low + 1 + a ≡ low + suc a = omega arith in ap (λ (j : ℕ). get_or keys j 0) e ∙ p.at (suc a) (omega arith);
-  ordered = pairwise-tail p.ordered;
+  ordered = pairwise_tail p.ordered;
 }
 
-pub pool-first : {keys : List ℕ} {low count k : ℕ} {ks : List ℕ} → Pool keys low count (k ∷ ks) → get_or keys low 0 ≡ k
-pool-first {keys} {low} p = let e : low ≡ low + 0 = omega arith in ap (λ (j : ℕ). get_or keys j 0) e ∙ p.at 0 (omega arith)
+pub pool_first : {keys : List ℕ} {low count k : ℕ} {ks : List ℕ} → Pool keys low count (k ∷ ks) → get_or keys low 0 ≡ k
+pool_first {keys} {low} p = let e : low ≡ low + 0 = omega arith in ap (λ (j : ℕ). get_or keys j 0) e ∙ p.at 0 (omega arith)

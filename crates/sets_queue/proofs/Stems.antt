@@ -6,7 +6,7 @@ use native.Mathlib.Omega.{arith}
 use lib.IntN.{ℤ}
 use lib.ListN.{length, get_or}
 use Rattle.sets_queue.specs.declared.Stem.{Stem}
-use Rattle.sets_queue.specs.Contracts.{base, stemOf, stemWith}
+use Rattle.sets_queue.specs.Clauses.{base, stem_of, stem_with}
 
 abbrev stem : ℕ → ℕ → ℕ → ℕ → Stem
 stem sum digits weight from = record { sum = sum; digits = digits; weight = weight; from = from }
@@ -19,17 +19,17 @@ abbrev pub root : Stem
 root = stem 0 0 (base ^ 2) 0
 
 module _ (leaves : List ℤ) where
-  pub stem-none : (is : List ℕ) → length is ≡ 0 → stemOf leaves is ≡ root
+  pub stem-none : (is : List ℕ) → length is ≡ 0 → stem_of leaves is ≡ root
   stem-none [] e = refl
   stem-none (i ∷ is) e = absurd (omega arith)
 
-  pub stem-one : (is : List ℕ) → length is ≡ 1 → stemOf leaves is ≡ stemWith leaves root (get_or is 0 0)
-  stem-one [] e = absurd (omega arith)
-  stem-one (i ∷ []) e = same-stem (omega arith) (omega arith) refl (omega arith)
-  stem-one (i ∷ j ∷ is) e = absurd (omega arith)
+  pub stem_one : (is : List ℕ) → length is ≡ 1 → stem_of leaves is ≡ stem_with leaves root (get_or is 0 0)
+  stem_one [] e = absurd (omega arith)
+  stem_one (i ∷ []) e = same-stem (omega arith) (omega arith) refl (omega arith)
+  stem_one (i ∷ j ∷ is) e = absurd (omega arith)
 
-  pub stem-two : (is : List ℕ) → length is ≡ 2 → stemOf leaves is ≡ stemWith leaves (stemWith leaves root (get_or is 0 0)) (get_or is 1 0)
-  stem-two [] e = absurd (omega arith)
-  stem-two (i ∷ []) e = absurd (omega arith)
-  stem-two (i ∷ j ∷ []) e = same-stem (omega arith) (omega arith) refl (omega arith)
-  stem-two (i ∷ j ∷ k ∷ is) e = absurd (omega arith)
+  pub stem_two : (is : List ℕ) → length is ≡ 2 → stem_of leaves is ≡ stem_with leaves (stem_with leaves root (get_or is 0 0)) (get_or is 1 0)
+  stem_two [] e = absurd (omega arith)
+  stem_two (i ∷ []) e = absurd (omega arith)
+  stem_two (i ∷ j ∷ []) e = same-stem (omega arith) (omega arith) refl (omega arith)
+  stem_two (i ∷ j ∷ k ∷ is) e = absurd (omega arith)

@@ -1,10 +1,10 @@
 // The untried sets of a search, in order, each as one number.
 ghost use Rattle.std.specs.Prelude.{◌≡◌, [], ◌∷◌, map, ◌*◌, ◌^◌, ◌≤◌, ◌<◌, length, take};
-ghost use Rattle.flip_order.specs.Order.{magnitudeAt};
-ghost use Rattle.flip_order.specs.Contracts.{mostMagnitude};
+ghost use Rattle.flip_order.specs.Order.{magnitude_at};
+ghost use Rattle.flip_order.specs.Clauses.{most_magnitude};
 ghost use Rattle.decoder.specs.Candidate.{doubtful, extensions};
-ghost use Rattle.sets_queue.specs.Contracts.{base, setKey, digitAt, indicesOf, Place, Shifted, PoolPre, Inserted};
-ghost use Rattle.sets_queue.specs.Contracts.{indexed, WalkPre, SetPre, stemOf, stemWith, StemFits, doubt, keyWith, keysWith};
+ghost use Rattle.sets_queue.specs.Clauses.{base, set_key, digit_at, indices_of, Place, Shifted, PoolPre, Inserted};
+ghost use Rattle.sets_queue.specs.Clauses.{indexed, WalkPre, SetPre, stem_of, stem_with, StemFits, doubt, key_with, keys_with};
 
 use arrays::SIZE;
 
@@ -73,8 +73,8 @@ fn insert(key: u64, low: usize, count: usize, room: usize, keys: &mut [u64]) -> 
 // The magnitude of a leaf value.
 fn magnitude_at(leaves: &[i32], j: usize) -> u64
     requires { (j < length leaves.now)
-        × (magnitudeAt leaves.now j < 2 ^ 31) }
-    ensures { result ≡ magnitudeAt leaves.now j }
+        × (magnitude_at leaves.now j < 2 ^ 31) }
+    ensures { result ≡ magnitude_at leaves.now j }
 {
     values::magnitude(leaves[j]) as u64
 }
@@ -112,11 +112,11 @@ fn doubtful(mask: &[u8], leaves: &[i32], end: usize) -> u64
 // A stem with one index more.
 fn stem_with(leaves: &[i32], stem: Stem, i: usize) -> Stem
     requires { (i < indexed leaves.now)
-        × (magnitudeAt leaves.now i ≤ mostMagnitude)
-        × (stem.sum ≤ mostMagnitude)
+        × (magnitude_at leaves.now i ≤ most_magnitude)
+        × (stem.sum ≤ most_magnitude)
         × (stem.digits ≤ base ^ 3)
         × (stem.weight ≤ base ^ 2) }
-    ensures { result ≡ stemWith leaves.now stem i }
+    ensures { result ≡ stem_with leaves.now stem i }
 {
     Stem {
         sum: stem.sum + magnitude_at(leaves, i),
@@ -129,7 +129,7 @@ fn stem_with(leaves: &[i32], stem: Stem, i: usize) -> Stem
 // The stem of a set of at most two indices.
 fn stem_of(leaves: &[i32], set: &[usize]) -> Stem
     requires { SetPre (indexed leaves.now) leaves.now set.now }
-    ensures { result ≡ stemOf leaves.now set.now }
+    ensures { result ≡ stem_of leaves.now set.now }
 {
     let none = Stem {
         sum: 0,
@@ -150,10 +150,10 @@ fn stem_of(leaves: &[i32], set: &[usize]) -> Stem
 // The key of the set that appends j, if `small` indices up to and including j are doubtful.
 fn key_with(leaves: &[i32], stem: Stem, small: u64, j: usize) -> u64
     requires { (j < indexed leaves.now)
-        × (magnitudeAt leaves.now j ≤ mostMagnitude)
+        × (magnitude_at leaves.now j ≤ most_magnitude)
         × StemFits stem
         × (small ≤ SIZE) }
-    ensures { result ≡ keyWith leaves.now stem small j }
+    ensures { result ≡ key_with leaves.now stem small j }
 {
     let metric = stem.sum + magnitude_at(leaves, j) + 6 * small;
     metric * (BASE * BASE * BASE) + (stem.digits + (j as u64 + 1) * stem.weight)
@@ -177,7 +177,7 @@ fn append(
         × (small ≤ SIZE)
         × PoolPre low count room keys.old }
     ensures { Inserted low count room result
-        (keysWith mask.now leaves.now stem small j)
+        (keys_with mask.now leaves.now stem small j)
         keys.old keys.new }
 {
     if bits::mask_bit(mask, j) == 0 {
@@ -201,7 +201,7 @@ pub fn extend(
         × SetPre (8 * length mask.now) leaves.now set.now
         × PoolPre low count room keys.old }
     ensures { Inserted low count room result
-        (map setKey (extensions mask.now leaves.now set.now (8 * length mask.now)))
+        (map set_key (extensions mask.now leaves.now set.now (8 * length mask.now)))
         keys.old keys.new }
 {
     let stem = stem_of(leaves, set);
@@ -219,18 +219,18 @@ pub fn extend(
 // The digit of a key that has this weight.
 fn digit_at(weight: u64, key: u64) -> usize
     requires { 0 < weight }
-    ensures { result ≡ digitAt weight key }
+    ensures { result ≡ digit_at weight key }
 {
     (key / weight % BASE) as usize
 }
 
 // Writes the indices of a key, which has at least one, to the start of `set`. Returns their number.
 pub fn indices_of(key: u64, set: &mut [usize; FLIPS]) -> usize
-    requires { (0 < digitAt (base ^ 2) key)
+    requires { (0 < digit_at (base ^ 2) key)
         × (length set.old ≡ FLIPS) }
     ensures* { do
-      ⌜ (take result set.new ≡ indicesOf key)
-          × (result ≡ length (indicesOf key)) ⌝ }
+      ⌜ (take result set.new ≡ indices_of key)
+          × (result ≡ length (indices_of key)) ⌝ }
 {
     set[0] = digit_at(BASE * BASE, key) - 1;
     let second = digit_at(BASE, key);

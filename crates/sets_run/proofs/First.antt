@@ -12,32 +12,32 @@ use lib.ListN.{length}
 use Rattle.arrays.specs.Claims.{longest}
 use Rattle.arrays.proofs.Sizes.{fits}
 use Rattle.code.specs.declared.Code.{Code}
-use Rattle.code.specs.Code.{codeLength}
-use Rattle.channel.specs.Channel.{channelValues}
-use Rattle.flip_order.proofs.Pairwise.{pairwise-nil}
-use Rattle.flip_trial.specs.Trial.{firstTrial, trialPasses}
-use Rattle.flip_trial.specs.Contracts.{FirstLeaves}
+use Rattle.code.specs.Code.{code_length}
+use Rattle.channel.specs.Channel.{channel_values}
+use Rattle.flip_order.proofs.Pairwise.{pairwise_nil}
+use Rattle.flip_trial.specs.Trial.{first_trial, trial_passes}
+use Rattle.flip_trial.specs.Clauses.{FirstLeaves}
 use Rattle.flip_run.specs.Trials.{failed}
 use Rattle.flip_run.proofs.LoopInvariant.{run_none}
 use Rattle.flip_run.proofs.LoopStep.{values-inside}
 use Rattle.decoder.specs.declared.Search.{Search}
-use Rattle.decoder.specs.Candidate.{Candidate, extensions, insertEach}
+use Rattle.decoder.specs.Candidate.{Candidate, extensions, insert_each}
 use Rattle.decoder.specs.Tried.{tried}
-use Rattle.decoder.specs.Contracts.{generatedBy, triedBy}
-use Rattle.sets_tried.proofs.Members.{generated-flips}
+use Rattle.decoder.specs.Clauses.{generated_by, tried_by}
+use Rattle.sets_tried.proofs.Members.{generated_flips}
 use Rattle.sets_tried.proofs.Same.{same-extensions}
-use Rattle.sets_queue.specs.Contracts.{setKey, insertKeys, Pool, WalkPre, SetPre, Inserted}
-use Rattle.sets_queue.proofs.Keys.{keys-insert-each}
-use Rattle.sets_run.specs.Contracts.{SetsPre, FirstPool}
+use Rattle.sets_queue.specs.Clauses.{set_key, insert_keys, Pool, WalkPre, SetPre, Inserted}
+use Rattle.sets_queue.proofs.Keys.{keys_insert_each}
+use Rattle.sets_run.specs.Clauses.{SetsPre, FirstPool}
 use Rattle.sets_run.proofs.Leaves.{leaf_first, first_small}
-use Rattle.sets_run.proofs.Searching.{run_of, good-digits}
+use Rattle.sets_run.proofs.Searching.{run_of, good_digits}
 
 -- no later trial is allowed
-pub none_allowed : (s : Search) (mask : List ℕ) (c : Code) (v : List ℤ) (start : ℕ) → s.limit ≡ 1 → run_of s mask c v 1 start (triedBy s mask c v) ≡ failed 1 start
+pub none_allowed : (s : Search) (mask : List ℕ) (c : Code) (v : List ℤ) (start : ℕ) → s.limit ≡ 1 → run_of s mask c v 1 start (tried_by s mask c v) ≡ failed 1 start
 unfolding tried
 none_allowed s mask c v start e =
     let z : s.limit - 1 ≡ 0 = omega arith in
-    ap (λ (m : ℕ). run_of s mask c v 1 start (tried (generatedBy s mask c v) m (insertEach m (generatedBy s mask c v []) []))) z ∙ run_none (trialPasses mask c) 1 start
+    ap (λ (m : ℕ). run_of s mask c v 1 start (tried (generated_by s mask c v) m (insert_each m (generated_by s mask c v []) []))) z ∙ run_none (trial_passes mask c) 1 start
 
 -- an empty set
 pub set-none : (n : ℕ) (leaves : List ℤ) → SetPre n leaves []
@@ -45,31 +45,31 @@ set-none n leaves = record { few = omega arith; below = λ a l. absurd (omega ar
 
 module _ {s : Search} {mask : List ℕ} {c : Code} {channel : List ℕ} {values : List ℤ} (on : SetsPre s mask c channel) (kept : FirstLeaves longest mask c channel values) where
   abbrev v : List ℤ
-  v = channelValues channel
+  v = channel_values channel
 
   pub walk_first : WalkPre mask values
   walk_first = record {
-    there = omega (arith, on.frame.coded.mask_size, fits on.frame.coded.n-most, kept.whole);
-    fits = omega (arith, on.frame.coded.mask_size, fits on.frame.coded.n-most);
-    small = record { at = λ j l. first_small kept j (omega (arith, on.frame.coded.mask_size)) on.frame.coded (values-inside channel on.frame.in-range) };
+    there = omega (arith, on.frame.coded.mask_size, fits on.frame.coded.n_most, kept.whole);
+    fits = omega (arith, on.frame.coded.mask_size, fits on.frame.coded.n_most);
+    small = record { at = λ j l. first_small kept j (omega (arith, on.frame.coded.mask_size)) on.frame.coded (values-inside channel on.frame.in_range) };
   }
 
-  first-generated : extensions mask values [] (8 * length mask) ≡ generatedBy s mask c v []
+  first-generated : extensions mask values [] (8 * length mask) ≡ generated_by s mask c v []
   first-generated =
       ap (extensions mask values []) on.frame.coded.mask_size
-      ∙ same-extensions mask (codeLength c) values (firstTrial mask c v).leaves (λ j m e. ap nat_abs (leaf_first kept j m)) [] (inl refl) (codeLength c) (omega arith)
-      ∙ sym (ap (λ (t : Bool). cond t (extensions mask (firstTrial mask c v).leaves [] (codeLength c)) []) (lt-ltb 0 s.w on.flips-least))
+      ∙ same-extensions mask (code_length c) values (first_trial mask c v).leaves (λ j m e. ap nat_abs (leaf_first kept j m)) [] (inl refl) (code_length c) (omega arith)
+      ∙ sym (ap (λ (t : Bool). cond t (extensions mask (first_trial mask c v).leaves [] (code_length c)) []) (lt-ltb 0 s.w on.flips_least))
 
-  pub first-pool : {count : ℕ} {keys keys' : List ℕ} → Inserted 0 0 (s.limit - 1) count (map setKey (extensions mask values [] (8 * length mask))) keys keys' → FirstPool s mask c channel count keys'
-  first-pool {count} {keys} {keys'} p =
+  pub first_pool : {count : ℕ} {keys keys' : List ℕ} → Inserted 0 0 (s.limit - 1) count (map set_key (extensions mask values [] (8 * length mask))) keys keys' → FirstPool s mask c channel count keys'
+  first_pool {count} {keys} {keys'} p =
       let m : s.limit - 1 - 0 ≡ s.limit - 1 = omega arith in
-      let empty : Pool keys 0 0 [] = record { ends = refl; at = λ a l. absurd (omega arith); ordered = pairwise-nil } in
+      let empty : Pool keys 0 0 [] = record { ends = refl; at = λ a l. absurd (omega arith); ordered = pairwise_nil } in
       record {
         places = p.places;
         holds =
             subst (Pool keys' 0 count)
-            (ap₂ (λ (k : ℕ) (new : List Candidate). insertKeys k (map setKey new) []) m first-generated
-            ∙ sym (keys-insert-each (s.limit - 1) (generatedBy s mask c v []) []
-            (λ x q. good-digits on.frame.coded on.flips-most (generated-flips s mask c v [] (inl refl) q)) (λ x q. absurd (Memᴰ.not-nil q))))
+            (ap₂ (λ (k : ℕ) (new : List Candidate). insert_keys k (map set_key new) []) m first-generated
+            ∙ sym (keys_insert_each (s.limit - 1) (generated_by s mask c v []) []
+            (λ x q. good_digits on.frame.coded on.flips_most (generated_flips s mask c v [] (inl refl) q)) (λ x q. absurd (Memᴰ.not-nil q))))
             (p.holds [] empty);
       }

@@ -9,120 +9,120 @@ use borrow.Author.Tests.{lt-ltb, le-ltb}
 use lib.Dec.{ltb}
 use lib.IntN.{ℤ, pos, nat_abs}
 use lib.ListN.{length, get_or, take}
-use Rattle.laws.proofs.Indices.{lt-cases}
-use Rattle.laws.proofs.Segment.{getD-segment}
+use Rattle.laws.proofs.Indices.{lt_cases}
+use Rattle.laws.proofs.Segment.{get_or-segment}
 use Rattle.arrays.specs.Claims.{longest}
 use Rattle.arrays.proofs.Sizes.{fits}
 use Rattle.code.specs.declared.Code.{Code}
-use Rattle.code.specs.Code.{codeLength}
+use Rattle.code.specs.Code.{code_length}
 use Rattle.values.specs.Claims.{Within}
-use Rattle.channel.specs.Channel.{channelValues}
+use Rattle.channel.specs.Channel.{channel_values}
 use Rattle.pass_tree.specs.declared.Work.{Work}
 use Rattle.pass_tree.proofs.Node.{length-leaves}
 use Rattle.pass_tree.proofs.Leaves.{within-leaves}
-use Rattle.pass_ends.specs.Contracts.{Arrays}
-use Rattle.flip_trial.specs.Trial.{firstTrial, flipRule, lowest, forcedPrefix, laterTrial}
+use Rattle.pass_ends.specs.Clauses.{Arrays}
+use Rattle.flip_trial.specs.Trial.{first_trial, flip_rule, lowest, forced_prefix, later_trial}
 use Rattle.flip_trial.specs.Flips.{Flips}
-use Rattle.flip_trial.specs.Contracts.{FirstLeaves, TrialPost}
+use Rattle.flip_trial.specs.Clauses.{FirstLeaves, TrialPost}
 use Rattle.flip_trial.proofs.Agree.{length-prefix}
 use Rattle.flip_trial.proofs.Restartable.{restartable}
 use Rattle.flip_run.proofs.LoopStep.{values-inside}
 use Rattle.decoder.specs.declared.Search.{Search}
 use Rattle.decoder.specs.Candidate.{Candidate}
-use Rattle.decoder.specs.Contracts.{leavesOf, generatedBy}
+use Rattle.decoder.specs.Clauses.{leaves_of, generated_by}
 use Rattle.sets_tried.proofs.Same.{same-extensions, kept-leaf, length-first}
-use Rattle.sets_run.specs.Contracts.{resumedAt, leavesFrom, generatedFrom, HeldLeaves, LeavesPre, SetsPre}
+use Rattle.sets_run.specs.Clauses.{resumed_at, leaves_from, generated_from, HeldLeaves, LeavesPre, SetsPre}
 use Rattle.sets_run.proofs.Leaves.{loudest, leaf_first, first_small, leaf-before, leaf-after}
 
 -- all leaf values of the trial of a set
 all-leaves : (s : Search) (mask : List ℕ) (c : Code) (v : List ℤ) (is : List ℕ) → 0 < length is
-    → leavesOf s.restart mask c v is ≡ take (resumedAt s mask c is) (firstTrial mask c v).leaves ++ (laterTrial s.restart mask c v is).leaves
+    → leaves_of s.restart mask c v is ≡ take (resumed_at s mask c is) (first_trial mask c v).leaves ++ (later_trial s.restart mask c v is).leaves
 all-leaves s mask c v [] l = absurd (omega arith)
 all-leaves s mask c v (i ∷ is) l = refl
 
-module _ {s : Search} {mask : List ℕ} {c : Code} {channel is : List ℕ} {values : List ℤ} {a : Arrays} {done : Work} (on : SetsPre s mask c channel) (flips : Flips mask (codeLength c) is)
-    (kept : FirstLeaves longest mask c channel values) (post : TrialPost longest c (resumedAt s mask c is) (laterTrial s.restart mask c (channelValues channel) is) a done) where
+module _ {s : Search} {mask : List ℕ} {c : Code} {channel is : List ℕ} {values : List ℤ} {a : Arrays} {done : Work} (on : SetsPre s mask c channel) (flips : Flips mask (code_length c) is)
+    (kept : FirstLeaves longest mask c channel values) (post : TrialPost longest c (resumed_at s mask c is) (later_trial s.restart mask c (channel_values channel) is) a done) where
   abbrev v : List ℤ
-  v = channelValues channel
+  v = channel_values channel
 
   abbrev q : ℕ
-  q = resumedAt s mask c is
+  q = resumed_at s mask c is
 
   abbrev F : List ℤ
-  F = (firstTrial mask c v).leaves
+  F = (first_trial mask c v).leaves
 
   abbrev O : List ℤ
-  O = (laterTrial s.restart mask c v is).leaves
+  O = (later_trial s.restart mask c v is).leaves
 
   abbrev prefix : List ℕ
-  prefix = forcedPrefix (firstTrial mask c v).bits (lowest is) q
+  prefix = forced_prefix (first_trial mask c v).bits (lowest is) q
 
-  q-most : q ≤ codeLength c
-  q-most = (restartable flips s.restart).most
+  q_most : q ≤ code_length c
+  q_most = (restartable flips s.restart).most
 
-  size_fits : codeLength c ≤ longest
-  size_fits = fits on.frame.coded.n-most
+  size_fits : code_length c ≤ longest
+  size_fits = fits on.frame.coded.n_most
 
   room : q ≤ length values
-  room = omega (arith, q-most, kept.whole, size_fits)
+  room = omega (arith, q_most, kept.whole, size_fits)
 
-  later-length : q + length O ≡ codeLength c
+  later-length : q + length O ≡ code_length c
   later-length =
-      let long : length prefix ≡ q = length-prefix mask c v is q q-most in
-      omega (arith, length-leaves c.n prefix (flipRule mask is) v (omega (arith, q-most)))
+      let long : length prefix ≡ q = length-prefix mask c v is q q_most in
+      omega (arith, length-leaves c.n prefix (flip_rule mask is) v (omega (arith, q_most)))
 
-  later-at : (j : ℕ) → q ≤ j → j < codeLength c → get_or a.leaves j (pos 0) ≡ get_or O (j - q) (pos 0)
+  later-at : (j : ℕ) → q ≤ j → j < code_length c → get_or a.leaves j (pos 0) ≡ get_or O (j - q) (pos 0)
   later-at j l m =
       let e : j ≡ q + (j - q) = omega arith in
-      ap (λ (k : ℕ). get_or a.leaves k (pos 0)) e ∙ sym (getD-segment a.leaves q (length O) (j - q) (pos 0) (omega (arith, later-length)))
+      ap (λ (k : ℕ). get_or a.leaves k (pos 0)) e ∙ sym (get_or-segment a.leaves q (length O) (j - q) (pos 0) (omega (arith, later-length)))
       ∙ ap (λ (xs : List ℤ). get_or xs (j - q) (pos 0)) post.leaves
 
-  held_at : (j : ℕ) → j < codeLength c → get_or (leavesFrom q values a.leaves) j (pos 0) ≡ get_or (take q F ++ O) j (pos 0)
+  held_at : (j : ℕ) → j < code_length c → get_or (leaves_from q values a.leaves) j (pos 0) ≡ get_or (take q F ++ O) j (pos 0)
   held_at j l =
       let choose : Bool → ℤ = λ t. cond t (get_or F j (pos 0)) (get_or O (j - q) (pos 0)) in
-      let both = kept-leaf q F O (omega (arith, q-most, length-first mask c v)) j in
-      lt-cases j q (λ m. leaf-before q values a.leaves room j m ∙ leaf_first kept j l ∙ sym (both ∙ ap choose (lt-ltb j q m)))
+      let both = kept-leaf q F O (omega (arith, q_most, length-first mask c v)) j in
+      lt_cases j q (λ m. leaf-before q values a.leaves room j m ∙ leaf_first kept j l ∙ sym (both ∙ ap choose (lt-ltb j q m)))
       (λ m. leaf-after q values a.leaves room j m ∙ later-at j m l ∙ sym (both ∙ ap choose (le-ltb j q m)))
 
   small : Within 31 v
-  small = values-inside channel on.frame.in-range
+  small = values-inside channel on.frame.in_range
 
-  held-leaves : HeldLeaves (codeLength c) q values a.leaves
+  held-leaves : HeldLeaves (code_length c) q values a.leaves
   held-leaves = record {
-    q-most = q-most;
-    values-there = omega (arith, kept.whole, size_fits);
-    leaves-there = omega (arith, post.whole.leaves, size_fits);
+    q_most = q_most;
+    values_there = omega (arith, kept.whole, size_fits);
+    leaves_there = omega (arith, post.whole.leaves, size_fits);
     small = record {
       at = λ j l.
-          lt-cases j q (λ m. omega (arith, ap nat_abs (leaf-before q values a.leaves room j m), first_small kept j l on.frame.coded small))
-          (λ m. omega (arith, ap nat_abs (leaf-after q values a.leaves room j m ∙ later-at j m l), (within-leaves c.n 31 prefix (flipRule mask is) v small).at (j - q), loudest on.frame.coded));
+          lt_cases j q (λ m. omega (arith, ap nat_abs (leaf-before q values a.leaves room j m), first_small kept j l on.frame.coded small))
+          (λ m. omega (arith, ap nat_abs (leaf-after q values a.leaves room j m ∙ later-at j m l), (within-leaves c.n 31 prefix (flip_rule mask is) v small).at (j - q), loudest on.frame.coded));
     };
   }
 
-  held-generated : generatedFrom s (codeLength c) q mask values a.leaves is ≡ generatedBy s mask c (channelValues channel) is
+  held-generated : generated_from s (code_length c) q mask values a.leaves is ≡ generated_by s mask c (channel_values channel) is
   held-generated =
       ap (λ (xs : List Candidate). cond (ltb (length is) s.w) xs [])
-      (same-extensions mask (codeLength c) (leavesFrom q values a.leaves) (leavesOf s.restart mask c v is)
-      (λ j l e. ap nat_abs (held_at j l ∙ ap (λ (xs : List ℤ). get_or xs j (pos 0)) (sym (all-leaves s mask c v is flips.some)))) is (inr flips) (codeLength c) (omega arith))
+      (same-extensions mask (code_length c) (leaves_from q values a.leaves) (leaves_of s.restart mask c v is)
+      (λ j l e. ap nat_abs (held_at j l ∙ ap (λ (xs : List ℤ). get_or xs j (pos 0)) (sym (all-leaves s mask c v is flips.some)))) is (inr flips) (code_length c) (omega arith))
 
 -- Trial 1's leaf values are needed only if sets have more than one index: no set of the largest size generates any.
-module _ {s : Search} {mask : List ℕ} {c : Code} {channel is : List ℕ} {values : List ℤ} {a : Arrays} {done : Work} (on : SetsPre s mask c channel) (flips : Flips mask (codeLength c) is)
-    (kept : 1 < s.w → FirstLeaves longest mask c channel values) (post : TrialPost longest c (resumedAt s mask c is) (laterTrial s.restart mask c (channelValues channel) is) a done)
-    {size q' : ℕ} (size_is : size ≡ codeLength c) (q-is : q' ≡ resumedAt s mask c is) where
+module _ {s : Search} {mask : List ℕ} {c : Code} {channel is : List ℕ} {values : List ℤ} {a : Arrays} {done : Work} (on : SetsPre s mask c channel) (flips : Flips mask (code_length c) is)
+    (kept : 1 < s.w → FirstLeaves longest mask c channel values) (post : TrialPost longest c (resumed_at s mask c is) (later_trial s.restart mask c (channel_values channel) is) a done)
+    {size q' : ℕ} (size_is : size ≡ code_length c) (q_is : q' ≡ resumed_at s mask c is) where
   more : length is < s.w → FirstLeaves longest mask c channel values
   more l = kept (omega (arith, flips.some))
 
-  pub leaves-pre : LeavesPre s size q' is values a.leaves
-  leaves-pre = record {
-    flips-most = on.flips-most;
-    limit-least = on.limit-least;
+  pub leaves_pre : LeavesPre s size q' is values a.leaves
+  leaves_pre = record {
+    flips_most = on.flips_most;
+    limit_least = on.limit_least;
     held = λ l.
         subst (λ (m : ℕ). HeldLeaves m q' values a.leaves) (sym size_is)
-        (subst (λ (k : ℕ). HeldLeaves (codeLength c) k values a.leaves) (sym q-is) (held-leaves on flips (more l) post));
+        (subst (λ (k : ℕ). HeldLeaves (code_length c) k values a.leaves) (sym q_is) (held-leaves on flips (more l) post));
   }
 
-  pub generated-is : generatedFrom s size q' mask values a.leaves is ≡ generatedBy s mask c (channelValues channel) is
+  pub generated-is : generated_from s size q' mask values a.leaves is ≡ generated_by s mask c (channel_values channel) is
   generated-is =
       let none : List Candidate → Bool → List Candidate = λ xs t. cond t xs [] in
-      lt-cases (length is) s.w (λ l. ap₂ (λ (m k : ℕ). generatedFrom s m k mask values a.leaves is) size_is q-is ∙ held-generated on flips (more l) post)
+      lt_cases (length is) s.w (λ l. ap₂ (λ (m k : ℕ). generated_from s m k mask values a.leaves is) size_is q_is ∙ held-generated on flips (more l) post)
       (λ l. ap (none _) (le-ltb (length is) s.w l) ∙ sym (ap (none _) (le-ltb (length is) s.w l)))

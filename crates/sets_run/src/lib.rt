@@ -1,11 +1,11 @@
 // The run of trials of decoding by sets.
 ghost use Rattle.std.specs.Prelude.{◌≡◌, map, ◌-◌, ◌*◌, ◌≤◌, ◌<◌, length, take};
-ghost use Rattle.laws.specs.Contracts.{splice};
-ghost use Rattle.pass_ends.specs.Contracts.{arrays, Whole};
+ghost use Rattle.laws.specs.Clauses.{splice};
+ghost use Rattle.pass_ends.specs.Clauses.{arrays, Whole};
 ghost use Rattle.flip_trial.specs.Flips.{Flips};
-ghost use Rattle.flip_run.specs.Contracts.{LaterTrialsPre, FirstFailed, RunPost};
-ghost use Rattle.sets_queue.specs.Contracts.{setKey, Small, PoolPre, Inserted};
-ghost use Rattle.sets_run.specs.Contracts.{LeavesPre, generatedFrom, SetsPre, SearchPre, LeavesIfRead, FirstPool, verdictBy, answerBy};
+ghost use Rattle.flip_run.specs.Clauses.{LaterTrialsPre, FirstFailed, RunPost};
+ghost use Rattle.sets_queue.specs.Clauses.{set_key, Small, PoolPre, Inserted};
+ghost use Rattle.sets_run.specs.Clauses.{LeavesPre, generated_from, SetsPre, SearchPre, LeavesIfRead, FirstPool, verdict_by, answer_by};
 
 use arrays::{BitArray, RuleArray, SIZE, ValueArray};
 use code::Code;
@@ -57,7 +57,7 @@ fn generate(
         × LeavesPre search (8 * length mask.now) q flips.now values.now leaves.old
         × PoolPre low count (search.limit - 1) keys.old }
     ensures { Inserted low count (search.limit - 1) result
-        (map setKey (generatedFrom search (8 * length mask.now) q mask.now
+        (map set_key (generated_from search (8 * length mask.now) q mask.now
         values.now leaves.old flips.now))
         keys.old keys.new }
 {
@@ -90,7 +90,7 @@ fn set_trials(
         × LeavesIfRead SIZE search mask.now code channel.now values.now
         × FirstPool search mask.now code channel.now started.sets keys.old
         × Whole SIZE (arrays work.old first.now sums.old leaves.old) }
-    ensures { RunPost SIZE mask.now code (verdictBy search mask.now code channel.now) result
+    ensures { RunPost SIZE mask.now code (verdict_by search mask.now code channel.now) result
         sums.new }
 {
     let restart = search.restart;
@@ -142,7 +142,7 @@ fn single_trials(
     requires { SetsPre search mask.now code channel.now
         × FirstFailed SIZE mask.now code channel.now start rules.old (arrays work.old first.now sums.old values.old)
         × (search.w ≡ 1) }
-    ensures { RunPost SIZE mask.now code (verdictBy search mask.now code channel.now) result
+    ensures { RunPost SIZE mask.now code (verdict_by search mask.now code channel.now) result
         sums.new }
 {
     let mut keys = [0u64; SIZE];
@@ -172,7 +172,7 @@ fn larger_trials(
     requires { SetsPre search mask.now code channel.now
         × FirstFailed SIZE mask.now code channel.now start rules.old (arrays work.old first.now sums.old values.now)
         × (1 < search.w) }
-    ensures { RunPost SIZE mask.now code (verdictBy search mask.now code channel.now) result
+    ensures { RunPost SIZE mask.now code (verdict_by search mask.now code channel.now) result
         sums.new }
 {
     let mut leaves = [0i32; SIZE];
@@ -212,7 +212,7 @@ fn run_trials(
     requires { SetsPre search mask.now code channel.now
         × (length rules.old ≡ SIZE)
         × Whole SIZE (arrays work.old first.old sums.old values.old) }
-    ensures { RunPost SIZE mask.now code (verdictBy search mask.now code channel.now) result
+    ensures { RunPost SIZE mask.now code (verdict_by search mask.now code channel.now) result
         sums.new }
 {
     match flip_run::begin(mask, code, channel, first, values, rules, work, sums) {
@@ -242,7 +242,7 @@ pub fn decode_in(
     output: &mut [u8],
 ) -> Decoded
     requires { SearchPre search mask.now code channel.now output.old }
-    ensures { (result, output.new) ≡ answerBy search mask.now code channel.now output.old }
+    ensures { (result, output.new) ≡ answer_by search mask.now code channel.now output.old }
 {
     let mut first = [0u8; SIZE];
     let mut values = [0i32; SIZE];

@@ -10,60 +10,60 @@ use lib.Dec.{ltb, leb, eqb}
 use lib.IntN.{ℤ, pos, nat_abs}
 use lib.ListN.{length, get_or, take, get_or-append}
 use lib.Seq.{length-take-le, get_or-take, get_or-append-add}
-use Rattle.laws.proofs.Indices.{lt-cases}
-use Rattle.bits.specs.Mask.{maskBit}
-use Rattle.bits.proofs.Mask.{mask-cases}
+use Rattle.laws.proofs.Indices.{lt_cases}
+use Rattle.bits.specs.Mask.{mask_bit}
+use Rattle.bits.proofs.Mask.{mask_cases}
 use Rattle.code.specs.declared.Code.{Code}
-use Rattle.code.specs.Code.{codeLength}
-use Rattle.values.specs.Values.{maskRule}
+use Rattle.code.specs.Code.{code_length}
+use Rattle.values.specs.Values.{mask_rule}
 use Rattle.pass_tree.proofs.Node.{length-leaves}
-use Rattle.flip_order.specs.Order.{magnitudeAt}
+use Rattle.flip_order.specs.Order.{magnitude_at}
 use Rattle.flip_trial.specs.declared.Restart.{Restart}
 use Rattle.flip_trial.specs.declared.Restart.TheVariants.{Root}
-use Rattle.flip_trial.specs.Trial.{firstTrial, restartAt, laterTrial}
-use Rattle.flip_trial.specs.Claims.{trialFrom}
+use Rattle.flip_trial.specs.Trial.{first_trial, restart_at, later_trial}
+use Rattle.flip_trial.specs.Claims.{trial_from}
 use Rattle.flip_trial.specs.Flips.{Flips}
 use Rattle.flip_trial.proofs.Restartable.{restartable}
 use Rattle.flip_trial.proofs.Agree.{same-leaf}
 use Rattle.decoder.specs.declared.Search.{Search}
-use Rattle.decoder.specs.Candidate.{pastLargest, magnitudes, doubtful, metricOf, Candidate, candidate, extensions, insertEach}
-use Rattle.decoder.specs.Tried.{tried, flipSets}
-use Rattle.decoder.specs.Contracts.{searchOf, leavesOf, generatedBy, triedBy}
+use Rattle.decoder.specs.Candidate.{past_largest, magnitudes, doubtful, metric_of, Candidate, candidate, extensions, insert_each}
+use Rattle.decoder.specs.Tried.{tried, flip_sets}
+use Rattle.decoder.specs.Clauses.{search_of, leaves_of, generated_by, tried_by}
 use Rattle.sets_tried.specs.Claims.{FlipSet}
-use Rattle.sets_tried.proofs.Members.{insert-each-keeps, tests-ind, past-most, flips-more, generated-flips, first-flips}
+use Rattle.sets_tried.proofs.Members.{insert_each_keeps, tests_ind, past-most, flips_more, generated_flips, first_flips}
 
 -- ---- metrics of two lists of leaf values that agree at information indices
 
-module _ (mask : List ℕ) (size : ℕ) (leaves leaves' : List ℤ) (agree : (j : ℕ) → j < size → maskBit mask j ≡ 1 → magnitudeAt leaves j ≡ magnitudeAt leaves' j) where
-  same-magnitudes : (is : List ℕ) → ((a : ℕ) → a < length is → magnitudeAt leaves (get_or is a 0) ≡ magnitudeAt leaves' (get_or is a 0)) → magnitudes leaves is ≡ magnitudes leaves' is
+module _ (mask : List ℕ) (size : ℕ) (leaves leaves' : List ℤ) (agree : (j : ℕ) → j < size → mask_bit mask j ≡ 1 → magnitude_at leaves j ≡ magnitude_at leaves' j) where
+  same-magnitudes : (is : List ℕ) → ((a : ℕ) → a < length is → magnitude_at leaves (get_or is a 0) ≡ magnitude_at leaves' (get_or is a 0)) → magnitudes leaves is ≡ magnitudes leaves' is
   same-magnitudes [] f = refl
   same-magnitudes (i ∷ is) f = ap₂ (λ (m n : ℕ). m + n) (f 0 (omega arith)) (same-magnitudes is (λ a l. f (suc a) (omega arith)))
 
   same-doubtful : (n : ℕ) → n ≤ size → doubtful mask leaves n ≡ doubtful mask leaves' n
   unfolding doubtful
   same-doubtful zero l = refl
-  same-doubtful (suc n) l = ap₂ (λ (m k : ℕ). m + k) (same-doubtful n (omega arith)) (⊎_elim frozen information (mask-cases mask n))
+  same-doubtful (suc n) l = ap₂ (λ (m k : ℕ). m + k) (same-doubtful n (omega arith)) (⊎_elim frozen information (mask_cases mask n))
     where
       counts : ℕ → ℕ → ℕ
       counts b m = cond (eqb b 1 && leb m 20) 1 0
 
-      frozen : maskBit mask n ≡ 0 → counts (maskBit mask n) (magnitudeAt leaves n) ≡ counts (maskBit mask n) (magnitudeAt leaves' n)
-      frozen e = ap (λ (b : ℕ). counts b (magnitudeAt leaves n)) e ∙ ap (λ (b : ℕ). counts b (magnitudeAt leaves' n)) (sym e)
+      frozen : mask_bit mask n ≡ 0 → counts (mask_bit mask n) (magnitude_at leaves n) ≡ counts (mask_bit mask n) (magnitude_at leaves' n)
+      frozen e = ap (λ (b : ℕ). counts b (magnitude_at leaves n)) e ∙ ap (λ (b : ℕ). counts b (magnitude_at leaves' n)) (sym e)
 
-      information : maskBit mask n ≡ 1 → counts (maskBit mask n) (magnitudeAt leaves n) ≡ counts (maskBit mask n) (magnitudeAt leaves' n)
-      information e = ap (counts (maskBit mask n)) (agree n l e)
+      information : mask_bit mask n ≡ 1 → counts (mask_bit mask n) (magnitude_at leaves n) ≡ counts (mask_bit mask n) (magnitude_at leaves' n)
+      information e = ap (counts (mask_bit mask n)) (agree n l e)
 
-  same-metric : {is : List ℕ} → Flips mask size is → metricOf mask leaves is ≡ metricOf mask leaves' is
+  same-metric : {is : List ℕ} → Flips mask size is → metric_of mask leaves is ≡ metric_of mask leaves' is
   same-metric {is} p =
-      ap₂ (λ (m k : ℕ). m + 6 * k) (same-magnitudes is (λ a l. agree (get_or is a 0) (p.below a l) (p.information a l))) (same-doubtful (pastLargest is) (past-most p))
+      ap₂ (λ (m k : ℕ). m + 6 * k) (same-magnitudes is (λ a l. agree (get_or is a 0) (p.below a l) (p.information a l))) (same-doubtful (past_largest is) (past-most p))
 
   pub same-extensions : (is : List ℕ) → (is ≡ []) ⊎ Flips mask size is → (n : ℕ) → n ≤ size → extensions mask leaves is n ≡ extensions mask leaves' is n
   unfolding extensions
   same-extensions is p zero l = refl
   same-extensions is p (suc n) l =
       ap₂ (λ (xs ys : List Candidate). xs ++ ys) (same-extensions is p n (omega arith))
-      (tests-ind (λ t. cond t (candidate mask leaves (is ++ (n ∷ [])) ∷ []) [] ≡ cond t (candidate mask leaves' (is ++ (n ∷ [])) ∷ []) []) (maskBit mask n) 1 (pastLargest is) n
-      (λ e past. ap (λ (m : ℕ). record { flips = is ++ (n ∷ []); metric = m } ∷ []) (same-metric (flips-more is n p past l e))) refl)
+      (tests_ind (λ t. cond t (candidate mask leaves (is ++ (n ∷ [])) ∷ []) [] ≡ cond t (candidate mask leaves' (is ++ (n ∷ [])) ∷ []) []) (mask_bit mask n) 1 (past_largest is) n
+      (λ e past. ap (λ (m : ℕ). record { flips = is ++ (n ∷ []); metric = m } ∷ []) (same-metric (flips_more is n p past l e))) refl)
 
 -- ---- what a trial generates, by any restart
 
@@ -71,35 +71,35 @@ module _ (mask : List ℕ) (size : ℕ) (leaves leaves' : List ℤ) (agree : (j 
 pub kept-leaf : (q : ℕ) (xs ys : List ℤ) → q ≤ length xs → (j : ℕ) → get_or (take q xs ++ ys) j (pos 0) ≡ cond (ltb j q) (get_or xs j (pos 0)) (get_or ys (j - q) (pos 0))
 kept-leaf q xs ys l j =
     let long = length-take-le q xs l in
-    lt-cases j q
+    lt_cases j q
     (λ m. rw lt-ltb (get_or-append (take q xs) ys (pos 0) j (omega arith) ∙ get_or-take q xs j (pos 0) m))
     (λ m.
     let e : j ≡ length (take q xs) + (j - q) = omega arith in
     rw le-ltb (ap (λ (k : ℕ). get_or (take q xs ++ ys) k (pos 0)) e ∙ get_or-append-add (take q xs) ys (j - q) (pos 0)))
 
 module _ (mask : List ℕ) (c : Code) (v : List ℤ) where
-  pub length-first : length (firstTrial mask c v).leaves ≡ codeLength c
-  length-first = omega (arith, length-leaves c.n [] (maskRule mask) v (omega arith))
+  pub length-first : length (first_trial mask c v).leaves ≡ code_length c
+  length-first = omega (arith, length-leaves c.n [] (mask_rule mask) v (omega arith))
 
   -- at an information index the leaf value is that of the trial from the root
-  pub leaf-of : (restart : Restart) (i : ℕ) (is : List ℕ) → Flips mask (codeLength c) (i ∷ is) → (j : ℕ) → j < codeLength c → maskBit mask j ≡ 1 → get_or (leavesOf restart mask c v (i ∷ is)) j (pos 0) ≡ get_or (trialFrom 0 mask c v (i ∷ is)).leaves j (pos 0)
+  pub leaf-of : (restart : Restart) (i : ℕ) (is : List ℕ) → Flips mask (code_length c) (i ∷ is) → (j : ℕ) → j < code_length c → mask_bit mask j ≡ 1 → get_or (leaves_of restart mask c v (i ∷ is)) j (pos 0) ≡ get_or (trial_from 0 mask c v (i ∷ is)).leaves j (pos 0)
   leaf-of restart i is p j l e =
-      let q : ℕ = restartAt restart mask (codeLength c) i in
+      let q : ℕ = restart_at restart mask (code_length c) i in
       let on = restartable p restart in
-      kept-leaf q (firstTrial mask c v).leaves (laterTrial restart mask c v (i ∷ is)).leaves (omega (arith, on.most, length-first)) j
+      kept-leaf q (first_trial mask c v).leaves (later_trial restart mask c v (i ∷ is)).leaves (omega (arith, on.most, length-first)) j
       ∙ same-leaf mask c v (i ∷ is) p q on j l e
 
   module _ (a b : Restart) where
-    same-leaves : (is : List ℕ) → (is ≡ []) ⊎ Flips mask (codeLength c) is → (j : ℕ) → j < codeLength c → maskBit mask j ≡ 1 → magnitudeAt (leavesOf a mask c v is) j ≡ magnitudeAt (leavesOf b mask c v is) j
+    same-leaves : (is : List ℕ) → (is ≡ []) ⊎ Flips mask (code_length c) is → (j : ℕ) → j < code_length c → mask_bit mask j ≡ 1 → magnitude_at (leaves_of a mask c v is) j ≡ magnitude_at (leaves_of b mask c v is) j
     same-leaves [] p j l e = refl
     same-leaves (i ∷ is) (inl z) j l e = absurd (omega (arith, ap length z))
     same-leaves (i ∷ is) (inr p) j l e = ap nat_abs (leaf-of a i is p j l e ∙ sym (leaf-of b i is p j l e))
 
-    pub same-generated : (w limit : ℕ) (is : List ℕ) → (is ≡ []) ⊎ FlipSet mask (codeLength c) w is → generatedBy (searchOf a w limit) mask c v is ≡ generatedBy (searchOf b w limit) mask c v is
+    pub same-generated : (w limit : ℕ) (is : List ℕ) → (is ≡ []) ⊎ FlipSet mask (code_length c) w is → generated_by (search_of a w limit) mask c v is ≡ generated_by (search_of b w limit) mask c v is
     same-generated w limit is p =
-        let q : (is ≡ []) ⊎ Flips mask (codeLength c) is = ⊎_elim (λ e. inl e) (λ f. inr f.flips) p in
+        let q : (is ≡ []) ⊎ Flips mask (code_length c) is = ⊎_elim (λ e. inl e) (λ f. inr f.flips) p in
         ap (λ (xs : List Candidate). cond (ltb (length is) w) xs [])
-        (same-extensions mask (codeLength c) (leavesOf a mask c v is) (leavesOf b mask c v is) (same-leaves is q) is q (codeLength c) (omega arith))
+        (same-extensions mask (code_length c) (leaves_of a mask c v is) (leaves_of b mask c v is) (same-leaves is q) is q (code_length c) (omega arith))
 
 -- ---- the sets that are tried
 
@@ -112,32 +112,32 @@ module _ (P : List ℕ → Type 0) (f g : List ℕ → List Candidate) (same : (
   same-tried (suc m) (x ∷ untried) each =
       let this : P x.flips = each x (Memᴰ.head refl) in
       ap (λ (sets : List (List ℕ)). x.flips ∷ sets)
-      (same-tried m (insertEach m (f x.flips) untried)
-      (insert-each-keeps (λ y. P y.flips) m (f x.flips) untried (more x.flips this) (λ y q. each y (Memᴰ.tail q)))
-      ∙ ap (λ (ys : List Candidate). tried g m (insertEach m ys untried)) (same x.flips this))
+      (same-tried m (insert_each m (f x.flips) untried)
+      (insert_each_keeps (λ y. P y.flips) m (f x.flips) untried (more x.flips this) (λ y q. each y (Memᴰ.tail q)))
+      ∙ ap (λ (ys : List Candidate). tried g m (insert_each m ys untried)) (same x.flips this))
 
-pub same-sets : (a b : Restart) (w limit : ℕ) (mask : List ℕ) (c : Code) (v : List ℤ) → triedBy (searchOf a w limit) mask c v ≡ triedBy (searchOf b w limit) mask c v
+pub same-sets : (a b : Restart) (w limit : ℕ) (mask : List ℕ) (c : Code) (v : List ℤ) → tried_by (search_of a w limit) mask c v ≡ tried_by (search_of b w limit) mask c v
 same-sets a b w limit mask c v =
     let m : ℕ = limit - 1 in
-    let s = searchOf a w limit in
-    same-tried (FlipSet mask (codeLength c) w) (generatedBy s mask c v) (generatedBy (searchOf b w limit) mask c v) (λ is p. same-generated mask c v a b w limit is (inr p))
-    (λ is p x. generated-flips s mask c v is (inr p)) m (insertEach m (generatedBy s mask c v []) []) (first-flips s mask c v m)
-    ∙ ap (λ (ys : List Candidate). tried (generatedBy (searchOf b w limit) mask c v) m (insertEach m ys [])) (same-generated mask c v a b w limit [] (inl refl))
+    let s = search_of a w limit in
+    same-tried (FlipSet mask (code_length c) w) (generated_by s mask c v) (generated_by (search_of b w limit) mask c v) (λ is p. same-generated mask c v a b w limit is (inr p))
+    (λ is p x. generated_flips s mask c v is (inr p)) m (insert_each m (generated_by s mask c v []) []) (first_flips s mask c v m)
+    ∙ ap (λ (ys : List Candidate). tried (generated_by (search_of b w limit) mask c v) m (insert_each m ys [])) (same-generated mask c v a b w limit [] (inl refl))
 
 -- ---- the sets of whole trials
 
 -- a trial from the root has leaf values of its own only
-whole-leaves : (mask : List ℕ) (c : Code) (v : List ℤ) (is : List ℕ) → leavesOf Root mask c v is ≡ (laterTrial Root mask c v is).leaves
+whole-leaves : (mask : List ℕ) (c : Code) (v : List ℤ) (is : List ℕ) → leaves_of Root mask c v is ≡ (later_trial Root mask c v is).leaves
 whole-leaves mask c v [] = refl
 whole-leaves mask c v (i ∷ is) = refl
 
 -- a search of any restart tries the sets of the definition
-pub tried-by : (s : Search) (mask : List ℕ) (c : Code) (v : List ℤ) → triedBy s mask c v ≡ flipSets s.w s.limit mask c v
+pub tried-by : (s : Search) (mask : List ℕ) (c : Code) (v : List ℤ) → tried_by s mask c v ≡ flip_sets s.w s.limit mask c v
 tried-by s mask c v =
     let m : ℕ = s.limit - 1 in
     same-sets s.restart Root s.w s.limit mask c v
     ∙ ap
     (λ (leaves : List ℕ → List ℤ).
-    let generate : List ℕ → List Candidate = λ is. cond (ltb (length is) s.w) (extensions mask (leaves is) is (codeLength c)) [] in
-    tried generate m (insertEach m (generate []) []))
+    let generate : List ℕ → List Candidate = λ is. cond (ltb (length is) s.w) (extensions mask (leaves is) is (code_length c)) [] in
+    tried generate m (insert_each m (generate []) []))
     (fun_ext (whole-leaves mask c v))

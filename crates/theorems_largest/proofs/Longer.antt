@@ -7,22 +7,22 @@ use mathlib.Core.List.{List, ◌∷◌, ◌++◌}
 use Prim.Native.Nat.{ℕ, ◌≤◌}
 use native.Mathlib.Omega.{arith}
 use lib.ListN.{get_or, take, drop}
-use Rattle.laws.proofs.Indices.{lt-cases}
+use Rattle.laws.proofs.Indices.{lt_cases}
 use Rattle.refusal.specs.declared.Refusal.{Refusal}
 use Rattle.refusal.specs.declared.Refusal.TheVariants.{Alone}
 use Rattle.refusal.specs.declared.Judgement.{Judgement}
 use Rattle.refusal.specs.declared.Judgement.TheVariants.{Fine, Refused}
-use Rattle.refusal.specs.Judge.{outside, judge, refusedOr, number_of}
-use Rattle.refusal.proofs.Judge.{judge-yes, judge-no, refused-by, append-fine, append-refused, Judged, judged-reached}
-use Rattle.refusal.proofs.Tests.{outside-past, outside-no}
-use Rattle.arrays.specs.Sizes.{largestN}
+use Rattle.refusal.specs.Judge.{outside, judge, refused_or, number_of}
+use Rattle.refusal.proofs.Judge.{judge_yes, judge_no, refused_by, append-fine, append_refused, Judged, judged_reached}
+use Rattle.refusal.proofs.Tests.{outside-past, outside_no}
+use Rattle.arrays.specs.Sizes.{largest_n}
 use Rattle.code.specs.declared.Code.{Code}
 use Rattle.code.specs.declared.Description.{Description}
 use Rattle.code.specs.declared.Description.TheVariants.{Accepted, Refused as NoCode}
-use Rattle.code.specs.Description.{refusalsUpTo, code_of, describeUpTo, onDescription}
+use Rattle.code.specs.Description.{refusals_up_to, code_of, describe_up_to, on_description}
 use Rattle.encoder.specs.Encode.{encoded}
 use Rattle.pass_resume.specs.Resume.{resumed}
-use Rattle.decoder.specs.Decoder.{decodedAs}
+use Rattle.decoder.specs.Decoder.{decoded_as}
 use Rattle.theorems_largest.specs.Longer.{OldAnswers}
 use Rattle.theorems_largest.specs.Claims.{NewAnswer, AnswersAs}
 
@@ -34,100 +34,100 @@ module _ (d : List ℕ) where
 
   -- the tests before that of n, and those after it
   abbrev before : List (Bool × Refusal)
-  before = take 3 (refusalsUpTo largestN d)
+  before = take 3 (refusals_up_to largest_n d)
 
   abbrev after : List (Bool × Refusal)
-  after = drop 4 (refusalsUpTo largestN d)
+  after = drop 4 (refusals_up_to largest_n d)
 
   -- the answer if the test of n has the outcome t
   abbrev answer : Bool → Description
-  answer t = refusedOr (judge (before ++ ((t, Alone 4) ∷ after))) NoCode (Accepted (code_of d))
+  answer t = refused_or (judge (before ++ ((t, Alone 4) ∷ after))) NoCode (Accepted (code_of d))
 
-  answered : (largest : ℕ) → describeUpTo largest d ≡ answer (outside n 3 largest)
-  unfolding describeUpTo
+  answered : (largest : ℕ) → describe_up_to largest d ≡ answer (outside n 3 largest)
+  unfolding describe_up_to
   answered largest = refl
 
   -- if a test before it holds, that of n does not count
   answer-before : (x : Refusal) → judge before ≡ Refused x → (t : Bool) → answer t ≡ NoCode x
-  answer-before x e t = refused-by NoCode (Accepted (code_of d)) _ x (append-refused before ((t, Alone 4) ∷ after) x e)
+  answer-before x e t = refused_by NoCode (Accepted (code_of d)) _ x (append_refused before ((t, Alone 4) ∷ after) x e)
 
   -- if it counts and holds, the answer is 4
-  answer-4 : judge before ≡ Fine → answer true ≡ NoCode (Alone 4)
-  answer-4 e =
-      refused-by NoCode (Accepted (code_of d)) _ (Alone 4)
-      (append-fine before ((true, Alone 4) ∷ after) e ∙ judge-yes true (Alone 4) after refl)
+  answer_4 : judge before ≡ Fine → answer true ≡ NoCode (Alone 4)
+  answer_4 e =
+      refused_by NoCode (Accepted (code_of d)) _ (Alone 4)
+      (append-fine before ((true, Alone 4) ∷ after) e ∙ judge_yes true (Alone 4) after refl)
 
   -- no other test is of refusal 4
   abbrev Not4 : Refusal → Type 0
   Not4 x = number_of x ≡ 4 → ⊥
 
-  after-not-4 : Judged Not4 (judge after)
-  after-not-4 =
-      judged-reached Not4 after
+  after_not_4 : Judged Not4 (judge after)
+  after_not_4 =
+      judged_reached Not4 after
       (λ _ e. omega arith, λ _. (λ _ e. omega arith, λ _. (λ _ e. omega arith, λ _. (λ _ e. omega arith, λ _. (λ _ e. omega arith, λ _. tt)))))
 
   -- so if it does not hold, the answer is not 4
-  answer-not-4 : judge before ≡ Fine → answer false ≡ NoCode (Alone 4) → ⊥
-  unfolding refusedOr
-  answer-not-4 e = go (judge (before ++ ((false, Alone 4) ∷ after))) (append-fine before ((false, Alone 4) ∷ after) e ∙ judge-no false (Alone 4) after refl)
+  answer_not_4 : judge before ≡ Fine → answer false ≡ NoCode (Alone 4) → ⊥
+  unfolding refused_or
+  answer_not_4 e = go (judge (before ++ ((false, Alone 4) ∷ after))) (append-fine before ((false, Alone 4) ∷ after) e ∙ judge_no false (Alone 4) after refl)
     where
       number : Description → ℕ
       number (Accepted c) = 0
       number (NoCode x) = number_of x
 
-      go : (j : Judgement) → j ≡ judge after → refusedOr j NoCode (Accepted (code_of d)) ≡ NoCode (Alone 4) → ⊥
+      go : (j : Judgement) → j ≡ judge after → refused_or j NoCode (Accepted (code_of d)) ≡ NoCode (Alone 4) → ⊥
       go Fine h f = let z : ◌≡◌ {A = ℕ} 0 4 = ap number f in omega arith
-      go (Refused x) h f = subst (Judged Not4) (sym h) after-not-4 (ap number f)
+      go (Refused x) h f = subst (Judged Not4) (sym h) after_not_4 (ap number f)
 
 -- ---- two largest n
 
 module _ (small large : ℕ) (d : List ℕ) where
   -- the test of n has one outcome
-  alike : outside (n d) 3 small ≡ outside (n d) 3 large → describeUpTo small d ≡ describeUpTo large d
+  alike : outside (n d) 3 small ≡ outside (n d) 3 large → describe_up_to small d ≡ describe_up_to large d
   alike e = answered d small ∙ ap (answer d) e ∙ sym (answered d large)
 
   -- it holds with `small` alone: that changes the answer if no test before it holds
-  apart : outside (n d) 3 small ≡ true → outside (n d) 3 large ≡ false → (j : Judgement) → judge (before d) ≡ j → (describeUpTo small d ≡ describeUpTo large d) ⊎ NewAnswer small large d
+  apart : outside (n d) 3 small ≡ true → outside (n d) 3 large ≡ false → (j : Judgement) → judge (before d) ≡ j → (describe_up_to small d ≡ describe_up_to large d) ⊎ NewAnswer small large d
   apart s l Fine e =
       let within = outside-past (n d) 3 large l in
       inr
       (record {
-        refused = answered d small ∙ ap (answer d) s ∙ answer-4 d e;
-        above = lt-cases small (n d) (λ more. more) (λ most. absurd (true≢false (sym s ∙ outside-no (n d) 3 small within.0 most)));
+        refused = answered d small ∙ ap (answer d) s ∙ answer_4 d e;
+        above = lt_cases small (n d) (λ more. more) (λ most. absurd (true≢false (sym s ∙ outside_no (n d) 3 small within.0 most)));
         most = within.1;
-        other = λ f. answer-not-4 d e (sym (answered d large ∙ ap (answer d) l) ∙ f);
+        other = λ f. answer_not_4 d e (sym (answered d large ∙ ap (answer d) l) ∙ f);
       })
   apart s l (Refused x) e = inl (answered d small ∙ answer-before d x e _ ∙ sym (answered d large ∙ answer-before d x e _))
 
-  pub answers : small ≤ large → (describeUpTo small d ≡ describeUpTo large d) ⊎ NewAnswer small large d
+  pub answers : small ≤ large → (describe_up_to small d ≡ describe_up_to large d) ⊎ NewAnswer small large d
   answers more = go (outside (n d) 3 small) refl (outside (n d) 3 large) refl
     where
-      go : (t : Bool) → outside (n d) 3 small ≡ t → (t' : Bool) → outside (n d) 3 large ≡ t' → (describeUpTo small d ≡ describeUpTo large d) ⊎ NewAnswer small large d
+      go : (t : Bool) → outside (n d) 3 small ≡ t → (t' : Bool) → outside (n d) 3 large ≡ t' → (describe_up_to small d ≡ describe_up_to large d) ⊎ NewAnswer small large d
       go true s true l = inl (alike (s ∙ sym l))
       go true s false l = apart s l (judge (before d)) refl
       go false s t' l =
           let within = outside-past (n d) 3 small s in
-          inl (alike (s ∙ sym (outside-no (n d) 3 large within.0 (omega arith))))
+          inl (alike (s ∙ sym (outside_no (n d) 3 large within.0 (omega arith))))
 
 -- bytes that are not refused as 4 with the smaller
-same-description : (small large : ℕ) (d : List ℕ) → small ≤ large → (describeUpTo small d ≡ NoCode (Alone 4) → ⊥) → describeUpTo small d ≡ describeUpTo large d
+same-description : (small large : ℕ) (d : List ℕ) → small ≤ large → (describe_up_to small d ≡ NoCode (Alone 4) → ⊥) → describe_up_to small d ≡ describe_up_to large d
 same-description small large d more other = ⊎_elim (λ same. same) (λ new. absurd (other new.refused)) (answers small large d more)
 
-pub old-answers : OldAnswers
-old-answers X refuse go small large d more other = ap (λ (x : Description). onDescription x refuse go) (same-description small large d more other)
+pub old_answers : OldAnswers
+old_answers X refuse go small large d more other = ap (λ (x : Description). on_description x refuse go) (same-description small large d more other)
 
 -- the operations at their own largest n, under an accepted description
-pub as-accepted : (largest : ℕ) (d : List ℕ) (c : Code) → largest ≤ largestN → describeUpTo largest d ≡ Accepted c → AnswersAs largest d
-unfolding encoded resumed decodedAs
-as-accepted largest d c more e =
-    let other : describeUpTo largest d ≡ NoCode (Alone 4) → ⊥ = λ f. let z : ◌≡◌ {A = ℕ} 0 1 = cc in omega arith in
+pub as_accepted : (largest : ℕ) (d : List ℕ) (c : Code) → largest ≤ largest_n → describe_up_to largest d ≡ Accepted c → AnswersAs largest d
+unfolding encoded resumed decoded_as
+as_accepted largest d c more e =
+    let other : describe_up_to largest d ≡ NoCode (Alone 4) → ⊥ = λ f. let z : ◌≡◌ {A = ℕ} 0 1 = cc in omega arith in
     record {
-      description = sym (same-description largest largestN d more other);
-      encode = λ payload output. sym (old-answers _ _ _ largest largestN d more other);
-      resume = λ channel prefix output. sym (old-answers _ _ _ largest largestN d more other);
-      decode = λ p restart channel output. sym (old-answers _ _ _ largest largestN d more other);
+      description = sym (same-description largest largest_n d more other);
+      encode = λ payload output. sym (old_answers _ _ _ largest largest_n d more other);
+      resume = λ channel prefix output. sym (old_answers _ _ _ largest largest_n d more other);
+      decode = λ p restart channel output. sym (old_answers _ _ _ largest largest_n d more other);
     }
 
 -- document 01 has n up to 10
-pub as-10 : (d : List ℕ) (c : Code) → describeUpTo 10 d ≡ Accepted c → AnswersAs 10 d
-as-10 d c e = as-accepted 10 d c (omega arith) e
+pub as_10 : (d : List ℕ) (c : Code) → describe_up_to 10 d ≡ Accepted c → AnswersAs 10 d
+as_10 d c e = as_accepted 10 d c (omega arith) e

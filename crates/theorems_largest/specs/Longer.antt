@@ -5,7 +5,7 @@ use Rattle.refusal.specs.declared.Refusal.{Refusal}
 use Rattle.refusal.specs.declared.Refusal.TheVariants.{Alone}
 use Rattle.code.specs.declared.Code.{Code}
 use Rattle.code.specs.declared.Description.TheVariants.{Refused}
-use Rattle.code.specs.Description.{describeUpTo, onDescription}
+use Rattle.code.specs.Description.{describe_up_to, on_description}
 
 -- An operation is what it does with a refusal and with a code: encode, resume and every decoder at every restart are each `onDescription (describe d) ..`,
 -- and `describe` is `describeUpTo largestN`. (A hearing has the largest n in the sizes of its parts besides.) With n up to `small` and with n up to `large`
@@ -13,5 +13,5 @@ use Rattle.code.specs.Description.{describeUpTo, onDescription}
 abbrev pub OldAnswers : Type 1
 OldAnswers =
     (X : Type 0) (refuse : Refusal → X) (go : Code → X) (small large : ℕ) (d : List ℕ)
-    → small ≤ large → (describeUpTo small d ≡ Refused (Alone 4) → ⊥)
-    → onDescription (describeUpTo small d) refuse go ≡ onDescription (describeUpTo large d) refuse go
+    → small ≤ large → (describe_up_to small d ≡ Refused (Alone 4) → ⊥)
+    → on_description (describe_up_to small d) refuse go ≡ on_description (describe_up_to large d) refuse go

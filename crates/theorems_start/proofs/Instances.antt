@@ -6,36 +6,36 @@ use mathlib.Core.List.{List, [], ◌∷◌}
 use Prim.Native.Nat.{ℕ, zero, suc, ◌<◌, ◌≤◌}
 use native.Mathlib.Omega.{arith}
 use lib.ListN.{get_or}
-use Rattle.laws.specs.First.{firstWhere}
+use Rattle.laws.specs.First.{first_where}
 use Rattle.laws.specs.Table.{table}
-use Rattle.laws.specs.Insert.{insertBy, sortBy}
+use Rattle.laws.specs.Insert.{insert_by, sort_by}
 use Rattle.refusal.specs.declared.Judgement.TheVariants.{Fine}
-use Rattle.refusal.specs.Judge.{judge, refusedOr}
+use Rattle.refusal.specs.Judge.{judge, refused_or}
 use Rattle.bits.specs.Bit.{number}
 use Rattle.bits.specs.Claims.{Bits}
-use Rattle.bits.specs.Mask.{onesBelow}
+use Rattle.bits.specs.Mask.{ones_below}
 use Rattle.bits.specs.Packing.{packed}
 use Rattle.code.specs.declared.Code.{Code}
 use Rattle.code.specs.declared.Description.TheVariants as Description
-use Rattle.code.specs.Description.{mask_of, describeUpTo, describe}
-use Rattle.crc.specs.Check.{checkOf}
+use Rattle.code.specs.Description.{mask_of, describe_up_to, describe}
+use Rattle.crc.specs.Check.{check_of}
 use Rattle.transform.specs.Transform.{covers, parity, transformed, xors}
 use Rattle.placing.specs.Place.{taken}
-use Rattle.values.specs.Values.{f, g, leftValues, rightValues}
-use Rattle.channel.specs.Channel.{channelValue, channelValues}
+use Rattle.values.specs.Values.{f, g, left_values, right_values}
+use Rattle.channel.specs.Channel.{channel_value, channel_values}
 use Rattle.pass_tree.specs.Node.{node}
 use Rattle.flip_order.specs.Order.{information}
 use Rattle.flip_trial.specs.declared.Restart.{Restart}
 use Rattle.flip_trial.specs.declared.Restart.TheVariants.{AfterFlip}
-use Rattle.flip_trial.specs.Trial.{firstTrial, trialPasses}
+use Rattle.flip_trial.specs.Trial.{first_trial, trial_passes}
 use Rattle.flip_run.specs.declared.Decoded.TheVariants.{Accepted, Refused16}
 use Rattle.flip_run.specs.Trials.{run}
-use Rattle.decoder.specs.Candidate.{doubtful, extensions, insertEach}
+use Rattle.decoder.specs.Candidate.{doubtful, extensions, insert_each}
 use Rattle.decoder.specs.Tried.{tried}
-use Rattle.decoder.specs.Decoder.{single, sets, refusalsOf, decodedUnder, decodedAs}
+use Rattle.decoder.specs.Decoder.{single, sets, refusals_of, decoded_under, decoded_as}
 use Rattle.theorems_start.specs.Silence.{silence}
-use Rattle.theorems_start.specs.Claims.{startingAt}
-use Rattle.theorems_start.proofs.Silence.{silence-accepted, trial-1-fails, silence-fails, silence-later, one-start}
+use Rattle.theorems_start.specs.Claims.{starting_at}
+use Rattle.theorems_start.proofs.Silence.{silence-accepted, trial_1_fails, silence_fails, silence-later, one_start}
 
 -- document 01's D as a record of kind 4, with r = 3, the polynomial z^3 + z + 1, so k = 1, and a start below 8
 abbrev pub D4 : ℕ → List ℕ
@@ -45,7 +45,7 @@ abbrev pub code4 : ℕ → Code
 code4 start = record { n = 3; r = 3; polynomial = 3; start = start; k = 1 }
 
 describes : (s : ℕ) → s < 8 → describe (D4 s) ≡ Description.Accepted (code4 s)
-unfolding describeUpTo judge refusedOr onesBelow
+unfolding describe_up_to judge refused_or ones_below
 describes zero l = refl
 describes (suc zero) l = refl
 describes (suc (suc zero)) l = refl
@@ -59,52 +59,52 @@ describes (suc (suc (suc (suc (suc (suc (suc (suc s)))))))) l = absurd (omega ar
 module _ (s : ℕ) (some : 0 < s) (below : s < 8) where
   -- ---- trial 1
 
-  first-bits : (firstTrial (mask_of (D4 s)) (code4 s) (channelValues (silence (code4 s)))).bits ≡ 0 ∷ 0 ∷ 0 ∷ 0 ∷ 0 ∷ 0 ∷ 0 ∷ 0 ∷ []
-  unfolding table onesBelow covers parity transformed xors channelValue f g leftValues rightValues node
-  first-bits = refl
+  first_bits : (first_trial (mask_of (D4 s)) (code4 s) (channel_values (silence (code4 s)))).bits ≡ 0 ∷ 0 ∷ 0 ∷ 0 ∷ 0 ∷ 0 ∷ 0 ∷ 0 ∷ []
+  unfolding table ones_below covers parity transformed xors channel_value f g left_values right_values node
+  first_bits = refl
 
   -- the bits of trial 1 on silence are zeros, and do not pass
-  pub zeros-fail : trialPasses (mask_of (D4 s)) (code4 s) (0 ∷ 0 ∷ 0 ∷ 0 ∷ 0 ∷ 0 ∷ 0 ∷ 0 ∷ []) ≡ false
-  zeros-fail = sym (ap (trialPasses (mask_of (D4 s)) (code4 s)) first-bits) ∙ trial-1-fails (D4 s) (code4 s) (describes s below) some
+  pub zeros_fail : trial_passes (mask_of (D4 s)) (code4 s) (0 ∷ 0 ∷ 0 ∷ 0 ∷ 0 ∷ 0 ∷ 0 ∷ 0 ∷ []) ≡ false
+  zeros_fail = sym (ap (trial_passes (mask_of (D4 s)) (code4 s)) first_bits) ∙ trial_1_fails (D4 s) (code4 s) (describes s below) some
 
   -- ---- T = 1, at every restart
 
-  pub single-fails : (restart : Restart) (byte : ℕ) → decodedAs (single 1) restart (D4 s) (silence (code4 s)) (byte ∷ []) ≡ (Refused16 1 24, byte ∷ [])
+  pub single_fails : (restart : Restart) (byte : ℕ) → decoded_as (single 1) restart (D4 s) (silence (code4 s)) (byte ∷ []) ≡ (Refused16 1 24, byte ∷ [])
   unfolding judge
-  single-fails restart byte = silence-fails (single 1) restart (D4 s) (code4 s) (byte ∷ []) (describes s below) some refl refl refl
+  single_fails restart byte = silence_fails (single 1) restart (D4 s) (code4 s) (byte ∷ []) (describes s below) some refl refl refl
 
-  pub sets-fail : (restart : Restart) (byte : ℕ) → decodedAs (sets 3 1) restart (D4 s) (silence (code4 s)) (byte ∷ []) ≡ (Refused16 1 24, byte ∷ [])
+  pub sets_fail : (restart : Restart) (byte : ℕ) → decoded_as (sets 3 1) restart (D4 s) (silence (code4 s)) (byte ∷ []) ≡ (Refused16 1 24, byte ∷ [])
   unfolding judge
-  sets-fail restart byte = silence-fails (sets 3 1) restart (D4 s) (code4 s) (byte ∷ []) (describes s below) some refl refl refl
+  sets_fail restart byte = silence_fails (sets 3 1) restart (D4 s) (code4 s) (byte ∷ []) (describes s below) some refl refl refl
 
   -- ---- T = 2, at every restart: whatever trial accepts silence, it is a later one
 
-  pub single-later : (restart : Restart) (trial steps : ℕ) (payload : List ℕ) → decodedAs (single 2) restart (D4 s) (silence (code4 s)) (0 ∷ []) ≡ (Accepted trial steps, payload) → 2 ≤ trial
+  pub single-later : (restart : Restart) (trial steps : ℕ) (payload : List ℕ) → decoded_as (single 2) restart (D4 s) (silence (code4 s)) (0 ∷ []) ≡ (Accepted trial steps, payload) → 2 ≤ trial
   single-later restart trial steps payload e = omega (arith, silence-later (single 2) restart (D4 s) (code4 s) (0 ∷ []) trial steps payload (describes s below) some e)
 
-  pub sets-later : (restart : Restart) (trial steps : ℕ) (payload : List ℕ) → decodedAs (sets 2 2) restart (D4 s) (silence (code4 s)) (0 ∷ []) ≡ (Accepted trial steps, payload) → 2 ≤ trial
+  pub sets-later : (restart : Restart) (trial steps : ℕ) (payload : List ℕ) → decoded_as (sets 2 2) restart (D4 s) (silence (code4 s)) (0 ∷ []) ≡ (Accepted trial steps, payload) → 2 ≤ trial
   sets-later restart trial steps payload e = omega (arith, silence-later (sets 2 2) restart (D4 s) (code4 s) (0 ∷ []) trial steps payload (describes s below) some e)
 
 -- by computation: a start does not keep later trials from accepting silence. With start 4 trial 2 does, by single flips and by sets.
-accepted-at-2 : (decodedAs (single 2) AfterFlip (D4 4) (silence (code4 4)) (0 ∷ []) ≡ (Accepted 2 35, 0x80 ∷ [])) × (decodedAs (sets 2 2) AfterFlip (D4 4) (silence (code4 4)) (0 ∷ []) ≡ (Accepted 2 35, 0x80 ∷ []))
-unfolding judge refusedOr table number onesBelow packed describeUpTo checkOf covers parity transformed xors taken channelValue f g leftValues rightValues firstWhere node information insertBy sortBy run doubtful extensions insertEach tried decodedUnder decodedAs
-accepted-at-2 = (refl, refl)
+accepted_at_2 : (decoded_as (single 2) AfterFlip (D4 4) (silence (code4 4)) (0 ∷ []) ≡ (Accepted 2 35, 0x80 ∷ [])) × (decoded_as (sets 2 2) AfterFlip (D4 4) (silence (code4 4)) (0 ∷ []) ≡ (Accepted 2 35, 0x80 ∷ []))
+unfolding judge refused_or table number ones_below packed describe_up_to check_of covers parity transformed xors taken channel_value f g left_values right_values first_where node information insert_by sort_by run doubtful extensions insert_each tried decoded_under decoded_as
+accepted_at_2 = (refl, refl)
 
-pub later-met : (2 ≤ 2) × (2 ≤ 2)
-later-met = (
-  single-later 4 (omega arith) (omega arith) AfterFlip 2 35 (0x80 ∷ []) accepted-at-2.0,
-  sets-later 4 (omega arith) (omega arith) AfterFlip 2 35 (0x80 ∷ []) accepted-at-2.1,
+pub later_met : (2 ≤ 2) × (2 ≤ 2)
+later_met = (
+  single-later 4 (omega arith) (omega arith) AfterFlip 2 35 (0x80 ∷ []) accepted_at_2.0,
+  sets-later 4 (omega arith) (omega arith) AfterFlip 2 35 (0x80 ∷ []) accepted_at_2.1,
 )
 
 -- ---- start 0: silence is accepted on trial 1
 
-fine-0 : (byte : ℕ) → judge (refusalsOf (sets 3 5) (code4 0) (silence (code4 0)) (byte ∷ [])) ≡ Fine
-unfolding judge firstWhere channelValue
-fine-0 byte = refl
+fine_0 : (byte : ℕ) → judge (refusals_of (sets 3 5) (code4 0) (silence (code4 0)) (byte ∷ [])) ≡ Fine
+unfolding judge first_where channel_value
+fine_0 byte = refl
 
-pub silence-heard : (restart : Restart) (byte : ℕ) → decodedAs (sets 3 5) restart (D4 0) (silence (code4 0)) (byte ∷ []) ≡ (Accepted 1 24, 0x00 ∷ [])
+pub silence_heard : (restart : Restart) (byte : ℕ) → decoded_as (sets 3 5) restart (D4 0) (silence (code4 0)) (byte ∷ []) ≡ (Accepted 1 24, 0x00 ∷ [])
 unfolding table number packed
-silence-heard restart byte = silence-accepted (sets 3 5) restart (D4 0) (code4 0) (byte ∷ []) refl (record { described = describes 0 (omega arith); fine = fine-0 byte })
+silence_heard restart byte = silence-accepted (sets 3 5) restart (D4 0) (code4 0) (byte ∷ []) refl (record { described = describes 0 (omega arith); fine = fine_0 byte })
 
 -- ---- one start
 
@@ -129,10 +129,10 @@ passing-bits = record { at = each }
     each (suc (suc (suc zero))) = omega arith
     each (suc (suc (suc (suc i)))) = zeros i
 
-passes-with-4 : trialPasses (mask_of (D4 0)) (startingAt 4 (code4 0)) passing ≡ true
-unfolding table number checkOf taken
-passes-with-4 = refl
+passes_with_4 : trial_passes (mask_of (D4 0)) (starting_at 4 (code4 0)) passing ≡ true
+unfolding table number check_of taken
+passes_with_4 = refl
 
 -- they pass with no other start
-pub only-4 : (s : ℕ) → s < 8 → trialPasses (mask_of (D4 0)) (startingAt s (code4 0)) passing ≡ true → s ≡ 4
-only-4 s l e = one-start (D4 0) (code4 0) passing s 4 (describes 0 (omega arith)) passing-bits (omega (arith, l)) (omega arith) e passes-with-4
+pub only_4 : (s : ℕ) → s < 8 → trial_passes (mask_of (D4 0)) (starting_at s (code4 0)) passing ≡ true → s ≡ 4
+only_4 s l e = one_start (D4 0) (code4 0) passing s 4 (describes 0 (omega arith)) passing-bits (omega (arith, l)) (omega arith) e passes_with_4

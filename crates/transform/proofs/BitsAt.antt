@@ -4,11 +4,11 @@ use mathlib.Core.List.{List}
 use Prim.Native.Nat.{ℕ, ◌+◌, ◌≤◌}
 use native.Mathlib.Omega.{arith}
 use lib.ListN.{length}
-use Rattle.laws.specs.Contracts.{splice, segment}
+use Rattle.laws.specs.Clauses.{splice, segment}
 use Rattle.laws.proofs.Segment.{segment-front, segment-back, segment-splice, length-splice}
 use Rattle.bits.specs.Claims.{Bits}
 use Rattle.bits.proofs.Lists.{bits-take, bits-drop}
-use Rattle.transform.specs.Contracts.{BitsAt}
+use Rattle.transform.specs.Clauses.{BitsAt}
 
 -- the halves of bits within an array
 module _ {room : ℕ} {w : List ℕ} {base h : ℕ} (p : BitsAt room w base (h + h)) where
@@ -27,8 +27,8 @@ module _ {room : ℕ} {w : List ℕ} {base h : ℕ} (p : BitsAt room w base (h +
   }
 
 -- bits that are spliced into an array
-pub bits-at-splice : {room n : ℕ} {w' : List ℕ} (w : List ℕ) (base : ℕ) (ys : List ℕ) → w' ≡ splice w base ys → length ys ≡ n → length w ≡ room → base + n ≤ room → Bits ys → BitsAt room w' base n
-bits-at-splice {room} {n} {w'} w base ys e len whole fits p =
+pub bits_at_splice : {room n : ℕ} {w' : List ℕ} (w : List ℕ) (base : ℕ) (ys : List ℕ) → w' ≡ splice w base ys → length ys ≡ n → length w ≡ room → base + n ≤ room → Bits ys → BitsAt room w' base n
+bits_at_splice {room} {n} {w'} w base ys e len whole fits p =
     let inside : base + n ≤ length w = omega arith in
     record {
       whole = ap length e ∙ length-splice w base ys n len inside ∙ whole;

@@ -7,11 +7,11 @@ use Rattle.bits.specs.Packing.{packed}
 use Rattle.transform.specs.Transform.{covers, parity, transformed}
 
 -- payload A0: the bits 1, 0, 1 and the check 0 give the codeword 5A
-pub codeword-A0 : packed (transformed 3 (0 ∷ 0 ∷ 0 ∷ 1 ∷ 0 ∷ 0 ∷ 1 ∷ 0 ∷ [])) ≡ 90 ∷ []
+pub codeword_A0 : packed (transformed 3 (0 ∷ 0 ∷ 0 ∷ 1 ∷ 0 ∷ 0 ∷ 1 ∷ 0 ∷ [])) ≡ 90 ∷ []
 unfolding table number packed covers parity transformed
-codeword-A0 = refl
+codeword_A0 = refl
 
 -- payload 80: the bits 1, 0, 0 and the check 1 give the codeword 0F
-pub codeword-80 : packed (transformed 3 (0 ∷ 0 ∷ 0 ∷ 1 ∷ 0 ∷ 0 ∷ 0 ∷ 1 ∷ [])) ≡ 15 ∷ []
+pub codeword_80 : packed (transformed 3 (0 ∷ 0 ∷ 0 ∷ 1 ∷ 0 ∷ 0 ∷ 0 ∷ 1 ∷ [])) ≡ 15 ∷ []
 unfolding table number packed covers parity transformed
-codeword-80 = refl
+codeword_80 = refl

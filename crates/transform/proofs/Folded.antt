@@ -5,24 +5,24 @@ use Prim.Native.Nat.{ℕ, zero, suc, ◌^◌}
 use native.Mathlib.Nat.{two-pow-succ}
 use native.Mathlib.Omega.{arith}
 use lib.ListN.{length, take, drop, length-append, length-take, length-drop}
-use Rattle.laws.proofs.Table.{length-table, table-ext}
+use Rattle.laws.proofs.Table.{length-table, table_ext}
 use Rattle.bits.specs.Claims.{Bits}
 use Rattle.bits.proofs.Bitwise.{xor-bits}
 use Rattle.bits.proofs.Lists.{bits-take, bits-drop}
 use Rattle.transform.specs.Transform.{transformed, xors}
-use Rattle.transform.specs.Contracts.{folded, xorBytes}
+use Rattle.transform.specs.Clauses.{folded, xor_bytes}
 use Rattle.transform.proofs.Transformed.{bits-transformed, transformed-zero, transformed-suc}
 
-pub length-xorBytes : (h : ℕ) (a b : List ℕ) → length (xorBytes h a b) ≡ h
-unfolding xorBytes
-length-xorBytes h a b = length-table _ h
+pub length-xor_bytes : (h : ℕ) (a b : List ℕ) → length (xor_bytes h a b) ≡ h
+unfolding xor_bytes
+length-xor_bytes h a b = length-table _ h
 
 -- of bits, it is their exclusive-or
-pub xorBytes-bits : (h : ℕ) (a b : List ℕ) → Bits a → Bits b → xorBytes h a b ≡ xors h a b
-unfolding xorBytes xors
-xorBytes-bits h a b p q = table-ext _ _ h (λ j l. xor-bits _ _ (p.at j) (q.at j))
+pub xor_bytes-bits : (h : ℕ) (a b : List ℕ) → Bits a → Bits b → xor_bytes h a b ≡ xors h a b
+unfolding xor_bytes xors
+xor_bytes-bits h a b p q = table_ext _ _ h (λ j l. xor-bits _ _ (p.at j) (q.at j))
 
-pub folded-suc : (n : ℕ) (u : List ℕ) → folded (suc n) u ≡ xorBytes (2 ^ n) (folded n (take (2 ^ n) u)) (folded n (drop (2 ^ n) u)) ++ folded n (drop (2 ^ n) u)
+pub folded-suc : (n : ℕ) (u : List ℕ) → folded (suc n) u ≡ xor_bytes (2 ^ n) (folded n (take (2 ^ n) u)) (folded n (drop (2 ^ n) u)) ++ folded n (drop (2 ^ n) u)
 unfolding folded
 folded-suc n u = refl
 
@@ -34,7 +34,7 @@ length-folded (suc n) u e =
     let l : List ℕ = folded n (take h u) in
     let r : List ℕ = folded n (drop h u) in
     let right = length-folded n (drop h u) (omega (arith, length-drop h u, two-pow-succ n)) in
-    omega (arith, length-append (xorBytes h l r) r, length-xorBytes h l r, two-pow-succ n)
+    omega (arith, length-append (xor_bytes h l r) r, length-xor_bytes h l r, two-pow-succ n)
 
 pub folded-bits : (n : ℕ) (u : List ℕ) → length u ≡ 2 ^ n → Bits u → folded n u ≡ transformed n u
 unfolding folded
@@ -43,6 +43,6 @@ folded-bits (suc n) u e p =
     let h : ℕ = 2 ^ n in
     let left = folded-bits n (take h u) (omega (arith, length-take h u, two-pow-succ n)) (bits-take h u p) in
     let right = folded-bits n (drop h u) (omega (arith, length-drop h u, two-pow-succ n)) (bits-drop h u p) in
-    ap₂ (λ (l r : List ℕ). xorBytes h l r ++ r) left right
-    ∙ ap₂ (λ (l r : List ℕ). l ++ r) (xorBytes-bits h _ _ (bits-transformed n (take h u)) (bits-transformed n (drop h u))) refl
+    ap₂ (λ (l r : List ℕ). xor_bytes h l r ++ r) left right
+    ∙ ap₂ (λ (l r : List ℕ). l ++ r) (xor_bytes-bits h _ _ (bits-transformed n (take h u)) (bits-transformed n (drop h u))) refl
     ∙ sym (transformed-suc n u)

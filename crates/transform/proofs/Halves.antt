@@ -4,11 +4,11 @@ use mathlib.Core.List.{List, ◌++◌}
 use Prim.Native.Nat.{ℕ, suc, ◌+◌, ◌-◌, ◌/◌, ◌^◌, ◌≤◌}
 use native.Mathlib.Omega.{arith}
 use lib.ListN.{length, take, drop, length-append}
-use Rattle.laws.specs.Contracts.{splice, segment}
-use Rattle.laws.proofs.Segment.{length-segment, segment-front, segment-back, drop-splice, length-splice, splice-segment, segment-splice-front, segment-splice-back, splice-next, splice-over}
-use Rattle.laws.proofs.Powers.{half_pow, two-halves}
-use Rattle.transform.specs.Contracts.{BytesAt, folded, xorBytes}
-use Rattle.transform.proofs.Folded.{length-xorBytes, length-folded, folded-suc}
+use Rattle.laws.specs.Clauses.{splice, segment}
+use Rattle.laws.proofs.Segment.{length-segment, segment-front, segment-back, drop-splice, length-splice, splice-segment, segment_splice_front, segment_splice_back, splice-next, splice_over}
+use Rattle.laws.proofs.Powers.{half_pow, two_halves}
+use Rattle.transform.specs.Clauses.{BytesAt, folded, xor_bytes}
+use Rattle.transform.proofs.Folded.{length-xor_bytes, length-folded, folded-suc}
 
 -- a single byte stays as it is
 pub single : {room : ℕ} {w : List ℕ} {base layer size : ℕ} → layer ≡ 0 → BytesAt room w base size → w ≡ splice w base (folded layer (segment w base size))
@@ -27,11 +27,11 @@ pub halving : {layer size : ℕ} → (layer ≡ 0 → ⊥) → size ≡ 2 ^ laye
 halving {layer} {size} some pow = record {
   below = omega arith;
   pow = half_pow layer size some pow;
-  two = two-halves layer size some pow;
+  two = two_halves layer size some pow;
 }
 
-pub halving-pair : {layer size : ℕ} → layer ≡ 1 → size ≡ 2 ^ layer → Halving layer size 0 1
-halving-pair one pow = record { below = one; pow = refl; two = pow ∙ ap (λ (k : ℕ). 2 ^ k) one }
+pub halving_pair : {layer size : ℕ} → layer ≡ 1 → size ≡ 2 ^ layer → Halving layer size 0 1
+halving_pair one pow = record { below = one; pow = refl; two = pow ∙ ap (λ (k : ℕ). 2 ^ k) one }
 
 module _ {layer size n h room : ℕ} {w : List ℕ} {base : ℕ} (d : Halving layer size n h) (p : BytesAt room w base size) where
   -- the halves, folded
@@ -77,24 +77,24 @@ module _ {layer size n h room : ℕ} {w : List ℕ} {base : ℕ} (d : Halving la
         ∙ splice-next w base L R h h long_L long-R fits
 
   module _ {w₂ : List ℕ} (e : w₂ ≡ splice w base (L ++ R)) where
-    pub combine-next : BytesAt room w₂ base (h + h)
-    combine-next = record {
+    pub combine_next : BytesAt room w₂ base (h + h)
+    combine_next = record {
       whole = ap length e ∙ length-splice w base (L ++ R) (h + h) (omega (arith, length-append L R, long_L, long-R)) fits ∙ p.whole;
       fits = halves.fits;
     }
 
     -- then both are combined
-    pub combined : {w₃ : List ℕ} → w₃ ≡ splice w₂ base (xorBytes h (segment w₂ base h) (segment w₂ (base + h) h)) → w₃ ≡ splice w base (folded layer (segment w base size))
+    pub combined : {w₃ : List ℕ} → w₃ ≡ splice w₂ base (xor_bytes h (segment w₂ base h) (segment w₂ (base + h) h)) → w₃ ≡ splice w base (folded layer (segment w base size))
     combined e₃ =
-        e₃ ∙ ap (λ (v : List ℕ). splice v base (xorBytes h (segment v base h) (segment v (base + h) h))) e
-        ∙ ap₂ (λ (a b : List ℕ). splice (splice w base (L ++ R)) base (xorBytes h a b))
-        (segment-splice-front w base L R h h long_L long-R fits) (segment-splice-back w base L R h h long_L long-R fits)
-        ∙ splice-over w base L R h h long_L long-R fits (xorBytes h L R) (length-xorBytes h L R)
+        e₃ ∙ ap (λ (v : List ℕ). splice v base (xor_bytes h (segment v base h) (segment v (base + h) h))) e
+        ∙ ap₂ (λ (a b : List ℕ). splice (splice w base (L ++ R)) base (xor_bytes h a b))
+        (segment_splice_front w base L R h h long_L long-R fits) (segment_splice_back w base L R h h long_L long-R fits)
+        ∙ splice_over w base L R h h long_L long-R fits (xor_bytes h L R) (length-xor_bytes h L R)
         ∙ ap (splice w base) (sym recursive)
       where
-        recursive : folded layer (segment w base size) ≡ xorBytes h L R ++ R
+        recursive : folded layer (segment w base size) ≡ xor_bytes h L R ++ R
         recursive =
             ap₂ (λ (k m : ℕ). folded k (segment w base m)) d.below d.two
             ∙ folded-suc n (segment w base (h + h))
-            ∙ ap (λ (k : ℕ). xorBytes k (folded n (take k (segment w base (h + h)))) (folded n (drop k (segment w base (h + h)))) ++ folded n (drop k (segment w base (h + h)))) (sym d.pow)
-            ∙ ap₂ (λ (a b : List ℕ). xorBytes h (folded n a) (folded n b) ++ folded n b) (segment-front w base h) (segment-back w base h)
+            ∙ ap (λ (k : ℕ). xor_bytes k (folded n (take k (segment w base (h + h)))) (folded n (drop k (segment w base (h + h)))) ++ folded n (drop k (segment w base (h + h)))) (sym d.pow)
+            ∙ ap₂ (λ (a b : List ℕ). xor_bytes h (folded n a) (folded n b) ++ folded n b) (segment-front w base h) (segment-back w base h)

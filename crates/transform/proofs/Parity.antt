@@ -5,15 +5,15 @@ use native.Mathlib.Nat.{add-zero, add-suc, add-mod}
 use native.Mathlib.Omega.{arith}
 use Rattle.transform.specs.Transform.{parity}
 
-pub parity-lt : (f : ℕ → ℕ) (n : ℕ) → parity f n < 2
+pub parity_lt : (f : ℕ → ℕ) (n : ℕ) → parity f n < 2
 unfolding parity
-parity-lt f zero = omega arith
-parity-lt f (suc n) = omega arith
+parity_lt f zero = omega arith
+parity_lt f (suc n) = omega arith
 
-pub parity-ext : (f g : ℕ → ℕ) (n : ℕ) → ((i : ℕ) → i < n → f i ≡ g i) → parity f n ≡ parity g n
+pub parity_ext : (f g : ℕ → ℕ) (n : ℕ) → ((i : ℕ) → i < n → f i ≡ g i) → parity f n ≡ parity g n
 unfolding parity
-parity-ext f g zero h = refl
-parity-ext f g (suc n) h = ap₂ (λ (x y : ℕ). (x + y) % 2) (parity-ext f g n (λ i l. h i (omega arith))) (h n (omega arith))
+parity_ext f g zero h = refl
+parity_ext f g (suc n) h = ap₂ (λ (x y : ℕ). (x + y) % 2) (parity_ext f g n (λ i l. h i (omega arith))) (h n (omega arith))
 
 pub parity-zeros : (n : ℕ) → parity (λ _. 0) n ≡ 0
 unfolding parity
@@ -23,7 +23,7 @@ parity-zeros (suc n) = omega (arith, parity-zeros n)
 -- the first m bits and the n after them
 pub parity-add : (f : ℕ → ℕ) (m n : ℕ) → parity f (m + n) ≡ (parity f m + parity (λ i. f (m + i)) n) % 2
 unfolding parity
-parity-add f m zero = ap (parity f) (add-zero m) ∙ omega (arith, parity-lt f m)
+parity-add f m zero = ap (parity f) (add-zero m) ∙ omega (arith, parity_lt f m)
 parity-add f m (suc n) = ap (parity f) (add-suc m n) ∙ omega (arith, parity-add f m n)
 
 -- of bits that are exclusive-ors themselves

@@ -9,25 +9,25 @@ use lib.Dec.{leb}
 use lib.ListN.{length, take, drop, get_or, length-drop, take-append-drop}
 use lib.Seq.{get_or-take, get_or-drop, take_at, drop_at, length-take-le}
 use Rattle.laws.specs.Table.{table}
-use Rattle.laws.proofs.Table.{length-table, getD-table, table-ext, table-append}
+use Rattle.laws.proofs.Table.{length-table, get_or-table, table_ext, table-append}
 use Rattle.bits.specs.Claims.{Bits}
 use Rattle.bits.proofs.Lists.{bits-table, bits-take, bits-drop}
-use Rattle.transform.specs.Transform.{covers, parity, codeBit, transformed, xors}
-use Rattle.transform.proofs.Covers.{Above, above_zero, above-one, covers-suc}
-use Rattle.transform.proofs.Parity.{parity-lt, parity-ext, parity-zeros, parity-add, parity-xor}
-use Rattle.transform.proofs.Xors.{length-xors, getD-xors, xors-back}
+use Rattle.transform.specs.Transform.{covers, parity, code_bit, transformed, xors}
+use Rattle.transform.proofs.Covers.{Above, above_zero, above_one, covers-suc}
+use Rattle.transform.proofs.Parity.{parity_lt, parity_ext, parity-zeros, parity-add, parity-xor}
+use Rattle.transform.proofs.Xors.{length-xors, get_or-xors, xors-back}
 
 pub length-transformed : (n : ℕ) (u : List ℕ) → length (transformed n u) ≡ 2 ^ n
 unfolding transformed
-length-transformed n u = length-table (codeBit n u) (2 ^ n)
+length-transformed n u = length-table (code_bit n u) (2 ^ n)
 
 pub bits-transformed : (n : ℕ) (u : List ℕ) → Bits (transformed n u)
 unfolding transformed
-bits-transformed n u = bits-table (codeBit n u) (2 ^ n) (λ j. parity-lt _ (2 ^ n))
+bits-transformed n u = bits-table (code_bit n u) (2 ^ n) (λ j. parity_lt _ (2 ^ n))
 
-getD-transformed : (n : ℕ) (u : List ℕ) (j : ℕ) → j < 2 ^ n → get_or (transformed n u) j 0 ≡ codeBit n u j
+get_or-transformed : (n : ℕ) (u : List ℕ) (j : ℕ) → j < 2 ^ n → get_or (transformed n u) j 0 ≡ code_bit n u j
 unfolding transformed
-getD-transformed n u j l = getD-table (codeBit n u) (2 ^ n) j 0 l
+get_or-transformed n u j l = get_or-table (code_bit n u) (2 ^ n) j 0 l
 
 -- ---- the recursive form
 
@@ -36,30 +36,30 @@ module _ (n : ℕ) (u : List ℕ) where
   h = 2 ^ n
 
   -- x at an index j' that has the bit c above the n low bits of j, by the halves of u
-  code-suc : {c j j' : ℕ} → Above n c j j' → codeBit (suc n) u j' ≡ (parity (λ i. cond (leb c 0 && covers n i j) (get_or (take h u) i 0) 0) h + parity (λ i. cond (leb c 1 && covers n i j) (get_or (drop h u) i 0) 0) h) % 2
+  code-suc : {c j j' : ℕ} → Above n c j j' → code_bit (suc n) u j' ≡ (parity (λ i. cond (leb c 0 && covers n i j) (get_or (take h u) i 0) 0) h + parity (λ i. cond (leb c 1 && covers n i j) (get_or (drop h u) i 0) 0) h) % 2
   code-suc a =
       ap (parity _) (two-pow-succ n) ∙ parity-add _ h h
       ∙ ap₂ (λ (x y : ℕ). (x + y) % 2)
-      (parity-ext _ _ h (λ i l. ap₂ (λ (t : Bool) (x : ℕ). cond t x 0) (covers-suc (above_zero n i l) a) (sym (get_or-take h u i 0 l))))
-      (parity-ext _ _ h (λ i l. ap₂ (λ (t : Bool) (x : ℕ). cond t x 0) (covers-suc (above-one n i l) a) (sym (get_or-drop h u i 0))))
+      (parity_ext _ _ h (λ i l. ap₂ (λ (t : Bool) (x : ℕ). cond t x 0) (covers-suc (above_zero n i l) a) (sym (get_or-take h u i 0 l))))
+      (parity_ext _ _ h (λ i l. ap₂ (λ (t : Bool) (x : ℕ). cond t x 0) (covers-suc (above_one n i l) a) (sym (get_or-drop h u i 0))))
 
-  code-left : (j : ℕ) → j < h → codeBit (suc n) u j ≡ (codeBit n (take h u) j + codeBit n (drop h u) j) % 2
+  code-left : (j : ℕ) → j < h → code_bit (suc n) u j ≡ (code_bit n (take h u) j + code_bit n (drop h u) j) % 2
   code-left j l = code-suc (above_zero n j l)
 
-  code-right : (j : ℕ) → j < h → codeBit (suc n) u (h + j) ≡ codeBit n (drop h u) j
+  code-right : (j : ℕ) → j < h → code_bit (suc n) u (h + j) ≡ code_bit n (drop h u) j
   code-right j l =
-      code-suc (above-one n j l) ∙ omega (arith, parity-zeros h, parity-lt (λ i. cond (covers n i j) (get_or (drop h u) i 0) 0) h)
+      code-suc (above_one n j l) ∙ omega (arith, parity-zeros h, parity_lt (λ i. cond (covers n i j) (get_or (drop h u) i 0) 0) h)
 
   -- left half xor right half, then the right half
   pub transformed-suc : transformed (suc n) u ≡ xors h (transformed n (take h u)) (transformed n (drop h u)) ++ transformed n (drop h u)
   unfolding transformed xors
   transformed-suc =
-      ap (table (codeBit (suc n) u)) (two-pow-succ n) ∙ table-append (codeBit (suc n) u) h h
-      ∙ ap₂ ◌++◌ (table-ext _ _ h left) (table-ext _ _ h code-right)
+      ap (table (code_bit (suc n) u)) (two-pow-succ n) ∙ table-append (code_bit (suc n) u) h h
+      ∙ ap₂ ◌++◌ (table_ext _ _ h left) (table_ext _ _ h code-right)
     where
-      left : (j : ℕ) → j < h → codeBit (suc n) u j ≡ (get_or (transformed n (take h u)) j 0 + get_or (transformed n (drop h u)) j 0) % 2
+      left : (j : ℕ) → j < h → code_bit (suc n) u j ≡ (get_or (transformed n (take h u)) j 0 + get_or (transformed n (drop h u)) j 0) % 2
       left j l =
-          code-left j l ∙ ap₂ (λ (x y : ℕ). (x + y) % 2) (sym (getD-transformed n (take h u) j l)) (sym (getD-transformed n (drop h u) j l))
+          code-left j l ∙ ap₂ (λ (x y : ℕ). (x + y) % 2) (sym (get_or-transformed n (take h u) j l)) (sym (get_or-transformed n (drop h u) j l))
 
 -- a single bit is left as it is
 pub transformed-zero : (u : List ℕ) → length u ≡ 1 → Bits u → transformed 0 u ≡ u
@@ -70,19 +70,19 @@ transformed-zero (x ∷ y ∷ u) len p = absurd (omega arith)
 
 -- ---- it is linear
 
-cond-xor : (t : Bool) (x y : ℕ) → cond t ((x + y) % 2) 0 ≡ (cond t x 0 + cond t y 0) % 2
-cond-xor true x y = refl
-cond-xor false x y = refl
+cond_xor : (t : Bool) (x y : ℕ) → cond t ((x + y) % 2) 0 ≡ (cond t x 0 + cond t y 0) % 2
+cond_xor true x y = refl
+cond_xor false x y = refl
 
 pub transformed-xors : (n : ℕ) (a b : List ℕ) → transformed n (xors (2 ^ n) a b) ≡ xors (2 ^ n) (transformed n a) (transformed n b)
 unfolding transformed xors
-transformed-xors n a b = table-ext _ _ (2 ^ n) each
+transformed-xors n a b = table_ext _ _ (2 ^ n) each
   where
-    each : (j : ℕ) → j < 2 ^ n → codeBit n (xors (2 ^ n) a b) j ≡ (get_or (transformed n a) j 0 + get_or (transformed n b) j 0) % 2
+    each : (j : ℕ) → j < 2 ^ n → code_bit n (xors (2 ^ n) a b) j ≡ (get_or (transformed n a) j 0 + get_or (transformed n b) j 0) % 2
     each j l =
-        parity-ext _ _ (2 ^ n) (λ i k. ap (λ (x : ℕ). cond (covers n i j) x 0) (getD-xors (2 ^ n) a b i k) ∙ cond-xor (covers n i j) (get_or a i 0) (get_or b i 0))
+        parity_ext _ _ (2 ^ n) (λ i k. ap (λ (x : ℕ). cond (covers n i j) x 0) (get_or-xors (2 ^ n) a b i k) ∙ cond_xor (covers n i j) (get_or a i 0) (get_or b i 0))
         ∙ parity-xor (λ i. cond (covers n i j) (get_or a i 0) 0) (λ i. cond (covers n i j) (get_or b i 0) 0) (2 ^ n)
-        ∙ ap₂ (λ (x y : ℕ). (x + y) % 2) (sym (getD-transformed n a j l)) (sym (getD-transformed n b j l))
+        ∙ ap₂ (λ (x y : ℕ). (x + y) % 2) (sym (get_or-transformed n a j l)) (sym (get_or-transformed n b j l))
 
 -- ---- it undoes itself
 

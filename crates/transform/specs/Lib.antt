@@ -1,2 +1,2 @@
 pub mod Transform
-pub mod Contracts
+pub mod Clauses

@@ -15,12 +15,12 @@ parity f zero = 0
 parity f (suc n) = (parity f n + f n) % 2
 
 -- x_j, of the 2^n bits u
-abbrev pub codeBit : ℕ → List ℕ → ℕ → ℕ
-codeBit n u j = parity (λ i. cond (covers n i j) (get_or u i 0) 0) (2 ^ n)
+abbrev pub code_bit : ℕ → List ℕ → ℕ → ℕ
+code_bit n u j = parity (λ i. cond (covers n i j) (get_or u i 0) 0) (2 ^ n)
 
 -- x_0, …, x_(2^n - 1)
 unfoldable pub transformed : ℕ → List ℕ → List ℕ
-transformed n u = table (codeBit n u) (2 ^ n)
+transformed n u = table (code_bit n u) (2 ^ n)
 
 -- the exclusive-or of two lists of h bits, bit by bit
 unfoldable pub xors : ℕ → List ℕ → List ℕ → List ℕ

@@ -1,10 +1,10 @@
 // The polar transform, in place: of bits, one a byte, on a segment of a working array, and of packed bits.
 ghost use Rattle.std.specs.Prelude.{◌≡◌, ◌+◌, ◌*◌, ◌^◌, get_or};
 ghost use Rattle.laws.specs.Table.{table};
-ghost use Rattle.laws.specs.Contracts.{splice, segment};
+ghost use Rattle.laws.specs.Clauses.{splice, segment};
 ghost use Rattle.bits.specs.Packing.{packed, unpacked};
 ghost use Rattle.transform.specs.Transform.{transformed, xors};
-ghost use Rattle.transform.specs.Contracts.{BitsAt, BytesAt, transformedByte, folded, xorBytes};
+ghost use Rattle.transform.specs.Clauses.{BitsAt, BytesAt, transformed_byte, folded, xor_bytes};
 
 use arrays::{BitArray, ByteArray, SIZE};
 
@@ -12,7 +12,7 @@ use arrays::{BitArray, ByteArray, SIZE};
 fn xor_halves(bytes: &mut ByteArray, base: usize, h: usize)
     requires { BytesAt SIZE bytes.old base (h + h) }
     ensures { bytes.new
-        ≡ splice bytes.old base (xorBytes h (segment bytes.old base h) (segment bytes.old (base + h) h)) }
+        ≡ splice bytes.old base (xor_bytes h (segment bytes.old base h) (segment bytes.old (base + h) h)) }
 {
     let mut j = 0;
     while j < h {
@@ -59,7 +59,7 @@ pub fn transform(layer: u32, size: usize, base: usize, bits: &mut BitArray)
 
 // The eight bits of a byte, transformed: at each layer each left half becomes the exclusive-or of both halves.
 fn transform_byte(byte: u8) -> u8
-    ensures { result ≡ transformedByte byte }
+    ensures { result ≡ transformed_byte byte }
 {
     let pairs = byte ^ ((byte << 1) & 0xAA);
     let fours = pairs ^ ((pairs << 2) & 0xCC);
@@ -69,7 +69,7 @@ fn transform_byte(byte: u8) -> u8
 // Transforms the bits of each of the first `size` bytes.
 fn transform_bytes(size: usize, bytes: &mut ByteArray)
     requires { BytesAt SIZE bytes.old 0 size }
-    ensures { bytes.new ≡ splice bytes.old 0 (table (λ m. transformedByte (get_or bytes.old m 0)) size) }
+    ensures { bytes.new ≡ splice bytes.old 0 (table (λ m. transformed_byte (get_or bytes.old m 0)) size) }
 {
     let mut m = 0;
     while m < size {

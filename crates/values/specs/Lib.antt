@@ -1,3 +1,3 @@
 pub mod Claims
 pub mod Values
-pub mod Contracts
+pub mod Clauses

@@ -1,7 +1,7 @@
 // The values of a node, and the decision at a leaf.
 ghost use Rattle.std.specs.Prelude.{◌≡◌, ◌+◌, ◌^◌, ◌<◌, min, pos, nat_abs};
 ghost use Rattle.values.specs.Values.{decided, g, f, hard};
-ghost use Rattle.values.specs.Contracts.{ruleOf};
+ghost use Rattle.values.specs.Clauses.{rule_of};
 
 // The magnitude of a value.
 pub fn magnitude(a: i32) -> i32
@@ -45,7 +45,7 @@ pub fn g(a: i32, b: i32, sum: u8) -> i32
 
 // The bit at a leaf, without a branch: 0 at a frozen index, otherwise the sign, inverted if the rule is the opposite decision.
 pub fn decide(rule: u8, value: i32) -> u8
-    ensures { result ≡ decided (ruleOf rule) value }
+    ensures { result ≡ decided (rule_of rule) value }
 {
     (rule & 1) & (hard(value) ^ ((rule >> 1) & 1))
 }

@@ -4,17 +4,17 @@ use mathlib.Core.List.{[], ◌∷◌}
 use Prim.Native.Nat.{ℕ}
 use Rattle.laws.specs.Table.{table}
 use Rattle.refusal.specs.declared.Refusal.TheVariants.{Alone}
-use Rattle.refusal.specs.Judge.{judge, refusedOr}
+use Rattle.refusal.specs.Judge.{judge, refused_or}
 use Rattle.bits.specs.Bit.{number}
-use Rattle.bits.specs.Mask.{onesBelow}
+use Rattle.bits.specs.Mask.{ones_below}
 use Rattle.bits.specs.Packing.{packed, unpacked}
-use Rattle.code.specs.Description.{describeUpTo}
+use Rattle.code.specs.Description.{describe_up_to}
 use Rattle.vectors.proofs.Descriptions.{D}
-use Rattle.crc.specs.Check.{checkOf}
+use Rattle.crc.specs.Check.{check_of}
 use Rattle.transform.specs.Transform.{covers, parity, transformed}
 use Rattle.placing.specs.Place.{placed}
 use Rattle.encoder.specs.declared.Encoded.TheVariants.{Done, Refused}
-use Rattle.encoder.specs.Encode.{codeword, encodedBy, encoded}
+use Rattle.encoder.specs.Encode.{codeword, encoded_by, encoded}
 
 -- under D `A0` encodes to `5A`, and `80` to `0F`; `B0` is refused and leaves the output as it was, whatever byte it held
 abbrev pub StarredEncoding : ℕ → Type 0
@@ -23,6 +23,6 @@ StarredEncoding byte =
     × (encoded D (0x80 ∷ []) (byte ∷ []) ≡ (Done, 0x0F ∷ []))
     × (encoded D (0xB0 ∷ []) (byte ∷ []) ≡ (Refused (Alone 10), byte ∷ []))
 
-pub starred-encoding : (byte : ℕ) → StarredEncoding byte
-unfolding judge refusedOr table number onesBelow packed unpacked describeUpTo checkOf covers parity transformed placed codeword encodedBy encoded
-starred-encoding byte = (refl, refl, refl)
+pub starred_encoding : (byte : ℕ) → StarredEncoding byte
+unfolding judge refused_or table number ones_below packed unpacked describe_up_to check_of covers parity transformed placed codeword encoded_by encoded
+starred_encoding byte = (refl, refl, refl)

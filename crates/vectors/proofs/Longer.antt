@@ -10,21 +10,21 @@ use Rattle.laws.specs.Table.{table}
 use Rattle.laws.proofs.First.{first-is}
 use Rattle.refusal.specs.declared.Refusal.{Refusal}
 use Rattle.refusal.specs.declared.Refusal.TheVariants.{Alone}
-use Rattle.refusal.specs.Judge.{judge, refusedOr}
-use Rattle.arrays.specs.Sizes.{largestN}
+use Rattle.refusal.specs.Judge.{judge, refused_or}
+use Rattle.arrays.specs.Sizes.{largest_n}
 use Rattle.arrays.specs.Claims.{longest}
-use Rattle.bits.specs.Mask.{onesBelow}
+use Rattle.bits.specs.Mask.{ones_below}
 use Rattle.code.specs.declared.Code.{Code}
 use Rattle.code.specs.declared.Description.{Description}
 use Rattle.code.specs.declared.Description.TheVariants.{Accepted, Refused}
-use Rattle.code.specs.Description.{mask_of, describeUpTo, describe, onDescription}
+use Rattle.code.specs.Description.{mask_of, describe_up_to, describe, on_description}
 use Rattle.transform.specs.Transform.{covers, parity, transformed, xors}
-use Rattle.values.specs.Values.{f, g, leftValues, rightValues, Rule}
-use Rattle.channel.specs.Channel.{channelValue, channelValues, firstOutside}
+use Rattle.values.specs.Values.{f, g, left_values, right_values, Rule}
+use Rattle.channel.specs.Channel.{channel_value, channel_values, first_outside}
 use Rattle.pass_tree.specs.Node.{node}
-use Rattle.flip_trial.specs.Trial.{firstTrial}
+use Rattle.flip_trial.specs.Trial.{first_trial}
 use Rattle.theorems_largest.specs.Claims.{NewAnswer, AnswersAs}
-use Rattle.theorems_largest.proofs.Longer.{old-answers, as-10}
+use Rattle.theorems_largest.proofs.Longer.{old_answers, as_10}
 use Rattle.theorems_largest.proofs.Inner.{inner_bound}
 use Rattle.vectors.proofs.Descriptions.{D}
 
@@ -35,49 +35,49 @@ long n =
     (8 + bytes) % 256 ∷ (8 + bytes) / 256 ∷ 0x01 ∷ 0x00 ∷ n ∷ 0x01 ∷ 0x01 ∷ 0x00 ∷ replicate bytes 0xE8
 
 -- K is N / 2, and r is 1
-abbrev longCode : ℕ → Code
-longCode n = record { n = n; r = 1; polynomial = 1; start = 0; k = 2 ^ n / 2 - 1 }
+abbrev long_code : ℕ → Code
+long_code n = record { n = n; r = 1; polynomial = 1; start = 0; k = 2 ^ n / 2 - 1 }
 
 -- n = 3 is D's. If n may be at most 10, 10 is accepted, and 11, 12 and 13 are refused as 4; of these 11 and 12 are accepted with `largestN`.
-pub long-rows :
+pub long_rows :
     (long 3 ≡ D)
-    × (describeUpTo 10 D ≡ Accepted (longCode 3))
-    × (describeUpTo 10 (long 10) ≡ Accepted (longCode 10))
-    × (describeUpTo 10 (long 11) ≡ Refused (Alone 4))
-    × (describeUpTo 10 (long 12) ≡ Refused (Alone 4))
-    × (describeUpTo 10 (long 13) ≡ Refused (Alone 4))
-    × (describe (long 11) ≡ Accepted (longCode 11))
-    × (describe (long 12) ≡ Accepted (longCode 12))
+    × (describe_up_to 10 D ≡ Accepted (long_code 3))
+    × (describe_up_to 10 (long 10) ≡ Accepted (long_code 10))
+    × (describe_up_to 10 (long 11) ≡ Refused (Alone 4))
+    × (describe_up_to 10 (long 12) ≡ Refused (Alone 4))
+    × (describe_up_to 10 (long 13) ≡ Refused (Alone 4))
+    × (describe (long 11) ≡ Accepted (long_code 11))
+    × (describe (long 12) ≡ Accepted (long_code 12))
     × (describe (long 13) ≡ Refused (Alone 4))
-unfolding describeUpTo judge refusedOr onesBelow
-long-rows = (refl, refl, refl, refl, refl, refl, refl, refl, refl)
+unfolding describe_up_to judge refused_or ones_below
+long_rows = (refl, refl, refl, refl, refl, refl, refl, refl, refl)
 
 -- under D, and at n = 10, every operation answers as if n were at most 10
-pub D-as-10 : AnswersAs 10 D
-D-as-10 = as-10 D (longCode 3) long-rows.1
+pub D_as_10 : AnswersAs 10 D
+D_as_10 = as_10 D (long_code 3) long_rows.1
 
-pub long-as-10 : AnswersAs 10 (long 10)
-long-as-10 = as-10 (long 10) (longCode 10) long-rows.2
+pub long_as_10 : AnswersAs 10 (long 10)
+long_as_10 = as_10 (long 10) (long_code 10) long_rows.2
 
 -- D with r = 17 is refused as 6, and stays so
 abbrev wide : List ℕ
 wide = 0x09 ∷ 0x00 ∷ 0x01 ∷ 0x00 ∷ 0x03 ∷ 0x11 ∷ 0x01 ∷ 0x00 ∷ 0xE8 ∷ []
 
-wide-refused : describeUpTo 10 wide ≡ Refused (Alone 6)
-unfolding describeUpTo judge refusedOr
-wide-refused = refl
+wide_refused : describe_up_to 10 wide ≡ Refused (Alone 6)
+unfolding describe_up_to judge refused_or
+wide_refused = refl
 
-pub wide-stays : (refuse : Refusal → ℕ) (go : Code → ℕ) → onDescription (describeUpTo largestN wide) refuse go ≡ refuse (Alone 6)
-wide-stays refuse go = sym (old-answers ℕ refuse go 10 largestN wide (omega arith) (λ e. let six : describeUpTo 10 wide ≡ Refused (Alone 6) = wide-refused in let z : ◌≡◌ {A = ℕ} 4 6 = cc in omega arith))
-    ∙ ap (λ (x : Description). onDescription x refuse go) wide-refused
+pub wide_stays : (refuse : Refusal → ℕ) (go : Code → ℕ) → on_description (describe_up_to largest_n wide) refuse go ≡ refuse (Alone 6)
+wide_stays refuse go = sym (old_answers ℕ refuse go 10 largest_n wide (omega arith) (λ e. let six : describe_up_to 10 wide ≡ Refused (Alone 6) = wide_refused in let z : ◌≡◌ {A = ℕ} 4 6 = cc in omega arith))
+    ∙ ap (λ (x : Description). on_description x refuse go) wide_refused
 
 -- at n = 12 the description has another answer
-pub new-12 : NewAnswer 10 largestN (long 12)
-new-12 = record {
-  refused = long-rows.4;
+pub new_12 : NewAnswer 10 largest_n (long 12)
+new_12 = record {
+  refused = long_rows.4;
   above = omega arith;
   most = omega arith;
-  other = λ e. let code : describe (long 12) ≡ Accepted (longCode 12) = long-rows.7 in let z : ◌≡◌ {A = ℕ} 0 1 = cc in omega arith;
+  other = λ e. let code : describe (long 12) ≡ Accepted (long_code 12) = long_rows.7 in let z : ◌≡◌ {A = ℕ} 0 1 = cc in omega arith;
 }
 
 -- ---- the bound of a leaf
@@ -86,17 +86,17 @@ new-12 = record {
 abbrev loud : ℕ → List ℕ
 loud size = replicate size 31
 
-loud-inside : (size : ℕ) → firstOutside (loud size) ≡ length (loud size)
-unfolding channelValue
+loud-inside : (size : ℕ) → first_outside (loud size) ≡ length (loud size)
+unfolding channel_value
 loud-inside size =
-    first-is (λ i. ltb 31 (nat_abs (channelValue (get_or (loud size) i 0)))) (length (loud size)) (length (loud size)) (omega arith)
-    (λ k l. ap (λ (b : ℕ). ltb 31 (nat_abs (channelValue b))) (get_or-replicate size k 31 0 (omega (arith, length-replicate {A = ℕ} size 31)))) (λ l. absurd (omega arith))
+    first-is (λ i. ltb 31 (nat_abs (channel_value (get_or (loud size) i 0)))) (length (loud size)) (length (loud size)) (omega arith)
+    (λ k l. ap (λ (b : ℕ). ltb 31 (nat_abs (channel_value b))) (get_or-replicate size k 31 0 (omega (arith, length-replicate {A = ℕ} size 31)))) (λ l. absurd (omega arith))
 
 -- at n = 12, under any forced bits and any rules
-pub loud-12 : (p : List ℕ) (rule : ℕ → Rule) (i : ℕ) → nat_abs (get_or (node 12 p rule (channelValues (loud longest))).leaves i (pos 0)) ≤ 126976
-loud-12 p rule i = inner_bound.bounded (long 12) (longCode 12) (loud longest) p rule i long-rows.7 refl (loud-inside longest)
+pub loud_12 : (p : List ℕ) (rule : ℕ → Rule) (i : ℕ) → nat_abs (get_or (node 12 p rule (channel_values (loud longest))).leaves i (pos 0)) ≤ 126976
+loud_12 p rule i = inner_bound.bounded (long 12) (long_code 12) (loud longest) p rule i long_rows.7 refl (loud-inside longest)
 
 -- under D the last leaf reaches 31 · 2^3
-pub loudest-3 : get_or (firstTrial (mask_of D) (longCode 3) (channelValues (loud 8))).leaves 7 (pos 0) ≡ pos 248
-unfolding table onesBelow covers parity transformed xors channelValue f g leftValues rightValues node
-loudest-3 = refl
+pub loudest_3 : get_or (first_trial (mask_of D) (long_code 3) (channel_values (loud 8))).leaves 7 (pos 0) ≡ pos 248
+unfolding table ones_below covers parity transformed xors channel_value f g left_values right_values node
+loudest_3 = refl

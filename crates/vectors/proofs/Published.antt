@@ -9,28 +9,28 @@ use borrow.Author.Tests.{ltb-true}
 use lib.Dec.{ltb, eqb}
 use lib.IntN.{nat_abs}
 use lib.ListN.{length, get_or, replicate, get_or-map}
-use Rattle.laws.specs.First.{firstWhere}
+use Rattle.laws.specs.First.{first_where}
 use Rattle.laws.specs.Table.{table}
-use Rattle.laws.proofs.Table.{getD-table}
-use Rattle.refusal.specs.Judge.{judge, refusedOr}
+use Rattle.laws.proofs.Table.{get_or-table}
+use Rattle.refusal.specs.Judge.{judge, refused_or}
 use Rattle.bits.specs.Bit.{bits_of, number}
-use Rattle.bits.specs.Mask.{onesBelow}
+use Rattle.bits.specs.Mask.{ones_below}
 use Rattle.bits.specs.Packing.{packed, unpacked}
 use Rattle.code.specs.declared.Code.{Code}
 use Rattle.code.specs.declared.Description.TheVariants as Description
-use Rattle.code.specs.Description.{describeUpTo, describe}
-use Rattle.crc.specs.Check.{checkOf}
+use Rattle.code.specs.Description.{describe_up_to, describe}
+use Rattle.crc.specs.Check.{check_of}
 use Rattle.transform.specs.Transform.{covers, parity, transformed}
 use Rattle.placing.specs.Place.{placed}
 use Rattle.values.specs.Values.{hard}
-use Rattle.channel.specs.Channel.{channelValue, firstOutside}
+use Rattle.channel.specs.Channel.{channel_value, first_outside}
 use Rattle.encoder.specs.declared.Encoded.TheVariants.{Done}
-use Rattle.encoder.specs.Encode.{messageOf, codeword, encodedBy, encoded}
+use Rattle.encoder.specs.Encode.{message_of, codeword, encoded_by, encoded}
 use Rattle.flip_run.specs.declared.Decoded.TheVariants.{Accepted}
-use Rattle.decoder.specs.Decoder.{single, decodedFull, decodedRestarted}
-use Rattle.decoder.proofs.Decoder.{spelt-out}
+use Rattle.decoder.specs.Decoder.{single, decoded_full, decoded_restarted}
+use Rattle.decoder.proofs.Decoder.{spelt_out}
 use Rattle.decoder_demands.specs.Noiseless.{Received}
-use Rattle.decoder_demands.proofs.Noiseless.{noiseless-decoding}
+use Rattle.decoder_demands.proofs.Noiseless.{noiseless_decoding}
 
 -- kind 4, N = 128, r = 16, the polynomial z^16 + z^12 + z^5 + 1, start FFFF, and the indices from 40 on
 abbrev description : List ℕ
@@ -48,35 +48,35 @@ digits = 0x31 ∷ 0x32 ∷ 0x33 ∷ 0x34 ∷ 0x35 ∷ 0x36 ∷ 0x37 ∷ 0x38 ∷
 abbrev sent : List ℕ
 sent = 0x57 ∷ 0x08 ∷ 0xF8 ∷ 0xE3 ∷ 0x57 ∷ 0xA2 ∷ 0x07 ∷ 0x2A ∷ 0x07 ∷ 0xA2 ∷ 0x07 ∷ 0xE6 ∷ 0x07 ∷ 0x08 ∷ 0xF8 ∷ 0x2F ∷ []
 
-pub ibm-3740-code : describe description ≡ Description.Accepted code
-unfolding describeUpTo judge refusedOr onesBelow
-ibm-3740-code = refl
+pub ibm_3740_code : describe description ≡ Description.Accepted code
+unfolding describe_up_to judge refused_or ones_below
+ibm_3740_code = refl
 
 -- the message has the published check after the string
-pub ibm-3740-message : messageOf code (unpacked digits 72) ≡ unpacked digits 72 ++ bits_of 16 0x29B1
-unfolding checkOf unpacked table
-ibm-3740-message = refl
+pub ibm_3740_message : message_of code (unpacked digits 72) ≡ unpacked digits 72 ++ bits_of 16 0x29B1
+unfolding check_of unpacked table
+ibm_3740_message = refl
 
 -- and it is encoded, whatever bytes the output held
-pub ibm-3740-encoded : (output : List ℕ) → length output ≡ 16 → encoded description digits output ≡ (Done, sent)
-unfolding judge refusedOr table number onesBelow packed unpacked describeUpTo checkOf covers parity transformed placed codeword encodedBy encoded
-ibm-3740-encoded output size = rw size
+pub ibm_3740_encoded : (output : List ℕ) → length output ≡ 16 → encoded description digits output ≡ (Done, sent)
+unfolding judge refused_or table number ones_below packed unpacked describe_up_to check_of covers parity transformed placed codeword encoded_by encoded
+ibm_3740_encoded output size = rw size
 
 -- ---- received at strength 4, it decodes to the string on trial 1, by the noiseless clause
 
 abbrev received : List ℕ
 received = map (λ b. cond (eqb b 1) 0xFC 0x04) (unpacked sent 128)
 
-values-inside : firstOutside received ≡ 128
-unfolding firstWhere channelValue unpacked table
+values-inside : first_outside received ≡ 128
+unfolding first_where channel_value unpacked table
 values-inside = refl
 
-signs : map (λ b. hard (channelValue b)) received ≡ unpacked sent 128
-unfolding channelValue unpacked table
+signs : map (λ b. hard (channel_value b)) received ≡ unpacked sent 128
+unfolding channel_value unpacked table
 signs = refl
 
-strengths : map (λ b. nat_abs (channelValue b)) received ≡ table (λ j. 4) 128
-unfolding channelValue unpacked table
+strengths : map (λ b. nat_abs (channel_value b)) received ≡ table (λ j. 4) 128
+unfolding channel_value unpacked table
 strengths = refl
 
 abbrev all_below : List ℕ → Bool
@@ -89,23 +89,23 @@ small [] e m = omega arith
 small (x ∷ xs) e zero = ltb-true x 256 ((and-eq-true_iff (ltb x 256) (all_below xs)).0 e).0
 small (x ∷ xs) e (suc m) = small xs ((and-eq-true_iff (ltb x 256) (all_below xs)).0 e).1 m
 
-with-signs : Received 128 description digits received
-unfolding channelValue
-with-signs = record {
+with_signs : Received 128 description digits received
+unfolding channel_value
+with_signs = record {
   bytes = small digits refl;
   buffer = replicate 16 0;
   codeword = sent;
-  encodes = ibm-3740-encoded (replicate 16 0) refl;
-  sign = λ j l. sym (get_or-map (λ b. hard (channelValue b)) received j 0) ∙ ap (λ (x : List ℕ). get_or x j 0) signs;
+  encodes = ibm_3740_encoded (replicate 16 0) refl;
+  sign = λ j l. sym (get_or-map (λ b. hard (channel_value b)) received j 0) ∙ ap (λ (x : List ℕ). get_or x j 0) signs;
   strength = λ j l.
-      omega (arith, sym (get_or-map (λ b. nat_abs (channelValue b)) received j 0) ∙ ap (λ (x : List ℕ). get_or x j 0) strengths ∙ getD-table (λ j. 4) 128 j 0 l);
+      omega (arith, sym (get_or-map (λ b. nat_abs (channel_value b)) received j 0) ∙ ap (λ (x : List ℕ). get_or x j 0) strengths ∙ get_or-table (λ j. 4) 128 j 0 l);
 }
 
 -- for every T that 14 allows and every output of nine bytes
-pub ibm-3740-decoded : (T : ℕ) (output : List ℕ) → 1 ≤ T → T ≤ 89 → length output ≡ 9 → (decodedFull description received T output ≡ (Accepted 1 896, digits)) × (decodedRestarted description received T output ≡ (Accepted 1 896, digits))
+pub ibm_3740_decoded : (T : ℕ) (output : List ℕ) → 1 ≤ T → T ≤ 89 → length output ≡ 9 → (decoded_full description received T output ≡ (Accepted 1 896, digits)) × (decoded_restarted description received T output ≡ (Accepted 1 896, digits))
 unfolding unpacked table
-ibm-3740-decoded T output least most size =
-    noiseless-decoding description code digits received T output with-signs (record {
-      described = ibm-3740-code;
-      fine = (spelt-out (single T) code received output).0 (record { channel-size = refl; in-range = values-inside; allowed = (least, most); output-size = size });
+ibm_3740_decoded T output least most size =
+    noiseless_decoding description code digits received T output with_signs (record {
+      described = ibm_3740_code;
+      fine = (spelt_out (single T) code received output).0 (record { channel_size = refl; in_range = values-inside; allowed = (least, most); output_size = size });
     })

@@ -1,6 +1,6 @@
 // A walk along a mask. Its counts are private: only `start` and `look` make a walk, so that n looks are reported by n calls of `look` alone.
 ghost use Rattle.std.specs.Prelude.{◌≡◌, ◌*◌, ◌^◌, ◌≤◌, ◌<◌, length};
-ghost use Rattle.bits.specs.Mask.{maskBit};
+ghost use Rattle.bits.specs.Mask.{mask_bit};
 ghost use Rattle.walk.specs.Walked.{at_start, looked};
 
 // What a walk has counted.
@@ -34,7 +34,7 @@ impl Walk {
         requires { (8 * length mask.now < 2 ^ 64)
             × (self.looks < 8 * length mask.now)
             × (self.ones ≤ self.looks) }
-        ensures { (result.bit ≡ maskBit mask.now self.looks)
+        ensures { (result.bit ≡ mask_bit mask.now self.looks)
             × (result.walk ≡ looked mask.now self) }
     {
         let bit = bits::mask_bit(mask, self.looks);

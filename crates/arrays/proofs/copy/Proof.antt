@@ -5,10 +5,10 @@ use native.Mathlib.Omega.{arith}
 use borrow.Author.Rules.{rules}
 use lib.ListN.{get_or}
 use Rattle.laws.specs.Table.{table}
-use Rattle.laws.specs.Contracts.{splice, segment}
-use Rattle.laws.proofs.Table.{table-getD}
-use Rattle.laws.proofs.Segment.{length-segment, getD-segment}
-use Rattle.laws.proofs.Filling.{Filling, filling-none, filling-more, filling-done}
+use Rattle.laws.specs.Clauses.{splice, segment}
+use Rattle.laws.proofs.Table.{table-get_or}
+use Rattle.laws.proofs.Segment.{length-segment, get_or-segment}
+use Rattle.laws.proofs.Filling.{Filling, filling_none, filling_more, filling_done}
 use Rattle.arrays.proofs.copy.Statement.{statement}
 use Rattle.arrays.proofs.copy.Tie as tie
 
@@ -22,7 +22,7 @@ loop-again : tie.Need-loop-preserved invariant-loop decreases-loop
 loop-again c =
     let s = c.before.before.before.args in
     let l = c.before.before.loop in
-    filling-more l.invariant _ _ (omega arith) refl (sym (getD-segment s.source.now s.start s.count l.j 0 (omega arith)))
+    filling_more l.invariant _ _ (omega arith) refl (sym (get_or-segment s.source.now s.start s.count l.j 0 (omega arith)))
 
 returns : tie.Need-returns invariant-loop decreases-loop
 returns c =
@@ -30,9 +30,9 @@ returns c =
     let source = s.args.source.now in
     let count = s.args.count in
     let long = length-segment source s.args.start count (omega arith) in
-    filling-done c.before.loop.invariant (omega arith) (omega arith)
+    filling_done c.before.loop.invariant (omega arith) (omega arith)
     ∙ ap (λ (n : ℕ). splice s.args.target.now s.args.at (table (λ i. get_or (segment source s.args.start count) i 0) n)) (sym long)
-    ∙ ap (splice s.args.target.now s.args.at) (table-getD (segment source s.args.start count) 0)
+    ∙ ap (splice s.args.target.now s.args.at) (table-get_or (segment source s.args.start count) 0)
 
 pub copy_spec : {M : Type 1} → statement M
 copy_spec =
@@ -40,7 +40,7 @@ copy_spec =
     (tie.spec
     invariant-loop
     decreases-loop
-    (λ c. filling-none)
+    (λ c. filling_none)
     (λ c. search rules)
     (λ c. search rules)
     (λ c. search rules)

@@ -11,12 +11,12 @@ use lib.Bits.{bit_or, or_add_and, or_zero_l, and_le_l, and_le_r}
 use lib.Dec.{eqb}
 use lib.ListN.{length, get_or, drop, drop_of_length-le}
 use lib.Seq.{drop-cons}
-use Rattle.arrays.specs.Padded.{allZero}
+use Rattle.arrays.specs.Padded.{all_zero}
 use Rattle.arrays.proofs.is_zero_from.Statement.{statement}
 use Rattle.arrays.proofs.is_zero_from.Tie as tie
 
 abbrev invariant-loop : tie.invariant-loop
-invariant-loop bytes start any₀ i₀ any i = (i ≤ length bytes) × ((eqb any 0 && allZero (drop i bytes)) ≡ allZero (drop start bytes))
+invariant-loop bytes start any₀ i₀ any i = (i ≤ length bytes) × ((eqb any 0 && all_zero (drop i bytes)) ≡ all_zero (drop start bytes))
 
 abbrev decreases-loop : tie.decreases-loop
 decreases-loop bytes start any₀ i₀ any i = length bytes - i
@@ -35,19 +35,19 @@ or-is-zero a b = go (eqb a 0) (eqb b 0) refl refl
 
 -- the next byte is one of the rest
 next : (any : ℕ) (bytes : List ℕ) (i : ℕ) → i < length bytes
-    → (eqb (bit_or any (get_or bytes i 0)) 0 && allZero (drop (i + 1) bytes)) ≡ (eqb any 0 && allZero (drop i bytes))
-unfolding allZero
+    → (eqb (bit_or any (get_or bytes i 0)) 0 && all_zero (drop (i + 1) bytes)) ≡ (eqb any 0 && all_zero (drop i bytes))
+unfolding all_zero
 next any bytes i l =
-    ap (λ (t : Bool). t && allZero (drop (i + 1) bytes)) (or-is-zero any (get_or bytes i 0)) ∙ rest (eqb any 0)
+    ap (λ (t : Bool). t && all_zero (drop (i + 1) bytes)) (or-is-zero any (get_or bytes i 0)) ∙ rest (eqb any 0)
   where
-    rest : (t : Bool) → ((t && eqb (get_or bytes i 0) 0) && allZero (drop (i + 1) bytes)) ≡ (t && allZero (drop i bytes))
-    rest true = rw add-one (sym (ap allZero (drop-cons bytes i 0 l)))
+    rest : (t : Bool) → ((t && eqb (get_or bytes i 0) 0) && all_zero (drop (i + 1) bytes)) ≡ (t && all_zero (drop i bytes))
+    rest true = rw add-one (sym (ap all_zero (drop-cons bytes i 0 l)))
     rest false = refl
 
 -- at the end nothing is left
-last : (t : Bool) (bytes : List ℕ) (i : ℕ) → length bytes ≤ i → t ≡ (t && allZero (drop i bytes))
-unfolding allZero
-last true bytes i l = sym (ap allZero (drop_of_length-le bytes l))
+last : (t : Bool) (bytes : List ℕ) (i : ℕ) → length bytes ≤ i → t ≡ (t && all_zero (drop i bytes))
+unfolding all_zero
+last true bytes i l = sym (ap all_zero (drop_of_length-le bytes l))
 last false bytes i l = refl
 
 loop-holds : tie.Need-loop-init invariant-loop decreases-loop

@@ -5,19 +5,19 @@ use native.Mathlib.Omega.{arith}
 use borrow.Author.Rules.{rules}
 use lib.Count as count
 use lib.ListN.{length, get_or}
-use Rattle.bits.specs.Mask.{onesBelow}
-use Rattle.bits.proofs.Mask.{ones-next, ones-le}
+use Rattle.bits.specs.Mask.{ones_below}
+use Rattle.bits.proofs.Mask.{ones_next, ones_le}
 use Rattle.bits.proofs.ones.Statement.{statement}
 use Rattle.bits.proofs.ones.Tie as tie
 
 abbrev invariant-loop : tie.invariant-loop
-invariant-loop mask count₀ m₀ count m = (m ≤ length mask) × (count ≡ onesBelow mask (8 * m))
+invariant-loop mask count₀ m₀ count m = (m ≤ length mask) × (count ≡ ones_below mask (8 * m))
 
 abbrev decreases-loop : tie.decreases-loop
 decreases-loop mask count₀ m₀ count m = length mask - m
 
 loop-holds : tie.Need-loop-init invariant-loop decreases-loop
-unfolding onesBelow
+unfolding ones_below
 loop-holds c = (search rules, refl)
 
 -- the byte that a turn reads
@@ -26,7 +26,7 @@ byte c = omega (arith, c.shared-slice-known.given c.before.before.loop.m)
 
 add-count : tie.Need-overflow-add-count invariant-loop decreases-loop
 add-count c =
-    omega (arith, count.ones-le 8 _ (byte c), ones-le c.before.before.before.args.mask.now (8 * c.before.before.loop.m))
+    omega (arith, count.ones-le 8 _ (byte c), ones_le c.before.before.before.args.mask.now (8 * c.before.before.loop.m))
 
 returns : tie.Need-returns invariant-loop decreases-loop
 returns c = let e : c.before.loop.m ≡ length c.before.before.args.mask.now = omega arith in cc
@@ -43,5 +43,5 @@ ones-spec =
     add-count
     (λ c. search rules)
     (λ c. search rules)
-    (λ c. (search rules, cc (ones-next _ _ (byte c))))
+    (λ c. (search rules, cc (ones_next _ _ (byte c))))
     returns)

@@ -5,13 +5,13 @@ use native.Mathlib.Omega.{arith}
 use borrow.Author.Rules.{rules}
 use lib.ListN.{length}
 use Rattle.laws.specs.Table.{table}
-use Rattle.laws.proofs.Filling.{Filling, filling-none, filling-more, filling-whole}
-use Rattle.bits.specs.Packing.{packedByte, packed}
+use Rattle.laws.proofs.Filling.{Filling, filling_none, filling_more, filling_whole}
+use Rattle.bits.specs.Packing.{packed_byte, packed}
 use Rattle.bits.proofs.pack.Statement.{statement}
 use Rattle.bits.proofs.pack.Tie as tie
 
 abbrev invariant-loop : tie.invariant-loop
-invariant-loop bits bytes₀ m₀ bytes m = Filling (packedByte bits) 0 (length bytes₀) bytes₀ bytes m
+invariant-loop bits bytes₀ m₀ bytes m = Filling (packed_byte bits) 0 (length bytes₀) bytes₀ bytes m
 
 abbrev decreases-loop : tie.decreases-loop
 decreases-loop bits bytes₀ m₀ bytes m = length bytes₀ - m
@@ -19,13 +19,13 @@ decreases-loop bits bytes₀ m₀ bytes m = length bytes₀ - m
 loop-again : tie.Need-loop-preserved invariant-loop decreases-loop
 loop-again c =
     let l = c.before.before.loop in
-    filling-more l.invariant l.m c.packed_byte.result (omega arith) (omega arith) c.packed_byte.ensures
+    filling_more l.invariant l.m c.packed_byte.result (omega arith) (omega arith) c.packed_byte.ensures
 
 returns : tie.Need-returns invariant-loop decreases-loop
 unfolding packed
 returns c =
     let s = c.before.before.before.before in
-    filling-whole c.before.loop.invariant (omega arith) ∙ ap (table (packedByte s.args.bits.now)) s.requires.1
+    filling_whole c.before.loop.invariant (omega arith) ∙ ap (table (packed_byte s.args.bits.now)) s.requires.1
 
 pub pack-spec : {M : Type 1} → statement M
 pack-spec =
@@ -33,7 +33,7 @@ pack-spec =
     (tie.spec
     invariant-loop
     decreases-loop
-    (λ c. filling-none)
+    (λ c. filling_none)
     (λ c κs. (c.before.before.before.before.requires.0, omega arith))
     (λ c. search rules)
     (λ c. search rules)

@@ -4,7 +4,7 @@ use Prim.Native.Nat.{ℕ, ◌-◌, ◌/◌, ◌%◌}
 use native.Mathlib.Omega.{arith}
 use borrow.Author.Rules.{rules}
 use lib.ListN.{length, get_or}
-use Rattle.laws.proofs.Filling.{Filling, filling-none, filling-more, filling-whole}
+use Rattle.laws.proofs.Filling.{Filling, filling_none, filling_more, filling_whole}
 use Rattle.bits.specs.Bit.{bit}
 use Rattle.bits.specs.Packing.{unpacked}
 use Rattle.bits.proofs.unpack.Statement.{statement}
@@ -22,11 +22,11 @@ decreases-loop bytes bits₀ i₀ bits i = length bits₀ - i
 loop-again : tie.Need-loop-preserved invariant-loop decreases-loop
 loop-again c =
     let l = c.before.before.before.loop in
-    filling-more l.invariant l.i c.bit-of.result (omega arith) (omega arith) c.bit-of.ensures
+    filling_more l.invariant l.i c.bit-of.result (omega arith) (omega arith) c.bit-of.ensures
 
 returns : tie.Need-returns invariant-loop decreases-loop
 unfolding unpacked
-returns c = filling-whole c.before.loop.invariant (omega arith)
+returns c = filling_whole c.before.loop.invariant (omega arith)
 
 pub unpack-spec : {M : Type 1} → statement M
 unpack-spec =
@@ -34,7 +34,7 @@ unpack-spec =
     (tie.spec
     invariant-loop
     decreases-loop
-    (λ c. filling-none)
+    (λ c. filling_none)
     (λ c. search rules)
     (λ c. search rules)
     (λ c κs. search rules)

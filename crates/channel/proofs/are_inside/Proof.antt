@@ -8,20 +8,20 @@ use borrow.Author.Tests.{le-leb}
 use lib.Dec.{ltb, leb}
 use lib.IntN.{nat_abs}
 use lib.ListN.{length, get_or}
-use Rattle.channel.specs.Channel.{channelValue, firstOutside}
+use Rattle.channel.specs.Channel.{channel_value, first_outside}
 use Rattle.channel.proofs.Inside.{none-next, none-all}
 use Rattle.channel.proofs.are_inside.Statement.{statement}
 use Rattle.channel.proofs.are_inside.Tie as tie
 
 abbrev invariant-loop : tie.invariant-loop
-invariant-loop channel inside₀ i₀ inside i = (i ≤ length channel) × (inside ≡ leb i (firstOutside channel))
+invariant-loop channel inside₀ i₀ inside i = (i ≤ length channel) × (inside ≡ leb i (first_outside channel))
 
 abbrev decreases-loop : tie.decreases-loop
 decreases-loop channel inside₀ i₀ inside i = length channel - i
 
 module _ (s : tie.Start invariant-loop decreases-loop) where
   abbrev test : ℕ → Bool
-  test j = ltb 31 (nat_abs (channelValue (get_or s.args.channel.now j 0)))
+  test j = ltb 31 (nat_abs (channel_value (get_or s.args.channel.now j 0)))
 
 loop-again : tie.Need-loop-preserved invariant-loop decreases-loop
 loop-again c =
@@ -35,7 +35,7 @@ returns c =
     let s = c.before.before.before in
     let channel = s.args.channel.now in
     let end : l.i ≡ length channel = omega (arith, l.invariant.0) in
-    l.invariant.1 ∙ ap (λ (k : ℕ). leb k (firstOutside channel)) end ∙ none-all (test s) (length channel)
+    l.invariant.1 ∙ ap (λ (k : ℕ). leb k (first_outside channel)) end ∙ none-all (test s) (length channel)
 
 pub are-inside-spec : {M : Type 1} → statement M
 are-inside-spec =
@@ -43,7 +43,7 @@ are-inside-spec =
     (tie.spec
     invariant-loop
     decreases-loop
-    (λ c. (omega arith, sym (le-leb 0 (firstOutside c.before.args.channel.now) (omega arith))))
+    (λ c. (omega arith, sym (le-leb 0 (first_outside c.before.args.channel.now) (omega arith))))
     (λ c. search rules)
     (λ c κs. search rules)
     (λ c. search rules)

@@ -6,24 +6,24 @@ use borrow.Author.Rules.{rules}
 use borrow.Author.Tests.{lt-ltb, le-ltb}
 use lib.IntN.{pos, ◌-ℤ◌}
 use mir.Syntax.{w32}
-use Rattle.laws.proofs.Signed.{sfits, back-small, minus-fits, minus_is}
-use Rattle.channel.specs.Channel.{channelValue}
+use Rattle.laws.proofs.Signed.{sfits, back-small, minus_fits, minus_is}
+use Rattle.channel.specs.Channel.{channel_value}
 use Rattle.channel.proofs.channel_value.Statement.{statement}
 use Rattle.channel.proofs.channel_value.Tie as tie
 
 sub-result : tie.Need-overflow-sub-result
 sub-result c =
     let b = c.before.args.byte in
-    minus-fits w32 (pos b) (pos 256) (sfits w32 (pos b) (omega arith)) (sfits w32 (pos 256) (omega arith)) (omega arith)
+    minus_fits w32 (pos b) (pos 256) (sfits w32 (pos b) (omega arith)) (sfits w32 (pos 256) (omega arith)) (omega arith)
 
 returns : tie.Need-returns
-unfolding channelValue
+unfolding channel_value
 returns c =
     let b = c.before.args.byte in
     back-small w32 (pos b) (omega arith) ∙ ap (λ (t : Bool). cond t (pos b) (pos b -ℤ pos 256)) (sym (lt-ltb b 128 c.if1.true))
 
 returns-2 : tie.Need-returns-2
-unfolding channelValue
+unfolding channel_value
 returns-2 c =
     let b = c.before.args.byte in
     minus_is w32 (pos b) (pos 256) (sfits w32 (pos b) (omega arith)) (sfits w32 (pos 256) (omega arith)) (omega arith)

@@ -12,13 +12,13 @@ use lib.Signed.{lt_z}
 use mir.Syntax.{w32}
 use Rattle.laws.proofs.Choice.{cond_ind}
 use Rattle.laws.proofs.First.{first-is}
-use Rattle.laws.proofs.Signed.{back, back-small, abs-minus}
-use Rattle.channel.specs.Channel.{channelValue}
+use Rattle.laws.proofs.Signed.{back, back-small, abs_minus}
+use Rattle.channel.specs.Channel.{channel_value}
 use Rattle.channel.proofs.find_outside.Statement.{statement}
 use Rattle.channel.proofs.find_outside.Tie as tie
 
 abbrev invariant-loop : tie.invariant-loop
-invariant-loop channel i₀ i = (i ≤ length channel) × ((k : ℕ) → k < i → ltb 31 (nat_abs (channelValue (get_or channel k 0))) ≡ false)
+invariant-loop channel i₀ i = (i ≤ length channel) × ((k : ℕ) → k < i → ltb 31 (nat_abs (channel_value (get_or channel k 0))) ≡ false)
 
 abbrev decreases-loop : tie.decreases-loop
 decreases-loop channel i₀ i = length channel - i
@@ -27,13 +27,13 @@ decreases-loop channel i₀ i = length channel - i
 byte : (c : tie.After-shared-slice-known2 invariant-loop decreases-loop) → get_or c.before.before.before.before.args.channel.now c.before.before.loop.i 0 < 256
 byte c = omega (arith, c.shared-slice-known2.given c.before.before.loop.i)
 
-channel-abs : (b : ℕ) → nat_abs (channelValue b) ≤ b + 256
-unfolding channelValue
+channel-abs : (b : ℕ) → nat_abs (channel_value b) ≤ b + 256
+unfolding channel_value
 channel-abs b =
-    cond_ind (λ (z : ℤ). nat_abs z ≤ b + 256) (ltb b 128) (pos b) (pos b -ℤ pos 256) (λ t. omega arith) (λ t. abs-minus (pos b) (pos 256))
+    cond_ind (λ (z : ℤ). nat_abs z ≤ b + 256) (ltb b 128) (pos b) (pos b -ℤ pos 256) (λ t. omega arith) (λ t. abs_minus (pos b) (pos 256))
 
-value-back : (z : ℤ) (b : ℕ) → z ≡ channelValue b → b < 256 → back w32 z ≡ channelValue b
-value-back z b e l = ap (back w32) e ∙ back-small w32 (channelValue b) (omega (arith, channel-abs b))
+value-back : (z : ℤ) (b : ℕ) → z ≡ channel_value b → b < 256 → back w32 z ≡ channel_value b
+value-back z b e l = ap (back w32) e ∙ back-small w32 (channel_value b) (omega (arith, channel-abs b))
 
 magnitude-requires : tie.Need-magnitude-requires invariant-loop decreases-loop
 magnitude-requires c κs =
@@ -43,12 +43,12 @@ magnitude-requires c κs =
 -- the test of a turn
 test : (c : tie.After-magnitude invariant-loop decreases-loop) →
     let channel = c.before.before.before.before.before.before.args.channel.now in
-    lt_z (pos 31) (back w32 c.magnitude.result) ≡ ltb 31 (nat_abs (channelValue (get_or channel c.before.before.before.before.loop.i 0)))
+    lt_z (pos 31) (back w32 c.magnitude.result) ≡ ltb 31 (nat_abs (channel_value (get_or channel c.before.before.before.before.loop.i 0)))
 test c =
     let b = get_or c.before.before.before.before.before.before.args.channel.now c.before.before.before.before.loop.i 0 in
     let l = byte c.before.before in
     let m = c.magnitude.ensures ∙ ap (λ (z : ℤ). pos (nat_abs z)) (value-back _ b c.before.channel-value.ensures l) in
-    ap (λ (z : ℤ). lt_z (pos 31) z) (ap (back w32) m ∙ back-small w32 (pos (nat_abs (channelValue b))) (omega (arith, channel-abs b)))
+    ap (λ (z : ℤ). lt_z (pos 31) z) (ap (back w32) m ∙ back-small w32 (pos (nat_abs (channel_value b))) (omega (arith, channel-abs b)))
 
 returns : tie.Need-returns invariant-loop decreases-loop
 returns c =

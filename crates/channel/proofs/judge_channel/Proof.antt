@@ -9,7 +9,7 @@ use lib.ListN.{length}
 use Rattle.laws.proofs.Powers.{one_shl}
 use Rattle.refusal.specs.declared.Refusal.TheVariants.{At}
 use Rattle.refusal.specs.declared.Judgement.TheVariants.{Refused}
-use Rattle.refusal.proofs.Judge.{judge-none, judge-yes, judge-no}
+use Rattle.refusal.proofs.Judge.{judge-none, judge_yes, judge_no}
 use Rattle.channel.proofs.judge_channel.Statement.{statement}
 use Rattle.channel.proofs.judge_channel.Tie as tie
 
@@ -26,7 +26,7 @@ long c = c.if1.false ∙ size (start c)
 returns : tie.Need-returns
 returns c =
     let s = c.before.before.before in
-    sym (judge-yes _ _ _ (ap not (ne_eqb _ _ (λ e. c.if1.true (e ∙ sym (size s))))))
+    sym (judge_yes _ _ _ (ap not (ne_eqb _ _ (λ e. c.if1.true (e ∙ sym (size s))))))
 
 returns-2 : tie.Need-returns-2
 returns-2 c =
@@ -34,16 +34,16 @@ returns-2 c =
     let channel = (start e).args.channel.now in
     let i = c.before.first-outside.ensures in
     ap (λ (k : ℕ). Refused (At 13 k)) i
-    ∙ sym (judge-no _ _ _ (ap not (eq-eqb _ _ (long e)))
-    ∙ judge-yes _ _ _ (lt-ltb _ _ (subst (λ (k : ℕ). k < length channel) i c.if2.true)))
+    ∙ sym (judge_no _ _ _ (ap not (eq-eqb _ _ (long e)))
+    ∙ judge_yes _ _ _ (lt-ltb _ _ (subst (λ (k : ℕ). k < length channel) i c.if2.true)))
 
 returns-3 : tie.Need-returns-3
 returns-3 c =
     let e = c.before.before in
     let channel = (start e).args.channel.now in
     let i = c.before.first-outside.ensures in
-    sym (judge-no _ _ _ (ap not (eq-eqb _ _ (long e)))
-    ∙ judge-no _ _ _ (le-ltb _ _ (subst (λ (k : ℕ). length channel ≤ k) i c.if2.false)) ∙ judge-none)
+    sym (judge_no _ _ _ (ap not (eq-eqb _ _ (long e)))
+    ∙ judge_no _ _ _ (le-ltb _ _ (subst (λ (k : ℕ). length channel ≤ k) i c.if2.false)) ∙ judge-none)
 
 pub judge-channel-spec : {M : Type 1} → statement M
 judge-channel-spec =

@@ -2,7 +2,7 @@
 use mathlib.Core.Path.{◌∙◌}
 use borrow.Author.Rules.{rules}
 use borrow.Author.Tests.{eq-eqb, ne_eqb}
-use Rattle.laws.proofs.Choice.{or-first, or-second}
+use Rattle.laws.proofs.Choice.{or_first, or_second}
 use Rattle.code.proofs.is_description.Statement.{statement}
 use Rattle.code.proofs.is_description.Tie as tie
 
@@ -11,5 +11,5 @@ is-description-spec =
     tie.close
     (tie.spec
     (λ c κs. search rules)
-    (λ c. or-first _ _ (eq-eqb _ _ c.if1.true))
-    (λ c. c.has-start.ensures ∙ or-second _ _ (ne_eqb _ _ c.before.if1.false)))
+    (λ c. or_first _ _ (eq-eqb _ _ c.if1.true))
+    (λ c. c.has-start.ensures ∙ or_second _ _ (ne_eqb _ _ c.before.if1.false)))

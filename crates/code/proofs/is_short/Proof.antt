@@ -5,20 +5,20 @@ use borrow.Author.Rules.{rules}
 use borrow.Author.Tests.{lt-ltb}
 use lib.Dec.{ltb}
 use lib.ListN.{length}
-use Rattle.code.specs.Description.{word, maskAt}
-use Rattle.code.proofs.TwoKinds.{mask-at-least}
+use Rattle.code.specs.Description.{word, mask_at}
+use Rattle.code.proofs.TwoKinds.{mask_at_least}
 use Rattle.code.proofs.is_short.Statement.{statement}
 use Rattle.code.proofs.is_short.Tie as tie
 
 returns : tie.Need-returns
 returns c =
     let d = c.before.before.args.d.now in
-    lt-ltb _ _ c.if1.true ∙ sym (lt-ltb (length d) (maskAt (word d 2)) (omega (arith, c.if1.true, mask-at-least (word d 2))))
+    lt-ltb _ _ c.if1.true ∙ sym (lt-ltb (length d) (mask_at (word d 2)) (omega (arith, c.if1.true, mask_at_least (word d 2))))
 
 returns-2 : tie.Need-returns-2
 returns-2 c =
     let d = c.before.before.before.before.args.d.now in
-    ap (ltb (length d)) (c.mask_at.ensures ∙ ap maskAt c.before.read_word.ensures)
+    ap (ltb (length d)) (c.mask_at.ensures ∙ ap mask_at c.before.read_word.ensures)
 
 pub is-short-spec : {M : Type 1} → statement M
 is-short-spec =

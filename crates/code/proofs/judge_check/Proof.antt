@@ -7,17 +7,17 @@ use borrow.Author.Rules.{rules}
 use lib.ListN.{get_or, take, drop}
 use Rattle.refusal.specs.declared.Judgement.{Judgement}
 use Rattle.refusal.specs.Judge.{judge}
-use Rattle.refusal.proofs.Judge.{judge-none, judge-yes, judge-no}
+use Rattle.refusal.proofs.Judge.{judge-none, judge_yes, judge_no}
 use Rattle.refusal.proofs.Tests.{outside-past}
-use Rattle.code.specs.Description.{word, start_of, is_wide, badPolynomial}
-use Rattle.code.specs.Contracts.{descriptionRefusals}
+use Rattle.code.specs.Description.{word, start_of, is_wide, bad_polynomial}
+use Rattle.code.specs.Clauses.{description_refusals}
 use Rattle.code.proofs.TwoKinds.{fields-there}
 use Rattle.code.proofs.judge_check.Statement.{statement}
 use Rattle.code.proofs.judge_check.Tie as tie
 
 -- the judgement once the first i tests have failed
 abbrev past : ℕ → List ℕ → Judgement
-past i d = judge (drop i (take 3 (drop 5 (descriptionRefusals d))))
+past i d = judge (drop i (take 3 (drop 5 (description_refusals d))))
 
 abbrev bytes : tie.After-shared-slice-known2 → List ℕ
 bytes c = c.before.before.args.d.now
@@ -31,17 +31,17 @@ d2 c = d1 c.before.before.before
 r_small : (c : tie.Else1) → get_or (d1 c) 5 0 ≤ 16
 r_small c = (outside-past _ 1 16 (sym c.before.is-outside.ensures ∙ c.if1.false)).1
 
-bad-is : (c : tie.After-is-bad-polynomial) → c.is-bad-polynomial.result ≡ badPolynomial (word (d1 c.before.before) 6) (get_or (d1 c.before.before) 5 0)
-bad-is c = c.is-bad-polynomial.ensures ∙ ap (λ (p : ℕ). badPolynomial p (get_or (d1 c.before.before) 5 0)) c.before.read_word.ensures
+bad-is : (c : tie.After-is-bad-polynomial) → c.is-bad-polynomial.result ≡ bad_polynomial (word (d1 c.before.before) 6) (get_or (d1 c.before.before) 5 0)
+bad-is c = c.is-bad-polynomial.ensures ∙ ap (λ (p : ℕ). bad_polynomial p (get_or (d1 c.before.before) 5 0)) c.before.read_word.ensures
 
 wide_is : (c : tie.After-is-wide) → c.is_IsWide.result ≡ is_wide (start_of (d2 c.before.before)) (get_or (d2 c.before.before) 5 0)
 wide_is c = c.is_IsWide.ensures ∙ ap (λ (s : ℕ). is_wide s (get_or (d2 c.before.before) 5 0)) c.before.start_of_lem.ensures
 
 past-1 : (c : tie.Else1) → past 0 (d1 c) ≡ past 1 (d1 c)
-past-1 c = judge-no _ _ _ (sym c.before.is-outside.ensures ∙ c.if1.false)
+past-1 c = judge_no _ _ _ (sym c.before.is-outside.ensures ∙ c.if1.false)
 
 past-2 : (c : tie.Else2) → past 0 (d2 c) ≡ past 2 (d2 c)
-past-2 c = past-1 c.before.before.before ∙ judge-no _ _ _ (sym (bad-is c.before) ∙ c.if2.false)
+past-2 c = past-1 c.before.before.before ∙ judge_no _ _ _ (sym (bad-is c.before) ∙ c.if2.false)
 
 pub judge-check-spec : {M : Type 1} → statement M
 judge-check-spec =
@@ -51,11 +51,11 @@ judge-check-spec =
     (λ c. omega (arith, c.shared-slice-known2.given 5))
     (λ c. omega (arith, c.shared-slice-known2.given 5))
     (λ c κs. search rules)
-    (λ c. sym (judge-yes _ _ _ (sym c.before.is-outside.ensures ∙ c.if1.true)))
+    (λ c. sym (judge_yes _ _ _ (sym c.before.is-outside.ensures ∙ c.if1.true)))
     (λ c κs. omega (arith, fields-there c.before.before.before.before.args.d.now c.before.before.before.before.requires))
     (λ c κs. omega (arith, r_small c.before))
-    (λ c. sym (past-1 c.before.before.before ∙ judge-yes _ _ _ (sym (bad-is c.before) ∙ c.if2.true)))
+    (λ c. sym (past-1 c.before.before.before ∙ judge_yes _ _ _ (sym (bad-is c.before) ∙ c.if2.true)))
     (λ c κs. search rules)
     (λ c κs. omega (arith, r_small c.before.before.before.before))
-    (λ c. sym (past-2 c.before.before.before ∙ judge-yes _ _ _ (sym (wide_is c.before) ∙ c.if3.true)))
-    (λ c. sym (past-2 c.before.before.before ∙ judge-no _ _ _ (sym (wide_is c.before) ∙ c.if3.false) ∙ judge-none)))
+    (λ c. sym (past-2 c.before.before.before ∙ judge_yes _ _ _ (sym (wide_is c.before) ∙ c.if3.true)))
+    (λ c. sym (past-2 c.before.before.before ∙ judge_no _ _ _ (sym (wide_is c.before) ∙ c.if3.false) ∙ judge-none)))

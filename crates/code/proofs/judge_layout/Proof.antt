@@ -10,18 +10,18 @@ use lib.ListN.{length, get_or, take, drop}
 use Rattle.laws.proofs.Powers.{one_shl}
 use Rattle.refusal.specs.declared.Judgement.{Judgement}
 use Rattle.refusal.specs.Judge.{judge}
-use Rattle.refusal.proofs.Judge.{judge-none, judge-yes, judge-no}
+use Rattle.refusal.proofs.Judge.{judge-none, judge_yes, judge_no}
 use Rattle.refusal.proofs.Tests.{outside-past}
-use Rattle.arrays.specs.Sizes.{largestN}
-use Rattle.code.specs.Description.{word, isDescription, maskAt}
-use Rattle.code.specs.Contracts.{descriptionRefusals}
-use Rattle.code.proofs.TwoKinds.{mask-at-most, fields-there}
+use Rattle.arrays.specs.Sizes.{largest_n}
+use Rattle.code.specs.Description.{word, is_description, mask_at}
+use Rattle.code.specs.Clauses.{description_refusals}
+use Rattle.code.proofs.TwoKinds.{mask_at-most, fields-there}
 use Rattle.code.proofs.judge_layout.Statement.{statement}
 use Rattle.code.proofs.judge_layout.Tie as tie
 
 -- the judgement once the first i tests have failed
 abbrev past : ℕ → List ℕ → Judgement
-past i d = judge (drop i (take 5 (descriptionRefusals d)))
+past i d = judge (drop i (take 5 (description_refusals d)))
 
 -- the bytes, past each test
 abbrev d1 : tie.Else1 → List ℕ
@@ -40,58 +40,58 @@ d4 c = d3 c.before.before.before
 fields : (c : tie.Else1) → 8 ≤ length (d1 c)
 fields c =
     let d = d1 c in
-    fields-there d (ltb-false (length d) (maskAt (word d 2)) (sym c.before.is-short.ensures ∙ c.if1.false))
+    fields-there d (ltb-false (length d) (mask_at (word d 2)) (sym c.before.is-short.ensures ∙ c.if1.false))
 
-kind-is : (c : tie.After-is-description) → c.is-description.result ≡ isDescription (word (d2 c.before.before) 2)
-kind-is c = c.is-description.ensures ∙ ap isDescription c.before.read-word2.ensures
+kind-is : (c : tie.After-is-description) → c.is-description.result ≡ is_description (word (d2 c.before.before) 2)
+kind-is c = c.is-description.ensures ∙ ap is_description c.before.read-word2.ensures
 
-n-small : (c : tie.Else4) → get_or (d4 c) 4 0 ≤ largestN
-n-small c = (outside-past _ 3 largestN (sym c.before.is-outside.ensures ∙ c.if4.false)).1
+n-small : (c : tie.Else4) → get_or (d4 c) 4 0 ≤ largest_n
+n-small c = (outside-past _ 3 largest_n (sym c.before.is-outside.ensures ∙ c.if4.false)).1
 
 -- the length that kind and n ask for
 module _ (c : tie.After-mask-at) where
   abbrev d : List ℕ
   d = d4 c.before
 
-  at-is : c.mask_at.result ≡ maskAt (word d 2)
-  at-is = c.mask_at.ensures ∙ ap maskAt c.before.before.before.before.before.before.read-word2.ensures
+  at-is : c.mask_at.result ≡ mask_at (word d 2)
+  at-is = c.mask_at.ensures ∙ ap mask_at c.before.before.before.before.before.before.read-word2.ensures
 
-  size : c.mask_at.result + 1 * 2 ^ get_or d 4 0 % 2 ^ 64 / 8 ≡ maskAt (word d 2) + 2 ^ get_or d 4 0 / 8
+  size : c.mask_at.result + 1 * 2 ^ get_or d 4 0 % 2 ^ 64 / 8 ≡ mask_at (word d 2) + 2 ^ get_or d 4 0 / 8
   size = omega (arith, at-is, one_shl (get_or d 4 0) 64 (omega (arith, n-small c.before)))
 
 past-1 : (c : tie.Else1) → past 0 (d1 c) ≡ past 1 (d1 c)
-past-1 c = judge-no _ _ _ (sym c.before.is-short.ensures ∙ c.if1.false)
+past-1 c = judge_no _ _ _ (sym c.before.is-short.ensures ∙ c.if1.false)
 
 past-2 : (c : tie.Else2) → past 0 (d2 c) ≡ past 2 (d2 c)
-past-2 c = past-1 c.before.before ∙ judge-no _ _ _ (ap not (eq-eqb _ _ (sym c.before.read_word.ensures ∙ c.if2.false)))
+past-2 c = past-1 c.before.before ∙ judge_no _ _ _ (ap not (eq-eqb _ _ (sym c.before.read_word.ensures ∙ c.if2.false)))
 
 past-3 : (c : tie.Else3) → past 0 (d3 c) ≡ past 3 (d3 c)
-past-3 c = past-2 c.before.before.before ∙ judge-no _ _ _ (sym (ap not (kind-is c.before)) ∙ c.if3.false)
+past-3 c = past-2 c.before.before.before ∙ judge_no _ _ _ (sym (ap not (kind-is c.before)) ∙ c.if3.false)
 
 past-4 : (c : tie.Else4) → past 0 (d4 c) ≡ past 4 (d4 c)
-past-4 c = past-3 c.before.before.before ∙ judge-no _ _ _ (sym c.before.is-outside.ensures ∙ c.if4.false)
+past-4 c = past-3 c.before.before.before ∙ judge_no _ _ _ (sym c.before.is-outside.ensures ∙ c.if4.false)
 
 pub judge-layout-spec : {M : Type 1} → statement M
 judge-layout-spec =
     tie.close
     (tie.spec
     (λ c κs. search rules)
-    (λ c. sym (judge-yes _ _ _ (sym c.before.is-short.ensures ∙ c.if1.true)))
+    (λ c. sym (judge_yes _ _ _ (sym c.before.is-short.ensures ∙ c.if1.true)))
     (λ c κs. omega (arith, fields c))
     (λ c. search rules)
-    (λ c. sym (past-1 c.before.before ∙ judge-yes _ _ _ (ap not (ne_eqb _ _ (λ e. c.if2.true (c.before.read_word.ensures ∙ e))))))
+    (λ c. sym (past-1 c.before.before ∙ judge_yes _ _ _ (ap not (ne_eqb _ _ (λ e. c.if2.true (c.before.read_word.ensures ∙ e))))))
     (λ c κs. omega (arith, fields c.before.before))
     (λ c κs. search rules)
-    (λ c. sym (past-2 c.before.before.before ∙ judge-yes _ _ _ (sym (ap not (kind-is c.before)) ∙ c.if3.true)))
+    (λ c. sym (past-2 c.before.before.before ∙ judge_yes _ _ _ (sym (ap not (kind-is c.before)) ∙ c.if3.true)))
     (λ c. omega (arith, fields c.before.before.before.before.before.before))
     (λ c. omega (arith, c.shared-slice-known2.given 4))
     (λ c. omega (arith, c.shared-slice-known2.given 4))
     (λ c. search rules)
     (λ c κs. search rules)
-    (λ c. sym (past-3 c.before.before.before ∙ judge-yes _ _ _ (sym c.before.is-outside.ensures ∙ c.if4.true)))
+    (λ c. sym (past-3 c.before.before.before ∙ judge_yes _ _ _ (sym c.before.is-outside.ensures ∙ c.if4.true)))
     (λ c κs. search rules)
     (λ c. omega (arith, n-small c.before))
     (λ c. omega (arith, n-small c.before))
-    (λ c. omega (arith, at-is c, mask-at-most (word (d c) 2)))
-    (λ c. sym (past-4 c.before.before ∙ judge-yes _ _ _ (ap not (ne_eqb _ _ (λ e. c.if5.true (e ∙ sym (size c.before)))))))
-    (λ c. sym (past-4 c.before.before ∙ judge-no _ _ _ (ap not (eq-eqb _ _ (c.if5.false ∙ size c.before))) ∙ judge-none)))
+    (λ c. omega (arith, at-is c, mask_at-most (word (d c) 2)))
+    (λ c. sym (past-4 c.before.before ∙ judge_yes _ _ _ (ap not (ne_eqb _ _ (λ e. c.if5.true (e ∙ sym (size c.before)))))))
+    (λ c. sym (past-4 c.before.before ∙ judge_no _ _ _ (ap not (eq-eqb _ _ (c.if5.false ∙ size c.before))) ∙ judge-none)))

@@ -7,7 +7,7 @@ use native.Mathlib.Omega.{arith}
 use borrow.Author.Rules.{rules}
 use lib.ListN.{length, drop, length-drop}
 use lib.Seq.{take_all}
-use Rattle.code.specs.Description.{word, maskAt}
+use Rattle.code.specs.Description.{word, mask_at}
 use Rattle.code.proofs.TwoKinds.{fields-there}
 use Rattle.code.proofs.mask_of.Statement.{statement}
 use Rattle.code.proofs.mask_of.Tie as tie
@@ -16,8 +16,8 @@ module _ (c : tie.After-mask-at) where
   abbrev d : List ℕ
   d = c.before.before.before.args.d.now
 
-  at-is : c.mask_at.result ≡ maskAt (word d 2)
-  at-is = c.mask_at.ensures ∙ ap maskAt c.before.read_word.ensures
+  at-is : c.mask_at.result ≡ mask_at (word d 2)
+  at-is = c.mask_at.ensures ∙ ap mask_at c.before.read_word.ensures
 
   at-fits : c.mask_at.result ≤ length d
   at-fits = omega (arith, at-is, c.before.before.before.requires)

@@ -19,27 +19,27 @@ use Rattle.code.proofs.read_code.Tie as tie
 ones-requires : tie.Need-ones-requires
 ones-requires c κs =
     let s = c.before.before.before in
-    let top : 2 ^ get_or s.args.d.now 4 0 ≤ longest = fits s.requires.n-most in
+    let top : 2 ^ get_or s.args.d.now 4 0 ≤ longest = fits s.requires.n_most in
     omega (arith, ap length c.mask-of.ensures, mask_size s.requires)
 
 module _ (c : tie.After-ones) where
   abbrev d : List ℕ
   d = c.before.before.before.before.args.d.now
 
-  count-is : c.ones.result ≡ ones_in (mask_of d)
-  count-is = c.ones.ensures ∙ ap ones_in c.before.mask-of.ensures
+  count_is : c.ones.result ≡ ones_in (mask_of d)
+  count_is = c.ones.ensures ∙ ap ones_in c.before.mask-of.ensures
 
 returns : tie.Need-returns
 returns c =
     let o = c.before in
-    at_test _ _ _ _ _ (lt-ltb _ _ (subst (λ (x : ℕ). x < get_or (d o) 5 0 + 1) (count-is o) c.if1.true))
+    at_test _ _ _ _ _ (lt-ltb _ _ (subst (λ (x : ℕ). x < get_or (d o) 5 0 + 1) (count_is o) c.if1.true))
 
 returns-2 : tie.Need-returns-2
 returns-2 c =
     let e = c.before.before.before.before in
     let o = e.before in
-    rw (c.before.read_word.ensures, c.start_of_lem.ensures, count-is o)
-    (sym (past-test _ _ _ _ _ (le-ltb _ _ (subst (λ (x : ℕ). get_or (d o) 5 0 + 1 ≤ x) (count-is o) e.if1.false)) ∙ past_all _ _))
+    rw (c.before.read_word.ensures, c.start_of_lem.ensures, count_is o)
+    (sym (past-test _ _ _ _ _ (le-ltb _ _ (subst (λ (x : ℕ). get_or (d o) 5 0 + 1 ≤ x) (count_is o) e.if1.false)) ∙ past_all _ _))
 
 pub read-code-spec : {M : Type 1} → statement M
 read-code-spec =

@@ -8,31 +8,31 @@ use lib.ListN.{take, drop}
 use Rattle.refusal.specs.declared.Refusal.{Refusal}
 use Rattle.refusal.specs.declared.Judgement.{Judgement}
 use Rattle.refusal.specs.declared.Judgement.TheVariants.{Fine}
-use Rattle.refusal.specs.Judge.{judge, refusedOr}
-use Rattle.refusal.proofs.Judge.{refused-by, append-fine, append-refused}
+use Rattle.refusal.specs.Judge.{judge, refused_or}
+use Rattle.refusal.proofs.Judge.{refused_by, append-fine, append_refused}
 use Rattle.code.specs.declared.Description.{Description}
 use Rattle.code.specs.declared.Description.TheVariants.{Accepted, Refused}
-use Rattle.code.specs.Description.{code_of, describeUpTo}
+use Rattle.code.specs.Description.{code_of, describe_up_to}
 use Rattle.code.specs.Claims.{Laid}
-use Rattle.code.specs.Contracts.{descriptionRefusals}
-use Rattle.code.proofs.WellFormed.{fine-laid}
+use Rattle.code.specs.Clauses.{description_refusals}
+use Rattle.code.proofs.WellFormed.{fine_laid}
 use Rattle.code.proofs.read_description.Statement.{statement}
 use Rattle.code.proofs.read_description.Tie as tie
 
 -- the tests of the layout, of the check, and of refusal 8
 module _ (d : List ℕ) where
   abbrev layout : List (Bool × Refusal)
-  layout = take 5 (descriptionRefusals d)
+  layout = take 5 (description_refusals d)
 
   abbrev check : List (Bool × Refusal)
-  check = take 3 (drop 5 (descriptionRefusals d))
+  check = take 3 (drop 5 (description_refusals d))
 
   abbrev ones : List (Bool × Refusal)
-  ones = drop 8 (descriptionRefusals d)
+  ones = drop 8 (description_refusals d)
 
   -- the answer by a judgement
   abbrev by : Judgement → Description
-  by j = refusedOr j Refused (Accepted (code_of d))
+  by j = refused_or j Refused (Accepted (code_of d))
 
 -- the bytes, and that the layout is fine
 module _ (c : tie.After-enum-told) where
@@ -43,10 +43,10 @@ module _ (c : tie.After-enum-told) where
   layout-fine = sym c.before.before.judge-layout.ensures ∙ c.enum_told.given.1
 
   laid : Laid d
-  laid = fine-laid d layout-fine
+  laid = fine_laid d layout-fine
 
 returns : tie.Need-returns
-unfolding describeUpTo
+unfolding describe_up_to
 returns c =
     let t = c.before in
     let k = t.before.before in
@@ -56,23 +56,23 @@ returns c =
     ∙ append-fine (check (d a)) (ones (d a)) (sym k.judge-check.ensures ∙ t.enum-told2.given.1)))
 
 returns-2 : tie.Need-returns-2
-unfolding describeUpTo
+unfolding describe_up_to
 returns-2 c =
     let x = c.before in
     let k = x.before.before in
     let a = k.before in
-    sym (refused-by Refused (Accepted (code_of (d a))) _ _
+    sym (refused_by Refused (Accepted (code_of (d a))) _ _
     (append-fine (layout (d a)) (check (d a) ++ ones (d a)) (layout-fine a)
-    ∙ append-refused (check (d a)) (ones (d a)) _ (sym k.judge-check.ensures ∙ x.x.given.1)))
+    ∙ append_refused (check (d a)) (ones (d a)) _ (sym k.judge-check.ensures ∙ x.x.given.1)))
 
 returns-3 : tie.Need-returns-3
-unfolding describeUpTo
+unfolding describe_up_to
 returns-3 c =
     let x = c.before in
     let l = x.before.before in
     let d = l.before.before.args.d.now in
-    sym (refused-by Refused (Accepted (code_of d)) _ _
-    (append-refused (layout d) (check d ++ ones d) _ (sym l.judge-layout.ensures ∙ x.x2.given.1)))
+    sym (refused_by Refused (Accepted (code_of d)) _ _
+    (append_refused (layout d) (check d ++ ones d) _ (sym l.judge-layout.ensures ∙ x.x2.given.1)))
 
 pub read-description-spec : {M : Type 1} → statement M
 read-description-spec =

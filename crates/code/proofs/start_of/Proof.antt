@@ -5,7 +5,7 @@ use mathlib.Core.List.{List}
 use Prim.Native.Nat.{ℕ, ◌+◌}
 use native.Mathlib.Omega.{arith}
 use borrow.Author.Rules.{rules}
-use Rattle.code.specs.Description.{word, hasStart, maskAt}
+use Rattle.code.specs.Description.{word, has_start, mask_at}
 use Rattle.code.proofs.TwoKinds.{fields-there}
 use Rattle.code.proofs.start_of.Statement.{statement}
 use Rattle.code.proofs.start_of.Tie as tie
@@ -14,8 +14,8 @@ module _ (c : tie.After-has-start) where
   abbrev d : List ℕ
   d = c.before.before.before.args.d.now
 
-  test-is : c.has-start.result ≡ hasStart (word d 2)
-  test-is = c.has-start.ensures ∙ ap hasStart c.before.read_word.ensures
+  test-is : c.has-start.result ≡ has_start (word d 2)
+  test-is = c.has-start.ensures ∙ ap has_start c.before.read_word.ensures
 
 -- by what the test says
 abbrev by : List ℕ → Bool → ℕ
@@ -24,7 +24,7 @@ by d t = cond t (word d 8) 0
 read-word-requires-2 : tie.Need-read-word-requires-2
 read-word-requires-2 c κs =
     let h = c.before in
-    let ten : maskAt (word (d h) 2) ≡ 10 = ap (λ (t : Bool). 8 + cond t 2 0) (sym (test-is h) ∙ c.if1.true) in
+    let ten : mask_at (word (d h) 2) ≡ 10 = ap (λ (t : Bool). 8 + cond t 2 0) (sym (test-is h) ∙ c.if1.true) in
     omega (arith, h.before.before.before.requires)
 
 pub start-of-spec : {M : Type 1} → statement M

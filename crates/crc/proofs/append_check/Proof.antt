@@ -8,7 +8,7 @@ use lib.ListN.{take}
 use lib.Seq.{length-take-le}
 use Rattle.bits.specs.Bit.{bits_of}
 use Rattle.laws.proofs.Segment.{splice-end}
-use Rattle.bits.proofs.BitsOf.{length-bitsOf}
+use Rattle.bits.proofs.BitsOf.{length-bits_of}
 use Rattle.crc.proofs.append_check.Statement.{statement}
 use Rattle.crc.proofs.append_check.Tie as tie
 
@@ -21,7 +21,7 @@ returns c =
     let m = s.args.message.now in
     let register = c.before.before.before.before.check in
     c.before.before.put-bits.ensures
-    ∙ splice-end m s.args.k (bits_of s.args.r register.result) (s.requires.1 ∙ ap (λ (n : ℕ). s.args.k + n) (sym (length-bitsOf s.args.r register.result)))
+    ∙ splice-end m s.args.k (bits_of s.args.r register.result) (s.requires.1 ∙ ap (λ (n : ℕ). s.args.k + n) (sym (length-bits_of s.args.r register.result)))
     ∙ ap (λ (bits : List ℕ). take s.args.k m ++ bits) register.ensures.0
 
 pub append-check-spec : {M : Type 1} → statement M

@@ -8,18 +8,18 @@ use borrow.Author.Rules.{rules}
 use lib.ListN.{length, get_or, drop, drop_of_length-le}
 use lib.Pow.{pow_pos}
 use Rattle.bits.specs.Bit.{bits_of}
-use Rattle.bits.proofs.Lists.{bits-of}
-use Rattle.crc.specs.Check.{checkOf}
-use Rattle.crc.specs.Contracts.{step}
-use Rattle.crc.proofs.Register.{run, run-check, run-next}
-use Rattle.bits.proofs.BitsOf.{length-bitsOf, bitsOf-mod}
+use Rattle.bits.proofs.Lists.{bits_of_lem}
+use Rattle.crc.specs.Check.{check_of}
+use Rattle.crc.specs.Clauses.{step}
+use Rattle.crc.proofs.Register.{run, run_check, run-next}
+use Rattle.bits.proofs.BitsOf.{length-bits_of, bits_of-mod}
 use Rattle.crc.proofs.check.Statement.{statement}
 use Rattle.crc.proofs.check.Tie as tie
 
 abbrev invariant-loop : tie.invariant-loop
 invariant-loop payload r poly start word register₀ i₀ register i =
     (i ≤ length payload) × (register < 2 ^ r)
-    × (run (bits_of r poly) (bits_of r register) (drop i payload) ≡ checkOf (bits_of r poly) (bits_of r start) payload)
+    × (run (bits_of r poly) (bits_of r register) (drop i payload) ≡ check_of (bits_of r poly) (bits_of r start) payload)
 
 abbrev decreases-loop : tie.decreases-loop
 decreases-loop payload r poly start word register₀ i₀ register i = length payload - i
@@ -28,11 +28,11 @@ loop-holds : tie.Need-loop-init invariant-loop decreases-loop
 loop-holds c =
     let s = c.before.before in
     let r = s.args.r in
-    let t = length-bitsOf r s.args.poly in
-    let g = length-bitsOf r s.args.start in (
+    let t = length-bits_of r s.args.poly in
+    let g = length-bits_of r s.args.start in (
       omega arith,
       s.requires.fits,
-      run-check (bits_of r s.args.poly) (bits_of r s.args.start) s.args.payload.now (omega (arith, s.requires.some)) (g ∙ sym t) (bits-of r s.args.start),
+      run_check (bits_of r s.args.poly) (bits_of r s.args.start) s.args.payload.now (omega (arith, s.requires.some)) (g ∙ sym t) (bits_of_lem r s.args.start),
     )
 
 register-step-requires : tie.Need-register-step-requires invariant-loop decreases-loop
@@ -47,7 +47,7 @@ loop-again c =
     let r = s.args.r in
     let t = bits_of r s.args.poly in
     let p = s.args.payload.now in
-    let word = ap (bits_of r) c.before.before.before.before.feedback.ensures ∙ bitsOf-mod r r s.args.poly (omega arith) in (
+    let word = ap (bits_of r) c.before.before.before.before.feedback.ensures ∙ bits_of-mod r r s.args.poly (omega arith) in (
       omega arith,
       c.register-step.ensures.1,
       ap (λ (g : List ℕ). run t g (drop (l.i + 1) p))

@@ -6,7 +6,7 @@ use native.Mathlib.Omega.{arith}
 use borrow.Author.Rules.{rules}
 use lib.Pow.{pow_pos, pow_mono, shr_le}
 use Rattle.bits.proofs.Bitwise.{bit-mod}
-use Rattle.crc.proofs.Words.{shr-more}
+use Rattle.crc.proofs.Words.{shr_more}
 use Rattle.crc.proofs.feedback.Statement.{statement}
 use Rattle.crc.proofs.feedback.Tie as tie
 
@@ -32,7 +32,7 @@ loop-again c =
     let l = c.before.before.loop in (
       omega arith,
       ap₂ (λ (x y : ℕ). x * 2 + y) l.invariant.1 (c.coefficient.ensures ∙ sym (bit-mod a.poly (l.i - 1) a.r (omega arith)))
-          ∙ shr-more (a.poly % 2 ^ a.r) l.i (omega arith),
+          ∙ shr_more (a.poly % 2 ^ a.r) l.i (omega arith),
     )
 
 returns : tie.Need-returns invariant-loop decreases-loop

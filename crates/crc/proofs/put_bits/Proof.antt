@@ -3,10 +3,10 @@ use mathlib.Core.Path.{◌≡◌, refl, ap, ◌∙◌}
 use Prim.Native.Nat.{ℕ, ◌+◌, ◌-◌}
 use native.Mathlib.Omega.{arith}
 use borrow.Author.Rules.{rules}
-use Rattle.laws.specs.Contracts.{splice}
-use Rattle.laws.proofs.Filling.{Filling, filling-none, filling-more, filling-done}
+use Rattle.laws.specs.Clauses.{splice}
+use Rattle.laws.proofs.Filling.{Filling, filling_none, filling_more, filling_done}
 use Rattle.bits.specs.Bit.{bit}
-use Rattle.bits.proofs.BitsOf.{bitsOf-table}
+use Rattle.bits.proofs.BitsOf.{bits_of-table}
 use Rattle.crc.proofs.put_bits.Statement.{statement}
 use Rattle.crc.proofs.put_bits.Tie as tie
 
@@ -25,12 +25,12 @@ loop-again c =
     let a = c.before.before.before.before.args in
     let l = c.before.before.loop in
     let e : a.r - 1 - l.j ≡ a.r - (l.j + 1) = omega arith in
-    filling-more l.invariant (a.at + l.j) c.coefficient.result (omega arith) refl (c.coefficient.ensures ∙ ap (bit a.register) e)
+    filling_more l.invariant (a.at + l.j) c.coefficient.result (omega arith) refl (c.coefficient.ensures ∙ ap (bit a.register) e)
 
 returns : tie.Need-returns invariant-loop decreases-loop
 returns c =
     let s = c.before.before.before in
-    filling-done c.before.loop.invariant (omega arith) s.requires.1 ∙ ap (splice s.args.message.now s.args.at) (bitsOf-table s.args.r s.args.register)
+    filling_done c.before.loop.invariant (omega arith) s.requires.1 ∙ ap (splice s.args.message.now s.args.at) (bits_of-table s.args.r s.args.register)
 
 pub put-bits-spec : {M : Type 1} → statement M
 put-bits-spec =
@@ -38,7 +38,7 @@ put-bits-spec =
     (tie.spec
     invariant-loop
     decreases-loop
-    (λ c. filling-none)
+    (λ c. filling_none)
     (λ c. search rules)
     (λ c. search rules)
     (λ c κs. search rules)

@@ -4,13 +4,13 @@ use borrow.Author.Rules.{rules}
 use lib.Bits.{xor_lt}
 use lib.Pow.{pow_pos, pow_mono}
 use Rattle.laws.proofs.Powers.{one_shl}
-use Rattle.crc.proofs.Words.{highest-lt, leaving, stepped-lt, bitsOf-stepped}
+use Rattle.crc.proofs.Words.{highest_lt, leaving, stepped_lt, bits_of-stepped}
 use Rattle.crc.proofs.register_step.Statement.{statement}
 use Rattle.crc.proofs.register_step.Tie as tie
 
 word-if-requires : tie.Need-word-if-requires
 word-if-requires s κs =
-    (xor_lt 1 _ _ (highest-lt s.args.r s.args.register s.requires.0 s.requires.3) (omega arith), omega (arith, pow_mono {i = s.args.r} {j = 16} s.requires.1, s.requires.2))
+    (xor_lt 1 _ _ (highest_lt s.args.r s.args.register s.requires.0 s.requires.3) (omega arith), omega (arith, pow_mono {i = s.args.r} {j = 16} s.requires.1, s.requires.2))
 
 sub-result : tie.Need-overflow-sub-result
 sub-result c = rw (one_shl c.before.args.r 32 (omega arith)) (pow_pos c.before.args.r)
@@ -19,8 +19,8 @@ returns : tie.Need-returns
 returns c =
     let s = c.before in
     let a = s.args in (
-      rw c.word-if.ensures (rw (leaving a.r a.register a.next s.requires.0 s.requires.3) (bitsOf-stepped a.r a.word a.register a.next s.requires.0 s.requires.1)),
-      rw c.word-if.ensures (stepped-lt a.r a.word a.register _ s.requires.1 s.requires.2 (xor_lt 1 _ _ (highest-lt a.r a.register s.requires.0 s.requires.3) (omega arith))),
+      rw c.word-if.ensures (rw (leaving a.r a.register a.next s.requires.0 s.requires.3) (bits_of-stepped a.r a.word a.register a.next s.requires.0 s.requires.1)),
+      rw c.word-if.ensures (stepped_lt a.r a.word a.register _ s.requires.1 s.requires.2 (xor_lt 1 _ _ (highest_lt a.r a.register s.requires.0 s.requires.3) (omega arith))),
     )
 
 pub register-step-spec : {M : Type 1} → statement M

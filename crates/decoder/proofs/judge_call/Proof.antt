@@ -4,20 +4,20 @@ use mathlib.Core.Bool.{Bool}
 use mathlib.Core.List.{List, ◌++◌}
 use borrow.Author.Rules.{rules}
 use Rattle.refusal.specs.declared.Refusal.{Refusal}
-use Rattle.refusal.proofs.Judge.{append-fine, append-refused}
-use Rattle.channel.specs.Channel.{channelRefusals}
-use Rattle.decoder.specs.Decoder.{Decoder, ownRefusals}
-use Rattle.decoder.specs.Contracts.{outputRefusals}
+use Rattle.refusal.proofs.Judge.{append-fine, append_refused}
+use Rattle.channel.specs.Channel.{channel_refusals}
+use Rattle.decoder.specs.Decoder.{Decoder, own_refusals}
+use Rattle.decoder.specs.Clauses.{output_refusals}
 use Rattle.decoder.proofs.judge_call.Statement.{statement}
 use Rattle.decoder.proofs.judge_call.Tie as tie
 
 -- both lists of tests at a call
 module _ (s : tie.Start) (p : Decoder) where
   abbrev first : List (Bool × Refusal)
-  first = channelRefusals s.args.code s.args.channel.now
+  first = channel_refusals s.args.code s.args.channel.now
 
   abbrev second : List (Bool × Refusal)
-  second = ownRefusals p s.args.code ++ outputRefusals s.args.code s.args.output.now
+  second = own_refusals p s.args.code ++ output_refusals s.args.code s.args.output.now
 
 returns : tie.Need-returns
 returns c p own =
@@ -30,7 +30,7 @@ returns-2 : tie.Need-returns-2
 returns-2 c p own =
     let j = c.before.before.before in
     let s = j.before.before.before in
-    sym (append-refused (first s p) (second s p) _ (sym j.judge-channel.ensures ∙ c.before.x.given.1))
+    sym (append_refused (first s p) (second s p) _ (sym j.judge-channel.ensures ∙ c.before.x.given.1))
 
 pub judge-call-spec : {M : Type 1} → statement M
 judge-call-spec =

@@ -3,15 +3,15 @@ use mathlib.Core.Path.{sym, ap, ◌∙◌}
 use mathlib.Core.Bool.{not}
 use borrow.Author.Rules.{rules}
 use borrow.Author.Tests.{eq-eqb, ne_eqb}
-use Rattle.refusal.proofs.Judge.{judge-none, judge-yes, judge-no}
+use Rattle.refusal.proofs.Judge.{judge-none, judge_yes, judge_no}
 use Rattle.decoder.proofs.judge_output.Statement.{statement}
 use Rattle.decoder.proofs.judge_output.Tie as tie
 
 returns : tie.Need-returns
-returns c = sym (judge-yes _ _ _ (ap not (ne_eqb _ _ (λ q. c.if1.true (q ∙ sym c.before.bytes-for.ensures)))))
+returns c = sym (judge_yes _ _ _ (ap not (ne_eqb _ _ (λ q. c.if1.true (q ∙ sym c.before.bytes-for.ensures)))))
 
 returns-2 : tie.Need-returns-2
-returns-2 c = sym (judge-no _ _ _ (ap not (eq-eqb _ _ (c.if1.false ∙ c.before.bytes-for.ensures))) ∙ judge-none)
+returns-2 c = sym (judge_no _ _ _ (ap not (eq-eqb _ _ (c.if1.false ∙ c.before.bytes-for.ensures))) ∙ judge-none)
 
 pub judge-output-spec : {M : Type 1} → statement M
 judge-output-spec = tie.close (tie.spec (λ c κs. search rules) returns returns-2)

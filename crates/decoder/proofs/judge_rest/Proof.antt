@@ -1,9 +1,9 @@
 -- `decoder::judge_rest` meets its contract: the refusals of a decoder first, then 15.
 use mathlib.Core.Path.{sym, ◌∙◌}
 use borrow.Author.Rules.{rules}
-use Rattle.refusal.proofs.Judge.{append-fine, append-refused}
-use Rattle.decoder.specs.Decoder.{ownRefusals}
-use Rattle.decoder.specs.Contracts.{outputRefusals}
+use Rattle.refusal.proofs.Judge.{append-fine, append_refused}
+use Rattle.decoder.specs.Decoder.{own_refusals}
+use Rattle.decoder.specs.Clauses.{output_refusals}
 use Rattle.decoder.proofs.judge_rest.Statement.{statement}
 use Rattle.decoder.proofs.judge_rest.Tie as tie
 
@@ -11,12 +11,12 @@ returns : tie.Need-returns
 returns c p own =
     let x = c.before.before.before.before.args in
     c.judge-output.ensures
-    ∙ sym (append-fine (ownRefusals p x.code) (outputRefusals x.code x.output.now) (sym own ∙ c.before.enum_told.given.1))
+    ∙ sym (append-fine (own_refusals p x.code) (output_refusals x.code x.output.now) (sym own ∙ c.before.enum_told.given.1))
 
 returns-2 : tie.Need-returns-2
 returns-2 c p own =
     let x = c.before.before.before.before.args in
-    sym (append-refused (ownRefusals p x.code) (outputRefusals x.code x.output.now) _ (sym own ∙ c.before.own.given.1))
+    sym (append_refused (own_refusals p x.code) (output_refusals x.code x.output.now) _ (sym own ∙ c.before.own.given.1))
 
 pub judge-rest-spec : {M : Type 1} → statement M
 judge-rest-spec =

@@ -6,18 +6,18 @@ use borrow.Author.Rules.{rules}
 use Rattle.code.specs.declared.Code.{Code}
 use Rattle.code.specs.declared.Description.{Description}
 use Rattle.code.specs.declared.Description.TheVariants.{Accepted}
-use Rattle.code.specs.Description.{mask_of, describe, onDescription}
+use Rattle.code.specs.Description.{mask_of, describe, on_description}
 use Rattle.code.specs.Claims.{Described, Coded}
 use Rattle.code.proofs.Facts.{described}
 use Rattle.encoder.specs.declared.Encoded.{Encoded}
 use Rattle.encoder.specs.declared.Encoded.TheVariants.{Refused}
-use Rattle.encoder.specs.Encode.{encodedBy, encoded}
+use Rattle.encoder.specs.Encode.{encoded_by, encoded}
 use Rattle.encoder.proofs.encode.Statement.{statement}
 use Rattle.encoder.proofs.encode.Tie as tie
 
 -- the definition, by an answer of `describe`
 abbrev by : List ℕ → List ℕ → List ℕ → Description → Encoded × List ℕ
-by d payload output a = onDescription a (λ x. (Refused x, output)) (λ c. encodedBy (mask_of d) c payload output)
+by d payload output a = on_description a (λ x. (Refused x, output)) (λ c. encoded_by (mask_of d) c payload output)
 
 -- the code that was accepted
 module _ (c : tie.After-known-told) where
@@ -44,7 +44,7 @@ returns c =
     let a = c.before.before.before.before.before in
     let s = a.before.before.before.before.before.before.before in
     c.before.before.encode-by.ensures
-    ∙ ap (λ (mask : List ℕ). encodedBy mask (code a) s.args.payload.now s.args.output.now) c.before.before.before.before.mask-of.ensures
+    ∙ ap (λ (mask : List ℕ). encoded_by mask (code a) s.args.payload.now s.args.output.now) c.before.before.before.before.mask-of.ensures
     ∙ ap (by (d a) s.args.payload.now s.args.output.now) (accepted a)
 
 returns-2 : tie.Need-returns-2

@@ -3,11 +3,11 @@ use mathlib.Core.Path.{sym, ap, ◌∙◌}
 use mathlib.Core.List.{List}
 use Prim.Native.Nat.{ℕ}
 use borrow.Author.Rules.{rules}
-use Rattle.refusal.proofs.Judge.{refused-by}
+use Rattle.refusal.proofs.Judge.{refused_by}
 use Rattle.encoder.specs.declared.Encoded.TheVariants.{Done, Refused}
-use Rattle.encoder.specs.Encode.{codeword, encodedBy}
+use Rattle.encoder.specs.Encode.{codeword, encoded_by}
 use Rattle.encoder.specs.Claims.{WellFormed}
-use Rattle.encoder.proofs.WellFormed.{fine-well-formed, well-formed-answer}
+use Rattle.encoder.proofs.WellFormed.{fine_well_formed, well_formed_answer}
 use Rattle.encoder.proofs.encode_by.Statement.{statement}
 use Rattle.encoder.proofs.encode_by.Tie as tie
 
@@ -16,13 +16,13 @@ module _ (c : tie.After-enum-told) where
   abbrev s : tie.Start
   s = c.before.before.before.before.before.before.before
 
-  well-formed : WellFormed s.args.code s.args.payload.now s.args.output.now
-  well-formed =
-      fine-well-formed s.args.code s.args.payload.now s.args.output.now
+  well_formed : WellFormed s.args.code s.args.payload.now s.args.output.now
+  well_formed =
+      fine_well_formed s.args.code s.args.payload.now s.args.output.now
       (sym c.before.before.judge-encoding.ensures ∙ c.enum_told.given.1)
 
 write-codeword-requires : tie.Need-write-codeword-requires
-write-codeword-requires c κs = let e = c.before in ((s e).requires, well-formed e)
+write-codeword-requires c κs = let e = c.before in ((s e).requires, well_formed e)
 
 returns : tie.Need-returns
 returns c =
@@ -30,14 +30,14 @@ returns c =
     let e = k.before.before in
     let x = (s e).args in
     ap (λ (bytes : List ℕ). (Done, bytes)) k.write-codeword.ensures
-    ∙ sym (well-formed-answer x.code x.payload.now x.output.now x.mask.now (well-formed e))
+    ∙ sym (well_formed_answer x.code x.payload.now x.output.now x.mask.now (well_formed e))
 
 returns-2 : tie.Need-returns-2
-unfolding encodedBy
+unfolding encoded_by
 returns-2 c =
     let j = c.before.before.before in
     let x = j.before.before.before.before.before.args in
-    sym (refused-by (λ i. (Refused i, x.output.now)) (Done, codeword x.mask.now x.code x.payload.now) _ _
+    sym (refused_by (λ i. (Refused i, x.output.now)) (Done, codeword x.mask.now x.code x.payload.now) _ _
     (sym j.judge-encoding.ensures ∙ c.before.x.given.1))
 
 pub encode-by-spec : {M : Type 1} → statement M

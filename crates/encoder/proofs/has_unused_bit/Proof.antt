@@ -11,12 +11,12 @@ use lib.Dec.{eqb}
 use lib.ListN.{length, get_or, get_or-eq_default}
 use lib.Pow.{pow_pos}
 use Rattle.laws.proofs.Powers.{one_shl}
-use Rattle.bits.specs.Packing.{bytesFor, unusedBits}
+use Rattle.bits.specs.Packing.{bytes_for, unused_bits}
 use Rattle.encoder.proofs.has_unused_bit.Statement.{statement}
 use Rattle.encoder.proofs.has_unused_bit.Tie as tie
 
 -- byte k / 8 is after the last one
-none-unused : (payload : List ℕ) (k : ℕ) → length payload ≡ bytesFor k → k % 8 ≡ 0 → unusedBits payload k ≡ 0
+none-unused : (payload : List ℕ) (k : ℕ) → length payload ≡ bytes_for k → k % 8 ≡ 0 → unused_bits payload k ≡ 0
 none-unused payload k e z =
     let past : length payload ≤ k / 8 = omega arith in
     ap (λ (x : ℕ). x % 2 ^ (8 - k % 8)) (get_or-eq_default payload 0 past) ∙ zero-mod (2 ^ (8 - k % 8))

@@ -9,45 +9,45 @@ use borrow.Author.Tests.{eq-eqb, ne_eqb}
 use lib.ListN.{length, drop}
 use Rattle.refusal.specs.declared.Judgement.{Judgement}
 use Rattle.refusal.specs.Judge.{judge}
-use Rattle.refusal.proofs.Judge.{judge-none, judge-yes, judge-no}
+use Rattle.refusal.proofs.Judge.{judge-none, judge_yes, judge_no}
 use Rattle.code.specs.declared.Code.{Code}
-use Rattle.code.specs.Code.{codeLength}
+use Rattle.code.specs.Code.{code_length}
 use Rattle.code.specs.Claims.{Coded}
-use Rattle.encoder.specs.Encode.{encodingRefusals}
+use Rattle.encoder.specs.Encode.{encoding_refusals}
 use Rattle.encoder.proofs.judge_encoding.Statement.{statement}
 use Rattle.encoder.proofs.judge_encoding.Tie as tie
 
 -- as many bytes as the mask has
-bytes_of : {mask : List ℕ} {c : Code} → Coded mask c → length mask ≡ codeLength c / 8
+bytes_of : {mask : List ℕ} {c : Code} → Coded mask c → length mask ≡ code_length c / 8
 bytes_of p = omega (arith, p.mask_size)
 
 -- the judgement once the first i tests have failed
 abbrev past : ℕ → tie.Start → Judgement
-past i s = judge (drop i (encodingRefusals s.args.code s.args.payload.now s.args.output.now))
+past i s = judge (drop i (encoding_refusals s.args.code s.args.payload.now s.args.output.now))
 
 abbrev s1 : tie.Else1 → tie.Start
 s1 c = c.before.before.before.before.before
 
 past-1 : (c : tie.Else1) → past 0 (s1 c) ≡ past 1 (s1 c)
-past-1 c = judge-no _ _ _ (ap not (eq-eqb _ _ (c.if1.false ∙ c.before.bytes-for.ensures)))
+past-1 c = judge_no _ _ _ (ap not (eq-eqb _ _ (c.if1.false ∙ c.before.bytes-for.ensures)))
 
 past-2 : (c : tie.Else2) → past 0 (s1 c.before.before) ≡ past 2 (s1 c.before.before)
-past-2 c = past-1 c.before.before ∙ judge-no _ _ _ (sym c.before.has-unused-bit.ensures ∙ c.if2.false)
+past-2 c = past-1 c.before.before ∙ judge_no _ _ _ (sym c.before.has-unused-bit.ensures ∙ c.if2.false)
 
 returns : tie.Need-returns
-returns c = sym (judge-yes _ _ _ (ap not (ne_eqb _ _ (λ e. c.if1.true (e ∙ sym c.before.bytes-for.ensures)))))
+returns c = sym (judge_yes _ _ _ (ap not (ne_eqb _ _ (λ e. c.if1.true (e ∙ sym c.before.bytes-for.ensures)))))
 
 returns-3 : tie.Need-returns-3
 returns-3 c =
     let e = c.before in
     let s = s1 e.before.before in
-    sym (past-2 e ∙ judge-yes _ _ _ (ap not (ne_eqb _ _ (λ q. c.if3.true (q ∙ sym (bytes_of s.pre))))))
+    sym (past-2 e ∙ judge_yes _ _ _ (ap not (ne_eqb _ _ (λ q. c.if3.true (q ∙ sym (bytes_of s.pre))))))
 
 returns-4 : tie.Need-returns-4
 returns-4 c =
     let e = c.before in
     let s = s1 e.before.before in
-    sym (past-2 e ∙ judge-no _ _ _ (ap not (eq-eqb _ _ (c.if3.false ∙ bytes_of s.pre))) ∙ judge-none)
+    sym (past-2 e ∙ judge_no _ _ _ (ap not (eq-eqb _ _ (c.if3.false ∙ bytes_of s.pre))) ∙ judge-none)
 
 pub judge-encoding-spec : {M : Type 1} → statement M
 judge-encoding-spec =
@@ -56,6 +56,6 @@ judge-encoding-spec =
     (λ c κs. search rules)
     returns
     (λ c κs. c.if1.false ∙ c.before.bytes-for.ensures)
-    (λ c. sym (past-1 c.before.before ∙ judge-yes _ _ _ (sym c.before.has-unused-bit.ensures ∙ c.if2.true)))
+    (λ c. sym (past-1 c.before.before ∙ judge_yes _ _ _ (sym c.before.has-unused-bit.ensures ∙ c.if2.true)))
     returns-3
     returns-4)

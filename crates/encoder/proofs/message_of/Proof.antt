@@ -8,13 +8,13 @@ use lib.ListN.{length, take, drop, length-append, length-drop}
 use lib.Seq.{length-take-le, take_at}
 use Rattle.bits.specs.Packing.{unpacked}
 use Rattle.bits.proofs.Packing.{length-unpacked}
-use Rattle.encoder.specs.Encode.{messageOf}
+use Rattle.encoder.specs.Encode.{message_of}
 use Rattle.encoder.proofs.message_of.Statement.{statement}
 use Rattle.encoder.proofs.message_of.Tie as tie
 
 -- the part lent for the payload's bits
 part_length : (c : tie.After-unpack-arg) → length (take c.before.before.before.args.code.k c.before.before.before.args.message.now) ≡ c.before.before.before.args.code.k
-part_length c = length-take-le _ _ (omega (arith, c.before.before.before.requires.message-size))
+part_length c = length-take-le _ _ (omega (arith, c.before.before.before.requires.message_size))
 
 -- the message with the payload's bits in it
 module _ (c : tie.After-unpack) where
@@ -32,14 +32,14 @@ module _ (c : tie.After-unpack) where
 
   whole_length : length (c.unpack.new.1.0 ++ drop k message) ≡ k + c.before.before.before.before.args.code.r
   whole_length =
-      omega (arith, payload-length, length-append c.unpack.new.1.0 (drop k message), length-drop k message, c.before.before.before.before.requires.message-size)
+      omega (arith, payload-length, length-append c.unpack.new.1.0 (drop k message), length-drop k message, c.before.before.before.before.requires.message_size)
 
 returns : tie.Need-returns
 returns c =
     let u = c.before.before.before.before.before.before in
     let s = u.before.before.before.before in
     c.before.before.append-check.ensures
-    ∙ ap (messageOf s.args.code) (take_at u.unpack.new.1.0 (drop (k u) (message u)) (k u) (payload-length u) ∙ payload-bits u)
+    ∙ ap (message_of s.args.code) (take_at u.unpack.new.1.0 (drop (k u) (message u)) (k u) (payload-length u) ∙ payload-bits u)
 
 pub message-of-spec : {M : Type 1} → statement M
 message-of-spec =
@@ -47,9 +47,9 @@ message-of-spec =
     (tie.spec
     (λ c. search rules)
     (λ c. sym (part_length c))
-    (λ c κs. omega (arith, part_length c, c.before.before.before.requires.payload-size))
+    (λ c κs. omega (arith, part_length c, c.before.before.before.requires.payload_size))
     (λ c κs.
     let p = c.before.before.before.before.before.before.before.requires in
-    (record { some = p.r-least; most = p.r-most; fits = omega (arith, p.start_fits) }, whole_length c.before.before.before))
+    (record { some = p.r_least; most = p.r_most; fits = omega (arith, p.start_fits) }, whole_length c.before.before.before))
     (λ c. search rules)
     returns)

@@ -6,18 +6,18 @@ use native.Mathlib.Omega.{arith}
 use borrow.Author.Rules.{rules}
 use lib.ListN.{length, take, drop, length-append, length-drop}
 use lib.Seq.{length-take-le}
-use Rattle.laws.specs.Contracts.{splice}
+use Rattle.laws.specs.Clauses.{splice}
 use Rattle.laws.proofs.Segment.{splice-whole}
 use Rattle.arrays.proofs.Sizes.{mask_fits}
 use Rattle.bits.specs.Claims.{Bits}
 use Rattle.bits.specs.Packing.{packed, unpacked}
 use Rattle.bits.proofs.Lists.{bits-append, bits-drop, bits-unpacked}
 use Rattle.bits.proofs.Packing.{length-packed}
-use Rattle.code.specs.Code.{codeLength, informationCount}
+use Rattle.code.specs.Code.{code_length, information_count}
 use Rattle.placing.specs.Place.{placed}
 use Rattle.placing.proofs.Placing.{length-placed, placed-append}
-use Rattle.encoder.specs.Encode.{messageOf}
-use Rattle.encoder.specs.Contracts.{placedMessage}
+use Rattle.encoder.specs.Encode.{message_of}
+use Rattle.encoder.specs.Clauses.{placed_message}
 use Rattle.encoder.proofs.Message.{bits-message}
 use Rattle.encoder.proofs.place_message.Statement.{statement}
 use Rattle.encoder.proofs.place_message.Tie as tie
@@ -26,17 +26,17 @@ use Rattle.encoder.proofs.place_message.Tie as tie
 part_length : (c : tie.After-message-of-arg) → length (take (c.before.before.before.before.before.before.before.args.code.k + c.before.before.before.before.before.before.before.args.code.r) c.before.before.before.before.before.before.before.args.room.now) ≡ c.before.before.before.before.before.before.before.args.code.k + c.before.before.before.before.before.before.before.args.code.r
 part_length c =
     let p = c.before.before.before.before.before.before.before.requires in
-    length-take-le _ _ (omega (arith, p.coded.K-most, p.room-size))
+    length-take-le _ _ (omega (arith, p.coded.K_most, p.room_size))
 
 message-of-requires : tie.Need-message-of-requires
 message-of-requires c κs =
     let p = c.before.before.before.before.before.before.before.requires in
     record {
-      r-least = p.coded.r-least;
-      r-most = p.coded.r-most;
+      r_least = p.coded.r_least;
+      r_most = p.coded.r_most;
       start_fits = p.coded.start_fits;
-      payload-size = omega (arith, p.well-formed.payload-size);
-      message-size = part_length c;
+      payload_size = omega (arith, p.well_formed.payload_size);
+      message_size = part_length c;
     }
 
 -- the message in it
@@ -45,7 +45,7 @@ module _ (c : tie.After-message-of) where
   s = c.before.before.before.before.before.before.before.before
 
   abbrev size : ℕ
-  size = informationCount s.args.code
+  size = information_count s.args.code
 
   abbrev message : List ℕ
   message = c.message-of.new.1.1.0
@@ -53,7 +53,7 @@ module _ (c : tie.After-message-of) where
   message-length : length message ≡ size
   message-length = c.message-of.auto.1.1.0 ∙ part_length c.before
 
-  message-is : message ≡ messageOf s.args.code (unpacked s.args.payload.now s.args.code.k)
+  message-is : message ≡ message_of s.args.code (unpacked s.args.payload.now s.args.code.k)
   message-is = c.message-of.ensures
 
   -- what follows it
@@ -63,7 +63,7 @@ module _ (c : tie.After-message-of) where
   room-length : length (message ++ rest) ≡ length s.args.room.now
   room-length =
       length-append message rest
-      ∙ omega (arith, message-length, length-drop size s.args.room.now, s.pre.coded.K-most, s.pre.room-size)
+      ∙ omega (arith, message-length, length-drop size s.args.room.now, s.pre.coded.K_most, s.pre.room_size)
 
 place-requires : tie.Need-place-requires
 place-requires c κs =
@@ -71,11 +71,11 @@ place-requires c κs =
     let p = (s m).requires in
     let bits : Bits (message m) = subst Bits (sym (message-is m)) (bits-message (s m).args.code _ (bits-unpacked _ _)) in (
       record {
-        short = mask_fits p.coded.n-most p.coded.mask_size;
-        room = omega (arith, room-length m, p.room-size, p.coded.mask_size);
-        bits = bits-append (message m) (rest m) bits (bits-drop (size m) (s m).args.room.now p.room-bits);
+        short = mask_fits p.coded.n_most p.coded.mask_size;
+        room = omega (arith, room-length m, p.room_size, p.coded.mask_size);
+        bits = bits-append (message m) (rest m) bits (bits-drop (size m) (s m).args.room.now p.room_bits);
       },
-      omega (arith, p.well-formed.output-size, p.coded.mask_size),
+      omega (arith, p.well_formed.output_size, p.coded.mask_size),
     )
 
 returns : tie.Need-returns
@@ -84,13 +84,13 @@ returns c =
     let p = (s m).requires in
     let mask = (s m).args.mask.now in
     let output = (s m).args.output.now in
-    let u : List ℕ = placedMessage mask (s m).args.code (s m).args.payload.now in
-    let size : length u ≡ codeLength (s m).args.code = length-placed mask _ _ in
+    let u : List ℕ = placed_message mask (s m).args.code (s m).args.payload.now in
+    let size : length u ≡ code_length (s m).args.code = length-placed mask _ _ in
     let placed-is : placed mask (message m ++ rest m) (8 * length mask) ≡ u =
-    placed-append mask (message m) (rest m) (8 * length mask) (omega (arith, message-length m, p.coded.K-is)) ∙ ap₂ (placed mask) (message-is m) p.coded.mask_size in
+    placed-append mask (message m) (rest m) (8 * length mask) (omega (arith, message-length m, p.coded.K_is)) ∙ ap₂ (placed mask) (message-is m) p.coded.mask_size in
     c.before.before.place.ensures.1
     ∙ ap (λ (x : List ℕ). splice output 0 (packed x)) placed-is
-    ∙ splice-whole output (packed u) (length-packed u ∙ omega (arith, size, p.well-formed.output-size))
+    ∙ splice-whole output (packed u) (length-packed u ∙ omega (arith, size, p.well_formed.output_size))
 
 pub place-message-spec : {M : Type 1} → statement M
 place-message-spec =

@@ -6,29 +6,29 @@ use native.Mathlib.Omega.{arith}
 use borrow.Author.Rules.{rules}
 use lib.ListN.{length}
 use lib.Seq.{take_all}
-use Rattle.laws.specs.Contracts.{splice, segment}
+use Rattle.laws.specs.Clauses.{splice, segment}
 use Rattle.laws.proofs.Segment.{segment-splice, length-splice, splice-whole}
 use Rattle.arrays.specs.Claims.{longest}
 use Rattle.arrays.proofs.Sizes.{mask_fits}
 use Rattle.bits.specs.Packing.{packed, unpacked}
 use Rattle.bits.proofs.Packing.{length-packed}
 use Rattle.transform.specs.Transform.{transformed}
-use Rattle.transform.specs.Contracts.{BytesAt}
+use Rattle.transform.specs.Clauses.{BytesAt}
 use Rattle.transform.proofs.Transformed.{length-transformed}
 use Rattle.transform.proofs.Packed.{times_eight}
-use Rattle.encoder.specs.Contracts.{TransformPre}
+use Rattle.encoder.specs.Clauses.{TransformPre}
 use Rattle.encoder.proofs.transform_in.Statement.{statement}
 use Rattle.encoder.proofs.transform_in.Tie as tie
 
 module _ {size n : ℕ} {w output : List ℕ} (p : TransformPre size n w output) (room : length output ≤ size) where
   layers : n ≡ n - 3 + 3
-  layers = omega (arith, p.n-least)
+  layers = omega (arith, p.n_least)
 
   pow : length output ≡ 2 ^ (n - 3)
-  pow = omega (arith, p.output-size, times_eight (n - 3), ap (λ (k : ℕ). 2 ^ k) layers)
+  pow = omega (arith, p.output_size, times_eight (n - 3), ap (λ (k : ℕ). 2 ^ k) layers)
 
   inside : 0 + length output ≤ length w
-  inside = omega (arith, p.room-size, room)
+  inside = omega (arith, p.room_size, room)
 
   -- after the bits are copied
   module _ {w₁ : List ℕ} (e : w₁ ≡ splice w 0 (segment output 0 (length output))) where
@@ -37,7 +37,7 @@ module _ {size n : ℕ} {w output : List ℕ} (p : TransformPre size n w output)
 
     copied_at : BytesAt size w₁ 0 (length output)
     copied_at = record {
-      whole = ap length (e ∙ ap (splice w 0) all) ∙ length-splice w 0 output (length output) (omega arith) inside ∙ p.room-size;
+      whole = ap length (e ∙ ap (splice w 0) all) ∙ length-splice w 0 output (length output) (omega arith) inside ∙ p.room_size;
       fits = omega (arith, room);
     }
 
@@ -48,7 +48,7 @@ module _ {size n : ℕ} {w output : List ℕ} (p : TransformPre size n w output)
     word = packed (transformed (n - 3 + 3) (unpacked (segment w₁ 0 (length output)) (8 * length output)))
 
     word-long : length word ≡ length output
-    word-long = length-packed _ ∙ omega (arith, length-transformed (n - 3 + 3) (unpacked (segment w₁ 0 (length output)) (8 * length output)), p.output-size, ap (λ (k : ℕ). 2 ^ k) layers)
+    word-long = length-packed _ ∙ omega (arith, length-transformed (n - 3 + 3) (unpacked (segment w₁ 0 (length output)) (8 * length output)), p.output_size, ap (λ (k : ℕ). 2 ^ k) layers)
 
     inside₁ : 0 + length output ≤ length w₁
     inside₁ = omega (arith, copied_at.whole, copied_at.fits)
@@ -62,17 +62,17 @@ module _ {size n : ℕ} {w output : List ℕ} (p : TransformPre size n w output)
       word_at = ap (λ (x : List ℕ). segment x 0 (length output)) e₂ ∙ segment-splice w₁ 0 word (length output) word-long inside₁
 
       word-is : word ≡ packed (transformed n (unpacked output (2 ^ n)))
-      word-is = ap₂ (λ (k : ℕ) (x : List ℕ). packed (transformed k x)) (sym layers) (ap₂ unpacked copied p.output-size)
+      word-is = ap₂ (λ (k : ℕ) (x : List ℕ). packed (transformed k x)) (sym layers) (ap₂ unpacked copied p.output_size)
 
       word-put : splice output 0 (segment w₂ 0 (length output)) ≡ packed (transformed n (unpacked output (2 ^ n)))
       word-put = ap (splice output 0) word_at ∙ splice-whole output word word-long ∙ word-is
 
 -- a code's packed bits fit the array
 fits-room : (s : tie.Start) → length s.args.output.now ≤ longest
-fits-room s = omega (arith, mask_fits s.requires.n-most s.requires.output-size)
+fits-room s = omega (arith, mask_fits s.requires.n_most s.requires.output_size)
 
 copy-requires : tie.Need-copy-requires
-copy-requires c κs = let s = c.before.before.before in (omega arith, omega (arith, s.requires.room-size, fits-room s))
+copy-requires c κs = let s = c.before.before.before in (omega arith, omega (arith, s.requires.room_size, fits-room s))
 
 transform-packed-requires : tie.Need-transform-packed-requires
 transform-packed-requires c κs =

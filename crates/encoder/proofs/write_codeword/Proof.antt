@@ -10,12 +10,12 @@ use Rattle.arrays.proofs.Sizes.{fits}
 use Rattle.bits.specs.Packing.{packed, unpacked}
 use Rattle.bits.proofs.Lists.{bits-unpacked}
 use Rattle.bits.proofs.Packing.{unpacked-packed}
-use Rattle.code.specs.Code.{codeLength}
+use Rattle.code.specs.Code.{code_length}
 use Rattle.crc.proofs.Polynomial.{bits-zeros}
 use Rattle.transform.specs.Transform.{transformed}
 use Rattle.placing.proofs.Placing.{length-placed, bits-placed}
 use Rattle.encoder.specs.Encode.{codeword}
-use Rattle.encoder.specs.Contracts.{placedMessage}
+use Rattle.encoder.specs.Clauses.{placed_message}
 use Rattle.encoder.proofs.Message.{bits-message}
 use Rattle.encoder.proofs.write_codeword.Statement.{statement}
 use Rattle.encoder.proofs.write_codeword.Tie as tie
@@ -23,7 +23,7 @@ use Rattle.encoder.proofs.write_codeword.Tie as tie
 place-message-requires : tie.Need-place-message-requires
 place-message-requires c κs =
     let p = c.before.before.before.before.before.requires in
-    record { coded = p.0; well-formed = p.1; room-size = fits p.0.n-most; room-bits = bits-zeros longest }
+    record { coded = p.0; well_formed = p.1; room_size = fits p.0.n_most; room_bits = bits-zeros longest }
 
 -- after the message is placed
 module _ (c : tie.After-place-message) where
@@ -31,23 +31,23 @@ module _ (c : tie.After-place-message) where
   s = c.before.before.before.before.before.before
 
   abbrev u : List ℕ
-  u = placedMessage s.args.mask.now s.args.code s.args.payload.now
+  u = placed_message s.args.mask.now s.args.code s.args.payload.now
 
   abbrev output : List ℕ
   output = c.place-message.new.1.1.1.1.0
 
-  long : 8 * length output ≡ codeLength s.args.code
-  long = omega (arith, c.place-message.auto.1.1.1.1.0, s.pre.1.output-size, s.pre.0.mask_Size)
+  long : 8 * length output ≡ code_length s.args.code
+  long = omega (arith, c.place-message.auto.1.1.1.1.0, s.pre.1.output_size, s.pre.0.mask_Size)
 
-  bits : unpacked output (codeLength s.args.code) ≡ u
+  bits : unpacked output (code_length s.args.code) ≡ u
   bits =
-      ap₂ unpacked c.place-message.ensures (sym (length-placed s.args.mask.now _ (codeLength s.args.code)))
-      ∙ unpacked-packed u (bits-placed s.args.mask.now _ (codeLength s.args.code) (bits-message s.args.code _ (bits-unpacked _ _)))
+      ap₂ unpacked c.place-message.ensures (sym (length-placed s.args.mask.now _ (code_length s.args.code)))
+      ∙ unpacked-packed u (bits-placed s.args.mask.now _ (code_length s.args.code) (bits-message s.args.code _ (bits-unpacked _ _)))
 
 transform-in-requires : tie.Need-transform-in-requires
 transform-in-requires c κs =
     let m = c.before.before.before.before.before in
-    record { n-least = (s m).requires.0.n-least; n-most = (s m).requires.0.n-most; room-size = m.place-message.auto.1.1.1.0; output-size = long m }
+    record { n_least = (s m).requires.0.n_least; n_most = (s m).requires.0.n_most; room_size = m.place-message.auto.1.1.1.0; output_size = long m }
 
 returns : tie.Need-returns
 unfolding codeword

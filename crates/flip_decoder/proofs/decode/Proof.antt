@@ -8,8 +8,8 @@ use Rattle.code.specs.declared.Description.TheVariants.{Accepted}
 use Rattle.code.specs.Description.{describe}
 use Rattle.code.specs.Claims.{Coded, Described}
 use Rattle.code.proofs.Facts.{described}
-use Rattle.decoder.specs.Decoder.{single, decodedUnder}
-use Rattle.decoder.proofs.Decoder.{description-refused, under-code}
+use Rattle.decoder.specs.Decoder.{single, decoded_under}
+use Rattle.decoder.proofs.Decoder.{description_refused, under-code}
 use Rattle.flip_decoder.proofs.decode.Statement.{statement}
 use Rattle.flip_decoder.proofs.decode.Tie as tie
 
@@ -38,14 +38,14 @@ returns c =
     let a = m.before in
     let x = (s a).args in
     c.before.before.decode-by.ensures
-    ∙ ap (λ (mask : List ℕ). decodedUnder (single x.terms.limit) x.terms.restart mask (code a) x.channel.now x.output.now) m.mask-of.ensures
+    ∙ ap (λ (mask : List ℕ). decoded_under (single x.terms.limit) x.terms.restart mask (code a) x.channel.now x.output.now) m.mask-of.ensures
     ∙ sym (under-code (single x.terms.limit) x.terms.restart x.description.now x.channel.now x.output.now (code a) (accepted a))
 
 returns-2 : tie.Need-returns-2
 returns-2 c =
     let r = c.before.before.before in
     let x = r.before.before.before.before.args in
-    sym (description-refused (single x.terms.limit) x.terms.restart x.description.now x.channel.now x.output.now _ (sym r.read-description.ensures ∙ c.before.x.given.1))
+    sym (description_refused (single x.terms.limit) x.terms.restart x.description.now x.channel.now x.output.now _ (sym r.read-description.ensures ∙ c.before.x.given.1))
 
 pub decode-spec : {M : Type 1} → statement M
 decode-spec =

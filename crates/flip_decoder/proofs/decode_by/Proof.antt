@@ -6,13 +6,13 @@ use borrow.Author.Rules.{rules}
 use Rattle.refusal.specs.declared.Judgement.TheVariants.{Fine}
 use Rattle.refusal.specs.Judge.{judge}
 use Rattle.arrays.proofs.Sizes.{fits}
-use Rattle.channel.specs.Channel.{channelValues}
+use Rattle.channel.specs.Channel.{channel_values}
 use Rattle.pass_tree.specs.Node.{Out}
-use Rattle.flip_trial.specs.Trial.{trialPasses}
+use Rattle.flip_trial.specs.Trial.{trial_passes}
 use Rattle.flip_run.specs.Trials.{run, answer_of}
-use Rattle.decoder.specs.Decoder.{Decoder, single, refusalsOf}
-use Rattle.decoder.proofs.Decoder.{fine-answer, refused-answer, spelt-out}
-use Rattle.decoder.proofs.Trials.{trials-are}
+use Rattle.decoder.specs.Decoder.{Decoder, single, refusals_of}
+use Rattle.decoder.proofs.Decoder.{fine-answer, refused_answer, spelt_out}
+use Rattle.decoder.proofs.Trials.{trials_are}
 use Rattle.flip_decoder.proofs.decode_by.Statement.{statement}
 use Rattle.flip_decoder.proofs.decode_by.Tie as tie
 
@@ -24,7 +24,7 @@ module _ (c : tie.After-enum-told) where
   abbrev p : Decoder
   p = single s.args.terms.limit
 
-  fine : judge (refusalsOf p s.args.code s.args.channel.now s.args.output.now) ≡ Fine
+  fine : judge (refusals_of p s.args.code s.args.channel.now s.args.output.now) ≡ Fine
   fine = let j = c.before.before in sym (j.judge-call.ensures p j.before.before.judge-limit.ensures) ∙ c.enum_told.given.1
 
 returns : tie.Need-returns
@@ -33,7 +33,7 @@ returns c =
     let t = d.before.before in
     let x = (s t).args in
     d.decode-in.ensures
-    ∙ ap (λ (os : List Out). answer_of x.mask.now x.code x.output.now (run (trialPasses x.mask.now x.code) 0 0 os)) (trials-are x.terms x.mask.now x.code (channelValues x.channel.now))
+    ∙ ap (λ (os : List Out). answer_of x.mask.now x.code x.output.now (run (trial_passes x.mask.now x.code) 0 0 os)) (trials_are x.terms x.mask.now x.code (channel_values x.channel.now))
     ∙ sym (fine-answer (p t) x.terms.restart x.mask.now x.code x.channel.now x.output.now (fine t))
 
 returns-2 : tie.Need-returns-2
@@ -41,7 +41,7 @@ returns-2 c =
     let j = c.before.before.before in
     let x = j.before.before.before.before.before.before.args in
     let p : Decoder = single x.terms.limit in
-    sym (refused-answer p x.terms.restart x.mask.now x.code x.channel.now x.output.now _
+    sym (refused_answer p x.terms.restart x.mask.now x.code x.channel.now x.output.now _
     (sym (j.judge-call.ensures p j.before.before.judge-limit.ensures) ∙ c.before.x.given.1))
 
 -- what the run asks
@@ -49,19 +49,19 @@ decode-in-requires : tie.Need-decode-in-requires
 decode-in-requires c κs =
     let t = c.before in
     let x = (s t).args in
-    let w = (spelt-out (p t) x.code x.channel.now x.output.now).1 (fine t) in
+    let w = (spelt_out (p t) x.code x.channel.now x.output.now).1 (fine t) in
     record {
-      frame = record { coded = (s t).requires; channel-size = w.channel-size; in-range = w.in-range };
+      frame = record { coded = (s t).requires; channel_size = w.channel_size; in_range = w.in_range };
       limits = record { least = w.allowed.0; most = w.allowed.1 };
-      output-size = w.output-size;
+      output_size = w.output_size;
     }
 
 pub decode-by-spec : {M : Type 1} → statement M
 decode-by-spec =
     tie.close
     (tie.spec
-    (λ c κs. let p = c.before.before.before.requires in omega (arith, p.K-most, fits p.n-most))
-    (λ c κs. c.before.before.before.before.before.requires.n-most)
+    (λ c κs. let p = c.before.before.before.requires in omega (arith, p.K_most, fits p.n_most))
+    (λ c κs. c.before.before.before.before.before.requires.n_most)
     (λ c. search rules)
     decode-in-requires
     (λ c. search rules)

@@ -1,7 +1,7 @@
 -- `flip_decoder::judge_limit` meets its contract.
 use mathlib.Core.Path.{sym, ◌∙◌}
 use borrow.Author.Rules.{rules}
-use Rattle.refusal.proofs.Judge.{judge-none, judge-yes, judge-no}
+use Rattle.refusal.proofs.Judge.{judge-none, judge_yes, judge_no}
 use Rattle.flip_decoder.proofs.judge_limit.Statement.{statement}
 use Rattle.flip_decoder.proofs.judge_limit.Tie as tie
 
@@ -13,5 +13,5 @@ judge-limit-spec =
     (λ c. search rules)
     (λ c. search rules)
     (λ c κs. search rules)
-    (λ c. sym (judge-yes _ _ _ (sym c.before.is-outside.ensures ∙ c.if1.true)))
-    (λ c. sym (judge-no _ _ _ (sym c.before.is-outside.ensures ∙ c.if1.false) ∙ judge-none)))
+    (λ c. sym (judge_yes _ _ _ (sym c.before.is-outside.ensures ∙ c.if1.true)))
+    (λ c. sym (judge_no _ _ _ (sym c.before.is-outside.ensures ∙ c.if1.false) ∙ judge-none)))

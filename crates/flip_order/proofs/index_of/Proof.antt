@@ -5,7 +5,7 @@ use native.Mathlib.Omega.{arith}
 use lib.IntN.{pos, nat_abs}
 use lib.Signed.{mag}
 use mir.Syntax.{w32, w64}
-use Rattle.laws.proofs.Signed.{back, back_is, cast-nat}
+use Rattle.laws.proofs.Signed.{back, back_is, cast_nat}
 use Rattle.arrays.specs.Claims.{longest}
 use Rattle.flip_order.proofs.index_of.Statement.{statement}
 use Rattle.flip_order.proofs.index_of.Tie as tie
@@ -17,5 +17,5 @@ pub index-of-spec : {M : Type 1} → statement M
 index-of-spec =
     tie.close
     (tie.spec
-    (λ c. cast-nat w64 _ _ (key_back c) (omega (arith, ap mag c.requires)))
+    (λ c. cast_nat w64 _ _ (key_back c) (omega (arith, ap mag c.requires)))
     (λ c. ap (λ (k : ℕ). k % longest) (ap nat_abs (key_back c))))

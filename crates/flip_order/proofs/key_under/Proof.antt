@@ -9,7 +9,7 @@ use mir.Syntax.{w32}
 use mir.Val.{SFits}
 use Rattle.laws.proofs.Signed.{back, back_is, back-small, sfits}
 use Rattle.arrays.specs.Claims.{longest}
-use Rattle.flip_order.specs.Contracts.{KeyPre, keyFor}
+use Rattle.flip_order.specs.Clauses.{KeyPre, key_for}
 use Rattle.flip_order.proofs.Keys.{key-under, none-under}
 use Rattle.flip_order.proofs.key_under.Statement.{statement}
 use Rattle.flip_order.proofs.key_under.Tie as tie
@@ -33,11 +33,11 @@ module _ {mask : List ℕ} {value : ℤ} {i : ℕ} (p : KeyPre mask value i) (fi
 
   sum_fits : SFits w32 (back w32 (back w32 r *ℤ pos longest) +ℤ back w32 (pos i))
   sum_fits =
-      subst₂ (λ (x y : ℤ). SFits w32 (x +ℤ y)) (sym product_is) (sym index_is) (sfits w32 (pos (keyFor value i)) (omega (arith, p.small, p.fits)))
+      subst₂ (λ (x y : ℤ). SFits w32 (x +ℤ y)) (sym product_is) (sym index_is) (sfits w32 (pos (key_for value i)) (omega (arith, p.small, p.fits)))
 
-  sum_is : back w32 (back w32 (back w32 r *ℤ pos longest) +ℤ back w32 (pos i)) ≡ pos (keyFor value i)
+  sum_is : back w32 (back w32 (back w32 r *ℤ pos longest) +ℤ back w32 (pos i)) ≡ pos (key_for value i)
   sum_is =
-      ap₂ (λ (x y : ℤ). back w32 (x +ℤ y)) product_is index_is ∙ back-small w32 (pos (keyFor value i)) (omega (arith, p.small, p.fits))
+      ap₂ (λ (x y : ℤ). back w32 (x +ℤ y)) product_is index_is ∙ back-small w32 (pos (key_for value i)) (omega (arith, p.small, p.fits))
 
 returns : tie.Need-returns
 returns c =

@@ -8,14 +8,14 @@ use lib.IntN.{ℤ, pos, nat_abs}
 use lib.ListN.{length, get_or}
 use lib.Seq.{get_or-take}
 use mir.Syntax.{w32}
-use Rattle.laws.proofs.Filling.{Filling, filling-none, filling-more, filling-past, filling-done}
+use Rattle.laws.proofs.Filling.{Filling, filling_none, filling_more, filling_past, filling_done}
 use Rattle.laws.proofs.Signed.{back, back_is, back-small}
-use Rattle.flip_order.specs.Contracts.{KeyPre, KeysPre, keyUnder}
+use Rattle.flip_order.specs.Clauses.{KeyPre, KeysPre, key_under}
 use Rattle.flip_order.proofs.make_keys.Statement.{statement}
 use Rattle.flip_order.proofs.make_keys.Tie as tie
 
 abbrev key_at : List ℕ → List ℤ → ℕ → ℤ
-key_at mask values i = pos (keyUnder mask (get_or values i (pos 0)) i)
+key_at mask values i = pos (key_under mask (get_or values i (pos 0)) i)
 
 abbrev invariant-loop : tie.invariant-loop
 invariant-loop mask values₀ size i₀ values i = Filling (key_at mask values₀) 0 size values₀ values i
@@ -27,7 +27,7 @@ decreases-loop mask values₀ size i₀ values i = size - i
 module _ {mask : List ℕ} {values values' : List ℤ} {i : ℕ} (p : KeysPre mask values) (inv : Filling (key_at mask values) 0 (8 * length mask) values values' i) (l : i < 8 * length mask) where
   leaf-back : back w32 (get_or values' i (pos 0)) ≡ get_or values i (pos 0)
   leaf-back =
-      ap (back w32) (filling-past inv i (pos 0) (omega arith))
+      ap (back w32) (filling_past inv i (pos 0) (omega arith))
       ∙ back-small w32 (get_or values i (pos 0)) (omega (arith, ap nat_abs (get_or-take (8 * length mask) values i (pos 0) l), p.small.at i))
 
   key-pre : KeyPre mask (back w32 (get_or values' i (pos 0))) i
@@ -48,13 +48,13 @@ loop-again c =
     let l = c.before.before.before.loop in
     let here = c.before.before.loop-test.true in
     let key = back_is w32 c.key-under.result (record { sfits = c.key-under.type-inv }) ∙ c.key-under.ensures
-    ∙ ap (λ (z : ℤ). pos (keyUnder s.args.mask.now z l.i)) (leaf-back s.requires l.invariant here) in
-    filling-more l.invariant _ _ here (omega arith) key
+    ∙ ap (λ (z : ℤ). pos (key_under s.args.mask.now z l.i)) (leaf-back s.requires l.invariant here) in
+    filling_more l.invariant _ _ here (omega arith) key
 
 returns : tie.Need-returns invariant-loop decreases-loop
 returns c =
     let s = c.before.before.before in
-    filling-done c.before.loop.invariant c.loop-test.false (omega (arith, s.requires.there))
+    filling_done c.before.loop.invariant c.loop-test.false (omega (arith, s.requires.there))
 
 pub make-keys-spec : {M : Type 1} → statement M
 make-keys-spec =
@@ -63,7 +63,7 @@ make-keys-spec =
     invariant-loop
     decreases-loop
     (λ c. search rules)
-    (λ c. filling-none)
+    (λ c. filling_none)
     (λ c. search rules)
     (λ c. search rules)
     key-under-requires

@@ -10,22 +10,22 @@ use lib.ListN.{get_or}
 use mir.Syntax.{w32}
 use mir.Val.{to_z}
 use Rattle.laws.proofs.Signed.{back, back_is}
-use Rattle.flip_order.specs.Contracts.{above, lesser, leastAbove}
+use Rattle.flip_order.specs.Clauses.{above, lesser, least_above}
 use Rattle.flip_order.proofs.next_key.Statement.{statement}
 use Rattle.flip_order.proofs.next_key.Tie as tie
 
 abbrev invariant-loop : tie.invariant-loop
-invariant-loop size keys last best₀ i₀ best i = (to_z w32 best ≡ leastAbove (to_z w32 last) keys i) × (i ≤ size)
+invariant-loop size keys last best₀ i₀ best i = (to_z w32 best ≡ least_above (to_z w32 last) keys i) × (i ≤ size)
 
 abbrev decreases-loop : tie.decreases-loop
 decreases-loop size keys last best₀ i₀ best i = size - i
 
 loop-holds : tie.Need-loop-init invariant-loop decreases-loop
-unfolding leastAbove
+unfolding least_above
 loop-holds c = (refl, omega arith)
 
 loop-again : tie.Need-loop-preserved invariant-loop decreases-loop
-unfolding leastAbove
+unfolding least_above
 loop-again c =
     let s = c.before.before.before.before.before in
     let l = c.before.before.before.before.loop in
@@ -34,14 +34,14 @@ loop-again c =
     let key = back_is w32 (get_or keys l.i (pos 0)) (record { sfits = c.before.before.above-arg.given }) in
     let a = back_is w32 c.before.above.result (record { sfits = c.before.above.type-inv }) ∙ c.before.above.ensures ∙ ap (above last) key in
     let b = back_is w32 c.lesser.result (record { sfits = c.lesser.type-inv }) ∙ c.lesser.ensures ∙ ap₂ lesser a l.invariant.0 in
-    (b ∙ ap (leastAbove last keys) (sym (add-one l.i)), omega arith)
+    (b ∙ ap (least_above last keys) (sym (add-one l.i)), omega arith)
 
 returns : tie.Need-returns invariant-loop decreases-loop
 returns c =
     let s = c.before.before in
     let l = c.before.loop in
     let end : l.i ≡ s.args.size = omega arith in
-    l.invariant.0 ∙ ap₂ (λ (z : ℤ) (n : ℕ). leastAbove z s.args.keys.now n) (back_is w32 s.args.last s.ranges.last) end
+    l.invariant.0 ∙ ap₂ (λ (z : ℤ) (n : ℕ). least_above z s.args.keys.now n) (back_is w32 s.args.last s.ranges.last) end
 
 pub next-key-spec : {M : Type 1} → statement M
 next-key-spec =

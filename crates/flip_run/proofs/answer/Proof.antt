@@ -5,10 +5,10 @@ use Prim.Native.Nat.{ℕ}
 use borrow.Author.Rules.{rules}
 use lib.ListN.{length, take}
 use lib.Seq.{length-take-le}
-use Rattle.bits.specs.Packing.{bytesFor}
+use Rattle.bits.specs.Packing.{bytes_for}
 use Rattle.flip_run.specs.declared.Decoded.TheVariants.{Accepted}
 use Rattle.flip_run.specs.declared.Ended.{Ended}
-use Rattle.flip_run.specs.Contracts.{PassedBits, answered}
+use Rattle.flip_run.specs.Clauses.{PassedBits, answered}
 use Rattle.flip_run.proofs.answer.Statement.{statement}
 use Rattle.flip_run.proofs.answer.Tie as tie
 
@@ -22,7 +22,7 @@ pack-requires : tie.Need-pack-requires
 pack-requires c κs =
     let t = c.before.before.before in
     let s = t.before.before.before.before in
-    (subst (λ (e : Ended). PassedBits e (take s.args.k s.args.message.now)) t.ended.given.1 s.requires.1, s.requires.2 ∙ ap bytesFor (sym (part_length s)))
+    (subst (λ (e : Ended). PassedBits e (take s.args.k s.args.message.now)) t.ended.given.1 s.requires.1, s.requires.2 ∙ ap bytes_for (sym (part_length s)))
 
 returns : tie.Need-returns
 returns c =

@@ -10,16 +10,16 @@ use lib.ListN.{length}
 use Rattle.arrays.specs.Claims.{longest}
 use Rattle.arrays.proofs.Sizes.{fits}
 use Rattle.bits.proofs.Lists.{bits-nil}
-use Rattle.channel.specs.Channel.{channelValues}
+use Rattle.channel.specs.Channel.{channel_values}
 use Rattle.pass_tree.specs.declared.Work.{Work}
 use Rattle.pass_tree.specs.Node.{Out}
-use Rattle.flip_trial.specs.Trial.{firstTrial, trialPasses}
-use Rattle.flip_trial.proofs.Bounds.{first-bits, first-steps}
+use Rattle.flip_trial.specs.Trial.{first_trial, trial_passes}
+use Rattle.flip_trial.proofs.Bounds.{first_bits, first_steps}
 use Rattle.flip_run.specs.declared.Ended.TheVariants.{Passed}
 use Rattle.flip_run.specs.Trials.{Verdict, passed, run}
-use Rattle.flip_run.specs.Contracts.{Ran}
-use Rattle.flip_run.proofs.LoopInvariant.{run-passes, run-fails}
-use Rattle.flip_run.proofs.LoopStep.{values-inside, arrays-again, ran-passed}
+use Rattle.flip_run.specs.Clauses.{Ran}
+use Rattle.flip_run.proofs.LoopInvariant.{run-passes, run_fails}
+use Rattle.flip_run.proofs.LoopStep.{values-inside, arrays_again, ran_passed}
 use Rattle.flip_run.proofs.begin.Statement.{statement}
 use Rattle.flip_run.proofs.begin.Tie as tie
 
@@ -28,11 +28,11 @@ first-trial-requires c κs =
     let s = c.before.before.before.before.before.before.before in
     let on = s.requires.0 in (
       record {
-        n-least = omega (arith, on.coded.n-least);
-        n-most = on.coded.n-most;
-        q-most = omega arith;
-        long = on.channel-size;
-        small = values-inside s.args.channel.now on.in-range;
+        n_least = omega (arith, on.coded.n_least);
+        n_most = on.coded.n_most;
+        q_most = omega arith;
+        long = on.channel_size;
+        small = values-inside s.args.channel.now on.in_range;
         bits = bits-nil;
         whole = s.requires.2;
       },
@@ -49,13 +49,13 @@ module _ (c : tie.After-first-trial) where
   mask = s.args.mask.now
 
   abbrev v : List ℤ
-  v = channelValues s.args.channel.now
+  v = channel_values s.args.channel.now
 
   abbrev o : Out
-  o = firstTrial mask s.args.code v
+  o = first_trial mask s.args.code v
 
   abbrev ok : List ℕ → Bool
-  ok = trialPasses mask s.args.code
+  ok = trial_passes mask s.args.code
 
   -- the steps, counted from none
   counted : c.first-trial.result.steps ≡ 0 + o.work.steps
@@ -66,7 +66,7 @@ trial-passes-requires c κs =
     let f = c.before.before in
     let coded = (s f).requires.0.coded in
     let w = f.first-trial.ensures.whole in
-    (coded, omega (arith, w.bits, fits coded.n-most), omega (arith, w.sums, fits coded.n-most))
+    (coded, omega (arith, w.bits, fits coded.n_most), omega (arith, w.sums, fits coded.n_most))
 
 -- its check
 module _ (c : tie.After-trial-passes) where
@@ -88,7 +88,7 @@ returns c =
       subst (λ (w : Verdict). Ran (mask (f p)) x.code w (Passed 1 (f p).first-trial.result.steps) p.trial-passes.new.1.1.1.0)
           (ap (λ (steps : ℕ). passed 1 steps (o (f p)).bits) (counted (f p))
           ∙ sym (run-passes (ok (f p)) 0 0 (o (f p)) later (sym (ok-is p) ∙ c.if1.true)))
-          (ran-passed (s (f p)).pre.0.coded _ _ (f p).first-trial.ensures.bits.bits p.trial-passes.ensures.1 (first-bits (mask (f p)) x.code (v (f p)))),
+          (ran_passed (s (f p)).pre.0.coded _ _ (f p).first-trial.ensures.bits.bits p.trial-passes.ensures.1 (first_bits (mask (f p)) x.code (v (f p)))),
       same-room p,
     )
 
@@ -99,15 +99,15 @@ returns-2 c =
       refl,
       record {
         later = record {
-          start-most = omega (arith, counted (f p), first-steps (mask (f p)) (s (f p)).args.code (v (f p)));
-          first-bits = t.bits;
+          start_most = omega (arith, counted (f p), first_steps (mask (f p)) (s (f p)).args.code (v (f p)));
+          first_bits = t.bits;
           plain = t.plain;
           goes_on = λ later.
-              run-fails (ok (f p)) 0 0 (o (f p)) later (sym (ok-is p) ∙ c.if1.false)
+              run_fails (ok (f p)) 0 0 (o (f p)) later (sym (ok-is p) ∙ c.if1.false)
               ∙ ap (λ (steps : ℕ). run (ok (f p)) 1 steps later) (sym (counted (f p)));
         };
         leaves = t.leaves;
-        whole = arrays-again t.whole (same-room p);
+        whole = arrays_again t.whole (same-room p);
       },
     )
 

@@ -7,8 +7,8 @@ use borrow.Author.Rules.{rules}
 use lib.ListN.{length}
 use Rattle.arrays.specs.Claims.{longest}
 use Rattle.arrays.proofs.Sizes.{fits}
-use Rattle.flip_run.specs.Contracts.{Ran, verdictBy}
-use Rattle.flip_run.proofs.LoopStep.{ran-answers, ran_bits}
+use Rattle.flip_run.specs.Clauses.{Ran, verdict_by}
+use Rattle.flip_run.proofs.LoopStep.{ran_answers, ran_bits}
 use Rattle.flip_run.proofs.decode_in.Statement.{statement}
 use Rattle.flip_run.proofs.decode_in.Tie as tie
 
@@ -28,7 +28,7 @@ module _ (c : tie.After-run-trials) where
   same-room : length message ≡ longest
   same-room = c.run-trials.ensures.1
 
-  ran : Ran s.args.mask.now s.args.code (verdictBy s.args.terms s.args.mask.now s.args.code s.args.channel.now) c.run-trials.result message
+  ran : Ran s.args.mask.now s.args.code (verdict_by s.args.terms s.args.mask.now s.args.code s.args.channel.now) c.run-trials.result message
   ran = c.run-trials.ensures.0
 
 answer-requires : tie.Need-answer-requires
@@ -36,7 +36,7 @@ answer-requires c κs =
     let r = c.before.before in
     let x = (s r).args in
     let p = (s r).requires in
-    (omega (arith, same-room r, p.frame.coded.K-most, fits p.frame.coded.n-most), ran_bits x.mask.now x.code (verdictBy x.terms x.mask.now x.code x.channel.now) r.run-trials.result (message r) (ran r), p.output-size)
+    (omega (arith, same-room r, p.frame.coded.K_most, fits p.frame.coded.n_most), ran_bits x.mask.now x.code (verdict_by x.terms x.mask.now x.code x.channel.now) r.run-trials.result (message r) (ran r), p.output_size)
 
 returns : tie.Need-returns
 returns c =
@@ -44,7 +44,7 @@ returns c =
     let r = a.before.before.before in
     let x = (s r).args in
     a.answer.ensures
-    ∙ ran-answers x.mask.now x.code x.output.now (verdictBy x.terms x.mask.now x.code x.channel.now) r.run-trials.result (message r) (ran r)
+    ∙ ran_answers x.mask.now x.code x.output.now (verdict_by x.terms x.mask.now x.code x.channel.now) r.run-trials.result (message r) (ran r)
 
 pub decode-in-spec : {M : Type 1} → statement M
 decode-in-spec =

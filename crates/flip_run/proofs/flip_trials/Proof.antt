@@ -10,34 +10,34 @@ use lib.ListN.{length, get_or}
 use mir.Syntax.{w32}
 use mir.Val.{to_z}
 use Rattle.laws.proofs.Signed.{back, back_is}
-use Rattle.arrays.specs.Claims.{mostTrials, mostSteps, longest}
-use Rattle.arrays.proofs.Sizes.{fits, steps-fit}
-use Rattle.code.specs.Code.{codeLength}
-use Rattle.channel.specs.Channel.{channelValues}
+use Rattle.arrays.specs.Claims.{most_trials, most_steps, longest}
+use Rattle.arrays.proofs.Sizes.{fits, steps_fit}
+use Rattle.code.specs.Code.{code_length}
+use Rattle.channel.specs.Channel.{channel_values}
 use Rattle.pass_tree.specs.declared.Work.{Work}
 use Rattle.pass_tree.specs.Node.{Out}
-use Rattle.pass_ends.specs.Contracts.{Arrays, arrays, Whole}
-use Rattle.flip_order.specs.Contracts.{leastAbove}
-use Rattle.flip_order.proofs.Keys.{keys-made, LastKey, last_none, next_place, next-positive, next-index}
-use Rattle.flip_trial.specs.Trial.{firstTrial, laterTrial, restartAt, trialPasses}
+use Rattle.pass_ends.specs.Clauses.{Arrays, arrays, Whole}
+use Rattle.flip_order.specs.Clauses.{least_above}
+use Rattle.flip_order.proofs.Keys.{keys_made, LastKey, last_none, next_place, next_positive, next_index}
+use Rattle.flip_trial.specs.Trial.{first_trial, later_trial, restart_at, trial_passes}
 use Rattle.flip_trial.specs.Flips.{Flips}
-use Rattle.flip_trial.specs.Contracts.{PlainRules, TrialPost}
-use Rattle.flip_trial.proofs.Bounds.{later-bits, later-steps}
-use Rattle.flip_trial.proofs.Passes.{later-pre, later-made, plain-after}
+use Rattle.flip_trial.specs.Clauses.{PlainRules, TrialPost}
+use Rattle.flip_trial.proofs.Bounds.{later-bits, later_steps}
+use Rattle.flip_trial.proofs.Passes.{later_pre, later_made, plain_after}
 use Rattle.flip_run.specs.declared.Ended.TheVariants.{Passed, Failed}
-use Rattle.flip_run.specs.Trials.{Verdict, flipOrder}
-use Rattle.flip_run.specs.Contracts.{FirstKeys, Ran}
-use Rattle.flip_run.proofs.FlipOrder.{order-flips}
-use Rattle.flip_run.proofs.LoopInvariant.{LoopInvariant, loop-starts, loop-ends, loop-passes, loop-goes-on}
-use Rattle.flip_run.proofs.LoopStep.{trial_on, arrays-again, order-long, keys-pre, ran-passed}
+use Rattle.flip_run.specs.Trials.{Verdict, flip_order}
+use Rattle.flip_run.specs.Clauses.{FirstKeys, Ran}
+use Rattle.flip_run.proofs.FlipOrder.{order_flips}
+use Rattle.flip_run.proofs.LoopInvariant.{LoopInvariant, loop_starts, loop_ends, loop_passes, loop_goes_on}
+use Rattle.flip_run.proofs.LoopStep.{trial_on, arrays_again, order_long, keys_pre, ran_passed}
 use Rattle.flip_run.proofs.flip_trials.Statement.{statement}
 use Rattle.flip_run.proofs.flip_trials.Tie as tie
 
 abbrev invariant-loop : tie.invariant-loop
 invariant-loop mask code channel start first values rules₀ work₀ sums₀ bits₀ leaves₀ restart limit size made₀ steps₀ key₀ rules work sums bits leaves made steps key =
-    let v = channelValues channel in
-    LoopInvariant (trialPasses mask code) (λ i. laterTrial restart mask code v (i ∷ [])) (flipOrder mask code v) limit start made steps
-    × LastKey (firstTrial mask code v).leaves (flipOrder mask code v) (made - 1) (to_z w32 key)
+    let v = channel_values channel in
+    LoopInvariant (trial_passes mask code) (λ i. later_trial restart mask code v (i ∷ [])) (flip_order mask code v) limit start made steps
+    × LastKey (first_trial mask code v).leaves (flip_order mask code v) (made - 1) (to_z w32 key)
     × PlainRules longest mask code rules
     × Whole longest (arrays work bits sums leaves)
 
@@ -48,12 +48,12 @@ decreases-loop mask code channel start first values rules₀ work₀ sums₀ bit
 make-keys-requires : tie.Need-make-keys-requires invariant-loop decreases-loop
 make-keys-requires c κs =
     let p = c.before.before.before.requires in
-    keys-pre p.0 (fits p.0.coded.n-most) p.2.leaves
+    keys_pre p.0 (fits p.0.coded.n_most) p.2.leaves
 
 loop-holds : tie.Need-loop-init invariant-loop decreases-loop
 loop-holds c =
     let p = c.before.before.before.before.requires in
-    (loop-starts p.1.least (steps-fit p.0.coded.n-most p.2.later.start-most), last_none, p.2.later.plain, record { work = p.2.whole.work; bits = refl; sums = p.2.whole.sums; leaves = refl })
+    (loop_starts p.1.least (steps_fit p.0.coded.n_most p.2.later.start_most), last_none, p.2.later.plain, record { work = p.2.whole.work; bits = refl; sums = p.2.whole.sums; leaves = refl })
 
 -- at the loop's head
 module _ (c : tie.At-loop invariant-loop decreases-loop) where
@@ -64,34 +64,34 @@ module _ (c : tie.At-loop invariant-loop decreases-loop) where
   mask = s.args.mask.now
 
   abbrev v : List ℤ
-  v = channelValues s.args.channel.now
+  v = channel_values s.args.channel.now
 
   abbrev order : List ℕ
-  order = flipOrder mask s.args.code v
+  order = flip_order mask s.args.code v
 
   abbrev later : ℕ → Out
-  later i = laterTrial s.args.terms.restart mask s.args.code v (i ∷ [])
+  later i = later_trial s.args.terms.restart mask s.args.code v (i ∷ [])
 
   abbrev keys : List ℤ
   keys = c.before.make-keys.new.1.0
 
-  abbrev going : LoopInvariant (trialPasses mask s.args.code) later order s.args.terms.limit s.args.start c.loop.made c.loop.steps
+  abbrev going : LoopInvariant (trial_passes mask s.args.code) later order s.args.terms.limit s.args.start c.loop.made c.loop.steps
   going = c.loop.invariant.0
 
-  size_fits : codeLength s.args.code ≤ longest
-  size_fits = fits s.pre.0.coded.n-most
+  size_fits : code_length s.args.code ≤ longest
+  size_fits = fits s.pre.0.coded.n_most
 
-  made-most : c.loop.made ≤ mostTrials
-  made-most = omega (arith, going.most, s.pre.1.most, s.pre.0.coded.K-most, size_fits)
+  made_most : c.loop.made ≤ most_trials
+  made_most = omega (arith, going.most, s.pre.1.most, s.pre.0.coded.K_most, size_fits)
 
   long : s.args.terms.limit - 1 ≤ length order
-  long = order-long s.pre.0 s.pre.1.most
+  long = order_long s.pre.0 s.pre.1.most
 
   -- the keys are those of trial 1's leaf values
   keyed : FirstKeys mask s.args.code s.args.channel.now keys
   keyed =
       let on = s.pre.0 in
-      keys-made (keys-pre on size_fits s.pre.2.leaves) on.coded.mask_size s.pre.2.leaves.values c.before.make-keys.ensures
+      keys_made (keys_pre on size_fits s.pre.2.leaves) on.coded.mask_size s.pre.2.leaves.values c.before.make-keys.ensures
 
 -- the next key
 module _ (c : tie.After-next-key invariant-loop decreases-loop) where
@@ -104,10 +104,10 @@ module _ (c : tie.After-next-key invariant-loop decreases-loop) where
   here : head.loop.made - 1 < length (order head)
   here = omega (arith, long head, (going head).least, turn.loop-test.taken)
 
-  least : back w32 c.next-key.result ≡ leastAbove (to_z w32 head.loop.key) (keys head) (codeLength (s head).args.code)
+  least : back w32 c.next-key.result ≡ least_above (to_z w32 head.loop.key) (keys head) (code_length (s head).args.code)
   least =
       back_is w32 c.next-key.result (record { sfits = c.next-key.type-inv }) ∙ c.next-key.ensures
-      ∙ ap (leastAbove (to_z w32 head.loop.key) (keys head)) (s head).pre.0.channel-size
+      ∙ ap (least_above (to_z w32 head.loop.key) (keys head)) (s head).pre.0.channel_size
 
 -- the index that is flipped
 module _ (c : tie.After-index-of invariant-loop decreases-loop) where
@@ -118,12 +118,12 @@ module _ (c : tie.After-index-of invariant-loop decreases-loop) where
   i = c.index_of.result
 
   next : i ≡ get_or (order (head k)) ((head k).loop.made - 1) 0
-  next = c.index_of.ensures ∙ next-index (keyed (head k)) (head k).loop.inv.1 (here k) (least k)
+  next = c.index_of.ensures ∙ next_index (keyed (head k)) (head k).loop.inv.1 (here k) (least k)
 
-  flips : Flips (mask (head k)) (codeLength (s (head k)).args.code) (i ∷ [])
+  flips : Flips (mask (head k)) (code_length (s (head k)).args.code) (i ∷ [])
   flips =
-      subst (λ (j : ℕ). Flips (mask (head k)) (codeLength (s (head k)).args.code) (j ∷ [])) (sym next)
-      (order-flips (mask (head k)) (s (head k)).args.code (v (head k)) ((head k).loop.made - 1) (here k))
+      subst (λ (j : ℕ). Flips (mask (head k)) (code_length (s (head k)).args.code) (j ∷ [])) (sym next)
+      (order_flips (mask (head k)) (s (head k)).args.code (v (head k)) ((head k).loop.made - 1) (here k))
 
 restart-index-requires : tie.Need-restart-index-requires invariant-loop decreases-loop
 restart-index-requires c κs =
@@ -138,7 +138,7 @@ later-trial-requires c κs =
     let l = head (k f) in
     let p = (s l).pre in
     let inv = l.loop.inv in
-    (trial_on p.0 inv.2.whole inv.3, later-pre inv.2 p.2.later.first-bits (flips f) (s l).args.terms.restart p.0.coded.mask_size r.restart-index.ensures)
+    (trial_on p.0 inv.2.whole inv.3, later_pre inv.2 p.2.later.first_bits (flips f) (s l).args.terms.restart p.0.coded.mask_size r.restart-index.ensures)
 
 -- the trial
 module _ (c : tie.After-later-trial invariant-loop decreases-loop) where
@@ -155,19 +155,19 @@ module _ (c : tie.After-later-trial invariant-loop decreases-loop) where
   o = later at (i found)
 
   abbrev q : ℕ
-  q = restartAt (s at).args.terms.restart (mask at) (codeLength (s at).args.code) (i found)
+  q = restart_at (s at).args.terms.restart (mask at) (code_length (s at).args.code) (i found)
 
   abbrev after : Arrays
   after = let last = c.later-trial.new.1.1.1.1.1.1 in arrays last.0 last.1.0 last.1.1.0 last.1.1.1.0
 
   made-is : TrialPost longest (s at).args.code q o after c.later-trial.result
-  made-is = later-made at.loop.inv.2 (s at).pre.2.later.first-bits (flips found) (s at).args.terms.restart (s at).pre.0.coded.mask_size resumed.restart-index.ensures c.later-trial.ensures.0
+  made-is = later_made at.loop.inv.2 (s at).pre.2.later.first_bits (flips found) (s at).args.terms.restart (s at).pre.0.coded.mask_size resumed.restart-index.ensures c.later-trial.ensures.0
 
   took : c.later-trial.result.steps ≡ o.work.steps
   took = ap (λ (w : Work). w.steps) made-is.work
 
-  few : c.later-trial.result.steps ≤ mostSteps
-  few = steps-fit (s at).pre.0.coded.n-most (omega (arith, took, later-steps (mask at) (s at).args.code (v at) (i found ∷ []) q))
+  few : c.later-trial.result.steps ≤ most_steps
+  few = steps_fit (s at).pre.0.coded.n_most (omega (arith, took, later_steps (mask at) (s at).args.code (v at) (i found ∷ []) q))
 
 trial-passes-requires : tie.Need-trial-passes-requires invariant-loop decreases-loop
 trial-passes-requires c κs =
@@ -183,8 +183,8 @@ module _ (c : tie.After-trial-passes invariant-loop decreases-loop) where
   abbrev a : tie.At-loop invariant-loop decreases-loop
   a = at trial
 
-  ok-is : c.trial-passes.result ≡ trialPasses (mask a) (s a).args.code (o trial).bits
-  ok-is = c.trial-passes.ensures.0 ∙ ap (trialPasses (mask a) (s a).args.code) (made-is trial).bits
+  ok-is : c.trial-passes.result ≡ trial_passes (mask a) (s a).args.code (o trial).bits
+  ok-is = c.trial-passes.ensures.0 ∙ ap (trial_passes (mask a) (s a).args.code) (made-is trial).bits
 
   -- the message stands in the place of the sums
   same-room : length c.trial-passes.new.1.1.1.0 ≡ longest
@@ -196,8 +196,8 @@ returns c =
     let l = a p in
     let f = found (trial p) in (
       subst (λ (w : Verdict). Ran (mask l) (s l).args.code w (Passed (l.loop.made + 1) (l.loop.steps + (trial p).later-trial.result.steps)) p.trial-passes.new.1.1.1.0)
-          (sym ((s l).pre.2.later.goes_on _ ∙ loop-passes (going l) (long l) (turn (k f)).loop-test.taken (next f) (took (trial p)) (sym (ok-is p) ∙ c.if1.true)))
-          (ran-passed (s l).pre.0.coded _ _ (made-is (trial p)).bits p.trial-passes.ensures.1 (later-bits (mask l) (s l).args.code (v l) (i f ∷ []) (q (trial p)))),
+          (sym ((s l).pre.2.later.goes_on _ ∙ loop_passes (going l) (long l) (turn (k f)).loop-test.taken (next f) (took (trial p)) (sym (ok-is p) ∙ c.if1.true)))
+          (ran_passed (s l).pre.0.coded _ _ (made-is (trial p)).bits p.trial-passes.ensures.1 (later-bits (mask l) (s l).args.code (v l) (i f ∷ []) (q (trial p)))),
       same-room p,
     )
 
@@ -208,17 +208,17 @@ loop-again c =
     let l = a p in
     let f = found t in
     let m : l.loop.made + 1 - 1 ≡ l.loop.made - 1 + 1 = omega (arith, (going l).least) in (
-      loop-goes-on (going l) (long l) (turn (k f)).loop-test.taken (next f) (took t) (sym (ok-is p) ∙ c.if1.false) (few t),
+      loop_goes_on (going l) (long l) (turn (k f)).loop-test.taken (next f) (took t) (sym (ok-is p) ∙ c.if1.false) (few t),
       next_place (keyed l) l.loop.inv.1 (here (k f)) (least (k f)) m,
-      plain-after l.loop.inv.2 (s l).pre.2.later.first-bits (flips f) (s l).args.terms.restart (s l).pre.0.coded.mask_size (resumed t).restart-index.ensures t.later-trial.ensures.1 (size_fits l),
-      arrays-again (made-is t).whole (same-room p),
+      plain_after l.loop.inv.2 (s l).pre.2.later.first_bits (flips f) (s l).args.terms.restart (s l).pre.0.coded.mask_size (resumed t).restart-index.ensures t.later-trial.ensures.1 (size_fits l),
+      arrays_again (made-is t).whole (same-room p),
     )
 
 returns-2 : tie.Need-returns-2 invariant-loop decreases-loop
 returns-2 c =
     let l = c.before in (
       subst (λ (w : Verdict). Ran (mask l) (s l).args.code w (Failed l.loop.made l.loop.steps) l.loop.sums)
-          (sym ((s l).requires.2.later.goes_on _ ∙ loop-ends (going l) (long l) c.loop-test.false)) refl,
+          (sym ((s l).requires.2.later.goes_on _ ∙ loop_ends (going l) (long l) c.loop-test.false)) refl,
       l.loop.invariant.3.sums,
     )
 
@@ -232,13 +232,13 @@ flip-trials-spec =
     loop-holds
     (λ c κs.
     let l = c.before.before.before in
-    omega (arith, (s l).requires.0.channel-size, size_fits l, l.before.make-keys.auto.1.0, (s l).requires.2.leaves.whole))
-    (λ c κs. next-positive (keyed (head c)) (head c).loop.invariant.1 (here c) (least c))
+    omega (arith, (s l).requires.0.channel_size, size_fits l, l.before.make-keys.auto.1.0, (s l).requires.2.leaves.whole))
+    (λ c κs. next_positive (keyed (head c)) (head c).loop.invariant.1 (here c) (least c))
     restart-index-requires
     (λ c. search rules)
     later-trial-requires
-    (λ c. omega (arith, made-most (at c)))
-    (λ c. let t = c.before in omega (arith, few t, (going (at t)).few, made-most (at t)))
+    (λ c. omega (arith, made_most (at c)))
+    (λ c. let t = c.before in omega (arith, few t, (going (at t)).few, made_most (at t)))
     trial-passes-requires
     returns
     (λ c. search rules)

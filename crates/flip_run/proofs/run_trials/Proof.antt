@@ -3,12 +3,12 @@ use mathlib.Core.Path.{refl, sym, ap, ◌∙◌, subst}
 use Prim.Native.Nat.{ℕ}
 use native.Mathlib.Omega.{arith}
 use borrow.Author.Rules.{rules}
-use Rattle.arrays.proofs.Sizes.{steps-fit}
+use Rattle.arrays.proofs.Sizes.{steps_fit}
 use Rattle.flip_run.specs.declared.Ended.TheVariants.{Failed}
 use Rattle.flip_run.specs.Trials.{Verdict}
-use Rattle.flip_run.specs.Contracts.{BeginPost, Ran}
-use Rattle.flip_run.proofs.LoopInvariant.{loop-starts, loop-ends}
-use Rattle.flip_run.proofs.LoopStep.{order-long}
+use Rattle.flip_run.specs.Clauses.{BeginPost, Ran}
+use Rattle.flip_run.proofs.LoopInvariant.{loop_starts, loop_ends}
+use Rattle.flip_run.proofs.LoopStep.{order_long}
 use Rattle.flip_run.proofs.run_trials.Statement.{statement}
 use Rattle.flip_run.proofs.run_trials.Tie as tie
 
@@ -33,7 +33,7 @@ returns c =
     let made = t.trials.given.0 in
     let e = subst (BeginPost _ _ _ _ _ _) t.trials.given.1 b.begin.ensures in (
       subst (λ (w : Verdict). Ran x.mask.now x.code w (Failed made.0 made.1.0) b.begin.new.1.1.1.1.1.1.1.0)
-          (sym (e.1.later.goes_on _ ∙ loop-ends (loop-starts s.requires.1.least (steps-fit on.coded.n-most e.1.later.start-most)) (order-long on s.requires.1.most) (omega (arith, c.if1.true))))
+          (sym (e.1.later.goes_on _ ∙ loop_ends (loop_starts s.requires.1.least (steps_fit on.coded.n_most e.1.later.start_most)) (order_long on s.requires.1.most) (omega (arith, c.if1.true))))
           (ap (λ (m : ℕ). Failed m made.1.0) e.0),
       e.1.whole.sums,
     )

@@ -3,9 +3,9 @@ use mathlib.Core.Path.{refl, ap, ◌∙◌}
 use Prim.Native.Nat.{◌-◌}
 use native.Mathlib.Omega.{arith}
 use borrow.Author.Rules.{rules}
-use Rattle.laws.specs.Contracts.{splice}
+use Rattle.laws.specs.Clauses.{splice}
 use Rattle.laws.proofs.Table.{table-replicate}
-use Rattle.laws.proofs.Filling.{Filling, filling-none, filling-more, filling-done}
+use Rattle.laws.proofs.Filling.{Filling, filling_none, filling_more, filling_done}
 use Rattle.flip_trial.proofs.clear_bits.Statement.{statement}
 use Rattle.flip_trial.proofs.clear_bits.Tie as tie
 
@@ -16,12 +16,12 @@ abbrev decreases-loop : tie.decreases-loop
 decreases-loop at count bits₀ j₀ bits j = count - j
 
 loop-again : tie.Need-loop-preserved invariant-loop decreases-loop
-loop-again c = let l = c.before.loop in filling-more l.invariant _ 0 (omega arith) refl refl
+loop-again c = let l = c.before.loop in filling_more l.invariant _ 0 (omega arith) refl refl
 
 returns : tie.Need-returns invariant-loop decreases-loop
 returns c =
     let s = c.before.before in
-    filling-done c.before.loop.invariant (omega arith) (omega arith)
+    filling_done c.before.loop.invariant (omega arith) (omega arith)
     ∙ ap (splice s.args.bits.now s.args.at) (table-replicate 0 s.args.count)
 
 pub clear-bits-spec : {M : Type 1} → statement M
@@ -30,7 +30,7 @@ clear-bits-spec =
     (tie.spec
     invariant-loop
     decreases-loop
-    (λ c. filling-none)
+    (λ c. filling_none)
     (λ c. search rules)
     (λ c. search rules)
     (λ c. search rules)

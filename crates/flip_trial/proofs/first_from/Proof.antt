@@ -10,14 +10,14 @@ use borrow.Author.Tests.{eq-eqb, ne_eqb}
 use lib.Dec.{eqb}
 use lib.ListN.{length}
 use Rattle.laws.proofs.First.{first-is}
-use Rattle.bits.specs.Mask.{maskBit}
-use Rattle.flip_trial.specs.Contracts.{firstFrom}
+use Rattle.bits.specs.Mask.{mask_bit}
+use Rattle.flip_trial.specs.Clauses.{first_from}
 use Rattle.flip_trial.proofs.first_from.Statement.{statement}
 use Rattle.flip_trial.proofs.first_from.Tie as tie
 
 -- the test of the k-th index from `from` on
 abbrev test : List ℕ → ℕ → ℕ → Bool
-test mask from k = eqb (maskBit mask (from + k)) 1
+test mask from k = eqb (mask_bit mask (from + k)) 1
 
 abbrev invariant-loop : tie.invariant-loop
 invariant-loop mask from j₀ j = (from ≤ j) × (j ≤ 8 * length mask) × ((k : ℕ) → k < j - from → test mask from k ≡ false)
@@ -26,11 +26,11 @@ abbrev decreases-loop : tie.decreases-loop
 decreases-loop mask from j₀ j = 8 * length mask - j
 
 -- the search ends at j
-found : (mask : List ℕ) (from j : ℕ) → from ≤ j → j ≤ 8 * length mask → ((k : ℕ) → k < j - from → test mask from k ≡ false) → (j < 8 * length mask → maskBit mask j ≡ 1) → j ≡ firstFrom mask from (8 * length mask - from)
+found : (mask : List ℕ) (from j : ℕ) → from ≤ j → j ≤ 8 * length mask → ((k : ℕ) → k < j - from → test mask from k ≡ false) → (j < 8 * length mask → mask_bit mask j ≡ 1) → j ≡ first_from mask from (8 * length mask - from)
 found mask from j l m below here =
     let back : from + (j - from) ≡ j = omega arith in
     sym back
-    ∙ ap (λ (k : ℕ). from + k) (sym (first-is (test mask from) (8 * length mask - from) (j - from) (omega arith) below (λ h. eq-eqb _ 1 (ap (maskBit mask) back ∙ here (omega arith)))))
+    ∙ ap (λ (k : ℕ). from + k) (sym (first-is (test mask from) (8 * length mask - from) (j - from) (omega arith) below (λ h. eq-eqb _ 1 (ap (mask_bit mask) back ∙ here (omega arith)))))
 
 returns : tie.Need-returns invariant-loop decreases-loop
 returns c =
@@ -45,7 +45,7 @@ loop-again c =
     let mask = s.mask.now in
     let back : s.from + (l.j - s.from) ≡ l.j = omega (arith, l.invariant.0) in
     let turns : l.j - s.from + 1 ≡ l.j + 1 - s.from = omega (arith, l.invariant.0) in
-    let bit = ne_eqb _ 1 (λ e. c.if1.false (c.before.mask-bit.ensures ∙ sym (ap (maskBit mask) back) ∙ e)) in
+    let bit = ne_eqb _ 1 (λ e. c.if1.false (c.before.mask-bit.ensures ∙ sym (ap (mask_bit mask) back) ∙ e)) in
     (omega (arith, l.invariant.0), omega arith, subst (λ (m : ℕ). (k : ℕ) → k < m → test mask s.from k ≡ false) turns (below_more _ _ l.invariant.2 bit))
 
 returns-2 : tie.Need-returns-2 invariant-loop decreases-loop

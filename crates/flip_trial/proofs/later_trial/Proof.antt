@@ -7,42 +7,42 @@ use borrow.Author.Rules.{rules}
 use lib.ListN.{length}
 use Rattle.arrays.specs.Claims.{longest}
 use Rattle.arrays.proofs.Sizes.{fits}
-use Rattle.code.specs.Code.{codeLength}
-use Rattle.flip_trial.specs.Contracts.{Below, setAll}
-use Rattle.flip_trial.proofs.Passes.{first_bit, flips-fit, pass-pre, later-post}
-use Rattle.flip_trial.proofs.Rules.{length-setAll, set-again}
+use Rattle.code.specs.Code.{code_length}
+use Rattle.flip_trial.specs.Clauses.{Below, set_all}
+use Rattle.flip_trial.proofs.Passes.{first_bit, flips_fit, pass_pre, later_post}
+use Rattle.flip_trial.proofs.Rules.{length-set_all, set_again}
 use Rattle.flip_trial.proofs.later_trial.Statement.{statement}
 use Rattle.flip_trial.proofs.later_trial.Tie as tie
 
 module _ (s : tie.Start) where
-  room : codeLength s.args.code ≤ longest
-  room = fits s.requires.0.n-most
+  room : code_length s.args.code ≤ longest
+  room = fits s.requires.0.n_most
 
   below : Below longest s.args.flips.now
-  below = flips-fit s.pre.0 s.pre.1 room
+  below = flips_fit s.pre.0 s.pre.1 room
 
 put-prefix-requires : tie.Need-put-prefix-requires
 put-prefix-requires c κs =
     let s = c.before.before.before.before in
     let on = s.requires.0 in
     let later = s.requires.1 in
-    ((below s).at 0 later.some, omega (arith, later.q-most, room s), first_bit on later (room s), later.whole, on.whole.bits)
+    ((below s).at 0 later.some, omega (arith, later.q_most, room s), first_bit on later (room s), later.whole, on.whole.bits)
 
 set-rules-requires : tie.Need-set-rules-requires
-set-rules-requires c κs = let s = c.before.before.before.before.before.before in (below s, s.requires.0.rules-whole)
+set-rules-requires c κs = let s = c.before.before.before.before.before.before in (below s, s.requires.0.rules_whole)
 
 pass-requires : tie.Need-pass-requires
 pass-requires c κs =
     let r = c.before.before.before.before.before in
     let p = r.before.before in
     let s = p.before.before.before.before.before in
-    pass-pre s.requires.0 s.requires.1 (room s) p.put-prefix.ensures r.set-rules.ensures
+    pass_pre s.requires.0 s.requires.1 (room s) p.put-prefix.ensures r.set-rules.ensures
 
 set-rules-requires-2 : tie.Need-set-rules-requires-2
 set-rules-requires-2 c κs =
     let r = c.before.before.before.before.before.before.before in
     let s = r.before.before.before.before.before.before.before in
-    (below s, ap length r.set-rules.ensures ∙ length-setAll s.args.rules.now s.args.flips.now 3 ∙ s.requires.0.rules-whole)
+    (below s, ap length r.set-rules.ensures ∙ length-set_all s.args.rules.now s.args.flips.now 3 ∙ s.requires.0.rules_whole)
 
 returns : tie.Need-returns
 returns c =
@@ -52,9 +52,9 @@ returns c =
     let s = p.before.before.before.before.before in
     let rules = s.args.rules.now in
     let flips = s.args.flips.now in (
-      later-post s.requires.0 s.requires.1 (room s) p.put-prefix.ensures r.set-rules.ensures d.pass.ensures,
-      c.set-rules2.ensures ∙ ap (λ (w : List ℕ). setAll w flips 1) r.set-rules.ensures
-          ∙ set-again rules flips (subst (λ (k : ℕ). Below k flips) (sym s.requires.0.rules-whole) (below s)) 3 1,
+      later_post s.requires.0 s.requires.1 (room s) p.put-prefix.ensures r.set-rules.ensures d.pass.ensures,
+      c.set-rules2.ensures ∙ ap (λ (w : List ℕ). set_all w flips 1) r.set-rules.ensures
+          ∙ set_again rules flips (subst (λ (k : ℕ). Below k flips) (sym s.requires.0.rules_whole) (below s)) 3 1,
     )
 
 pub later-trial-spec : {M : Type 1} → statement M

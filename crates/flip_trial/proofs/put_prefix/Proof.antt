@@ -6,7 +6,7 @@ use native.Mathlib.Omega.{arith}
 use borrow.Author.Rules.{rules}
 use lib.ListN.{length, take, set, replicate, length-append, length-set, length-replicate}
 use lib.Seq.{length-take-le}
-use Rattle.laws.specs.Contracts.{splice}
+use Rattle.laws.specs.Clauses.{splice}
 use Rattle.laws.proofs.Segment.{splice-next, length-splice}
 use Rattle.laws.proofs.Filling.{splice-snoc}
 use Rattle.flip_trial.proofs.Prefix.{forced-before, forced-past}

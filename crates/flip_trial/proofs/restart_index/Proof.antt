@@ -4,13 +4,13 @@ use Prim.Native.Nat.{ℕ, ◌*◌}
 use borrow.Author.Rules.{rules}
 use lib.ListN.{length}
 use Rattle.flip_trial.specs.declared.Restart.{Restart}
-use Rattle.flip_trial.specs.Trial.{restartAt}
+use Rattle.flip_trial.specs.Trial.{restart_at}
 use Rattle.flip_trial.proofs.restart_index.Statement.{statement}
 use Rattle.flip_trial.proofs.restart_index.Tie as tie
 
 -- where a restart resumes, for the arguments of the call
 abbrev at : tie.Start → Restart → ℕ
-at s r = restartAt r s.args.mask.now (8 * length s.args.mask.now) s.args.lowest
+at s r = restart_at r s.args.mask.now (8 * length s.args.mask.now) s.args.lowest
 
 returns-2 : tie.Need-returns-2
 returns-2 c = c.half-index.ensures ∙ ap (at c.before.before.before.before) (sym c.before.enum-told2.given.1)

@@ -7,12 +7,12 @@ use native.Mathlib.Omega.{arith}
 use borrow.Author.Rules.{rules}
 use lib.ListN.{length, drop, get_or, set, length-set, drop_of_length-le}
 use lib.Seq.{drop-cons}
-use Rattle.flip_trial.specs.Contracts.{setAll}
+use Rattle.flip_trial.specs.Clauses.{set_all}
 use Rattle.flip_trial.proofs.set_rules.Statement.{statement}
 use Rattle.flip_trial.proofs.set_rules.Tie as tie
 
 abbrev invariant-loop : tie.invariant-loop
-invariant-loop rule flips rules₀ a₀ rules a = (a ≤ length flips) × (length rules ≡ length rules₀) × (setAll rules (drop a flips) rule ≡ setAll rules₀ flips rule)
+invariant-loop rule flips rules₀ a₀ rules a = (a ≤ length flips) × (length rules ≡ length rules₀) × (set_all rules (drop a flips) rule ≡ set_all rules₀ flips rule)
 
 abbrev decreases-loop : tie.decreases-loop
 decreases-loop rule flips rules₀ a₀ rules a = length flips - a
@@ -29,8 +29,8 @@ loop-again c =
     let flips = s.flips.now in (
       omega arith,
       length-set l.rules _ _ ∙ l.invariant.1,
-      ap (λ (k : ℕ). setAll (set l.rules (get_or flips l.a 0) s.rule) (drop k flips) s.rule) (add-one l.a)
-          ∙ sym (ap (λ (is : List ℕ). setAll l.rules is s.rule) (drop-cons flips l.a 0 (omega arith)))
+      ap (λ (k : ℕ). set_all (set l.rules (get_or flips l.a 0) s.rule) (drop k flips) s.rule) (add-one l.a)
+          ∙ sym (ap (λ (is : List ℕ). set_all l.rules is s.rule) (drop-cons flips l.a 0 (omega arith)))
           ∙ l.invariant.2,
     )
 
@@ -38,7 +38,7 @@ returns : tie.Need-returns invariant-loop decreases-loop
 returns c =
     let l = c.before.loop in
     let s = c.before.before.args in
-    sym (ap (λ (is : List ℕ). setAll l.rules is s.rule) (drop_of_length-le s.flips.now {i = l.a} (omega arith))) ∙ l.invariant.2
+    sym (ap (λ (is : List ℕ). set_all l.rules is s.rule) (drop_of_length-le s.flips.now {i = l.a} (omega arith))) ∙ l.invariant.2
 
 pub set-rules-spec : {M : Type 1} → statement M
 set-rules-spec =

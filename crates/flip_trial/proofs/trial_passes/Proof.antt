@@ -4,9 +4,9 @@ use Prim.Native.Nat.{ℕ}
 use native.Mathlib.Omega.{arith}
 use borrow.Author.Rules.{rules}
 use lib.ListN.{length, take}
-use Rattle.code.specs.Code.{codeLength, informationCount, divisor, startBits}
+use Rattle.code.specs.Code.{code_length, information_count, divisor, start_bits}
 use Rattle.crc.specs.Check.{passes}
-use Rattle.flip_trial.specs.Trial.{messageIn}
+use Rattle.flip_trial.specs.Trial.{message_in}
 use Rattle.flip_trial.proofs.Message.{length-message, message-at}
 use Rattle.flip_trial.proofs.trial_passes.Statement.{statement}
 use Rattle.flip_trial.proofs.trial_passes.Tie as tie
@@ -17,9 +17,9 @@ module _ (c : tie.After-take-out) where
   s = c.before.before.before.before.before
 
   abbrev size : ℕ
-  size = informationCount s.args.code
+  size = information_count s.args.code
 
-  taken_is : take size c.take_out.new.1.1.0 ≡ messageIn s.args.mask.now s.args.code (take (codeLength s.args.code) s.args.bits.now)
+  taken_is : take size c.take_out.new.1.1.0 ≡ message_in s.args.mask.now s.args.code (take (code_length s.args.code) s.args.bits.now)
   taken_is = message-at s.pre.0 s.args.bits.now s.args.message.now _ s.pre.2 c.take_out.ensures.1
 
   taken-length : length (take size c.take_out.new.1.1.0) ≡ size
@@ -29,13 +29,13 @@ passes-requires : tie.Need-passes-requires
 passes-requires c κs =
     let t = c.before.before.before.before.before in
     let p = (s t).requires.0 in
-    (record { some = p.r-least; most = p.r-most; fits = omega (arith, p.start_fits) }, taken-length t)
+    (record { some = p.r_least; most = p.r_most; fits = omega (arith, p.start_fits) }, taken-length t)
 
 returns : tie.Need-returns
 returns c =
     let t = c.before.before.before.before.before.before in
     let a = (s t).args in
-    (c.passes.ensures ∙ ap (passes (divisor a.code) (startBits a.code) a.code.k) (taken_is t), taken_is t)
+    (c.passes.ensures ∙ ap (passes (divisor a.code) (start_bits a.code) a.code.k) (taken_is t), taken_is t)
 
 pub trial-passes-spec : {M : Type 1} → statement M
 trial-passes-spec =

@@ -5,15 +5,15 @@ use native.Mathlib.Omega.{arith}
 use borrow.Author.Rules.{rules}
 use lib.IntN.{nat_abs}
 use lib.ListN.{length, get_or}
-use Rattle.laws.proofs.Filling.{Filling, filling-none, filling-more, filling-past, filling-done}
-use Rattle.channel.specs.Channel.{channelValue}
-use Rattle.hearing.specs.Contracts.{clippedSum}
+use Rattle.laws.proofs.Filling.{Filling, filling_none, filling_more, filling_past, filling_done}
+use Rattle.channel.specs.Channel.{channel_value}
+use Rattle.hearing.specs.Clauses.{clipped_sum}
 use Rattle.hearing.proofs.add_values.Statement.{statement}
 use Rattle.hearing.proofs.add_values.Tie as tie
 
 abbrev invariant-loop : tie.invariant-loop
 invariant-loop values₀ channel i₀ values i =
-    Filling (λ k. clippedSum (get_or values₀ k 0) (get_or channel k 0)) 0 (length channel) values₀ values i
+    Filling (λ k. clipped_sum (get_or values₀ k 0) (get_or channel k 0)) 0 (length channel) values₀ values i
 
 abbrev decreases-loop : tie.decreases-loop
 decreases-loop values₀ channel i₀ values i = length channel - i
@@ -22,21 +22,21 @@ decreases-loop values₀ channel i₀ values i = length channel - i
 kept : (c : tie.After-shared-slice-known2 invariant-loop decreases-loop) →
     let l = c.before.before.before.loop in
     get_or l.values l.i 0 ≡ get_or c.before.before.before.before.before.before.args.values.now l.i 0
-kept c = let l = c.before.before.before.loop in filling-past l.invariant l.i 0 (omega arith)
+kept c = let l = c.before.before.before.loop in filling_past l.invariant l.i 0 (omega arith)
 
 clipped-sum-requires : tie.Need-clipped-sum-requires invariant-loop decreases-loop
 clipped-sum-requires c κs =
     let i = c.before.before.before.loop.i in
     let pre = c.before.before.before.before.before.before.requires in
     let below : i < length c.before.before.before.before.before.before.args.channel.now = omega arith in
-    (omega (arith, ap (λ (b : ℕ). nat_abs (channelValue b)) (kept c), pre.values-small i below), pre.channel-small i below)
+    (omega (arith, ap (λ (b : ℕ). nat_abs (channel_value b)) (kept c), pre.values_small i below), pre.channel_small i below)
 
 loop-again : tie.Need-loop-preserved invariant-loop decreases-loop
 loop-again c =
     let l = c.before.before.before.before.loop in
     let channel = c.before.before.before.before.before.before.before.args.channel.now in
-    filling-more l.invariant _ _ (omega arith) (omega arith)
-    (c.clipped-sum.ensures ∙ ap (λ (b : ℕ). clippedSum b (get_or channel l.i 0)) (kept c.before))
+    filling_more l.invariant _ _ (omega arith) (omega arith)
+    (c.clipped-sum.ensures ∙ ap (λ (b : ℕ). clipped_sum b (get_or channel l.i 0)) (kept c.before))
 
 pub add-values-spec : {M : Type 1} → statement M
 add-values-spec =
@@ -44,7 +44,7 @@ add-values-spec =
     (tie.spec
     invariant-loop
     decreases-loop
-    (λ c. filling-none)
+    (λ c. filling_none)
     (λ c. omega (arith, c.before.before.loop.invariant.same, c.before.before.before.before.before.requires.room))
     (λ c. search rules)
     clipped-sum-requires
@@ -53,4 +53,4 @@ add-values-spec =
     (λ c. search rules)
     loop-again
     (λ c. c.before.loop.invariant.same)
-    (λ c. filling-done c.before.loop.invariant (omega arith) (omega (arith, c.before.before.before.before.requires.room))))
+    (λ c. filling_done c.before.loop.invariant (omega arith) (omega (arith, c.before.before.before.before.requires.room))))

@@ -3,7 +3,7 @@ use mathlib.Core.Path.{sym, ap, ◌∙◌}
 use Prim.Native.Nat.{ℕ, ◌+◌, ◌%◌}
 use native.Mathlib.Omega.{arith}
 use borrow.Author.Rules.{rules}
-use Rattle.hearing.proofs.Sums.{clipped-sum-is}
+use Rattle.hearing.proofs.Sums.{clipped_sum-is}
 use Rattle.hearing.proofs.clipped_sum.Statement.{statement}
 use Rattle.hearing.proofs.clipped_sum.Tie as tie
 
@@ -12,7 +12,7 @@ returns c =
     let s = c.before in
     let a = s.args.a in
     let b = s.args.b in
-    ap (λ (x : ℕ). (x + 194) % 256) c.clamped.ensures ∙ sym (clipped-sum-is a b (omega arith) (omega arith) s.requires.0 s.requires.1)
+    ap (λ (x : ℕ). (x + 194) % 256) c.clamped.ensures ∙ sym (clipped_sum-is a b (omega arith) (omega arith) s.requires.0 s.requires.1)
 
 pub clipped-sum-spec : {M : Type 1} → statement M
 clipped-sum-spec =

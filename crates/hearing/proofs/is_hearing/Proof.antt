@@ -9,12 +9,12 @@ use borrow.Author.Tests.{le-leb}
 use lib.Dec.{eqb}
 use lib.ListN.{drop, take}
 use Rattle.laws.proofs.Powers.{one_shl}
-use Rattle.arrays.specs.Padded.{allZero}
+use Rattle.arrays.specs.Padded.{all_zero}
 use Rattle.arrays.proofs.Sizes.{fits}
-use Rattle.channel.specs.Channel.{firstOutside}
-use Rattle.hearing.specs.Hearing.{isHearing}
-use Rattle.hearing.specs.Contracts.{zeroFrom, hearingBy}
-use Rattle.hearing.proofs.Adding.{from-most}
+use Rattle.channel.specs.Channel.{first_outside}
+use Rattle.hearing.specs.Hearing.{is_hearing}
+use Rattle.hearing.specs.Clauses.{zero_from, hearing_by}
+use Rattle.hearing.proofs.Adding.{from_most}
 use Rattle.hearing.proofs.is_hearing.Statement.{statement}
 use Rattle.hearing.proofs.is_hearing.Tie as tie
 
@@ -28,26 +28,26 @@ module _ (s : tie.Start) where
   values = s.args.values.now
 
   abbrev zeros : ℕ → Bool
-  zeros from = allZero (drop from values)
+  zeros from = all_zero (drop from values)
 
   abbrev by : Bool → Bool
-  by t = t && eqb (firstOutside (take (2 ^ s.args.code.n) values)) (2 ^ s.args.code.n)
+  by t = t && eqb (first_outside (take (2 ^ s.args.code.n) values)) (2 ^ s.args.code.n)
 
-  counted : by (zeros (zeroFrom s.args.code s.args.count)) ≡ isHearing s.args.code (hearingBy s.args.count values)
+  counted : by (zeros (zero_from s.args.code s.args.count)) ≡ is_hearing s.args.code (hearing_by s.args.count values)
   counted =
-      ap (λ (t : Bool). t && by (zeros (zeroFrom s.args.code s.args.count))) (sym (le-leb s.args.count 255 (omega arith)))
+      ap (λ (t : Bool). t && by (zeros (zero_from s.args.code s.args.count))) (sym (le-leb s.args.count 255 (omega arith)))
 
 -- the first test
 first : (c : tie.After-is-zero-from) →
     let s = c.before.before.before in
-    c.is-zero-from.result ≡ zeros s (zeroFrom s.args.code s.args.count)
+    c.is-zero-from.result ≡ zeros s (zero_from s.args.code s.args.count)
 first c = c.is-zero-from.ensures ∙ ap (zeros c.before.before.before) c.before.zero-from.ensures
 
 returns : tie.Need-returns
 returns c =
     let e = c.before.before.before in
     let s = e.before.before.before in
-    c.are-inside.ensures ∙ ap (λ (k : ℕ). eqb (firstOutside (take k (values s))) k) (size s)
+    c.are-inside.ensures ∙ ap (λ (k : ℕ). eqb (first_outside (take k (values s))) k) (size s)
     ∙ ap (by s) (sym c.before.before.if1.true ∙ first e) ∙ counted s
 
 returns-2 : tie.Need-returns-2
@@ -60,7 +60,7 @@ is-hearing-spec =
     (λ c κs. search rules)
     (λ c κs.
     let s = c.before.before in
-    omega (arith, c.zero-from.ensures, from-most s.args.code s.args.count, fits s.requires.0, s.requires.1))
+    omega (arith, c.zero-from.ensures, from_most s.args.code s.args.count, fits s.requires.0, s.requires.1))
     (λ c. search rules)
     (λ c. search rules)
     (λ c κs. let s = c.before.before.before.before.before in omega (arith, size s, fits s.requires.0, s.requires.1))

@@ -7,15 +7,15 @@ use borrow.Author.Tests.{eq-eqb, ne_eqb}
 use lib.Dec.{eqb}
 use Rattle.refusal.specs.declared.Refusal.{Refusal}
 use Rattle.refusal.specs.declared.Refusal.TheVariants.{Alone}
-use Rattle.refusal.proofs.Judge.{judge-none, judge-yes, judge-no, append-fine, append-refused}
-use Rattle.channel.specs.Channel.{channelRefusals}
+use Rattle.refusal.proofs.Judge.{judge-none, judge_yes, judge_no, append-fine, append_refused}
+use Rattle.channel.specs.Channel.{channel_refusals}
 use Rattle.hearing.proofs.judge_add.Statement.{statement}
 use Rattle.hearing.proofs.judge_add.Tie as tie
 
 -- both lists of tests at a call
 module _ (s : tie.Start) where
   abbrev first : List (Bool × Refusal)
-  first = channelRefusals s.args.code s.args.channel.now
+  first = channel_refusals s.args.code s.args.channel.now
 
   abbrev second : List (Bool × Refusal)
   second = (eqb s.args.count 255, Alone 27) ∷ []
@@ -24,19 +24,19 @@ returns : tie.Need-returns
 returns c =
     let j = c.before.before.before in
     let s = j.before.before in
-    sym (append-fine (first s) (second s) (sym j.judge-channel.ensures ∙ c.before.enum_told.given.1) ∙ judge-yes _ _ _ (eq-eqb _ _ c.if1.true))
+    sym (append-fine (first s) (second s) (sym j.judge-channel.ensures ∙ c.before.enum_told.given.1) ∙ judge_yes _ _ _ (eq-eqb _ _ c.if1.true))
 
 returns-2 : tie.Need-returns-2
 returns-2 c =
     let j = c.before.before.before in
     let s = j.before.before in
-    sym (append-fine (first s) (second s) (sym j.judge-channel.ensures ∙ c.before.enum_told.given.1) ∙ judge-no _ _ _ (ne_eqb _ _ c.if1.false) ∙ judge-none)
+    sym (append-fine (first s) (second s) (sym j.judge-channel.ensures ∙ c.before.enum_told.given.1) ∙ judge_no _ _ _ (ne_eqb _ _ c.if1.false) ∙ judge-none)
 
 returns-3 : tie.Need-returns-3
 returns-3 c =
     let j = c.before.before.before in
     let s = j.before.before in
-    sym (append-refused (first s) (second s) _ (sym j.judge-channel.ensures ∙ c.before.x.given.1))
+    sym (append_refused (first s) (second s) _ (sym j.judge-channel.ensures ∙ c.before.x.given.1))
 
 pub judge-add-spec : {M : Type 1} → statement M
 judge-add-spec =

@@ -3,13 +3,13 @@ use mathlib.Core.Path.{sym, ap, ◌∙◌}
 use mathlib.Core.List.{List}
 use Prim.Native.Nat.{ℕ}
 use borrow.Author.Rules.{rules}
-use Rattle.refusal.specs.Judge.{refusedOr}
+use Rattle.refusal.specs.Judge.{refused_or}
 use Rattle.code.specs.declared.Description.{Description}
-use Rattle.code.specs.Description.{onDescription}
-use Rattle.hearing_state.specs.State.{refusedIn}
-use Rattle.hearing_state.specs.Contracts.{addedUnder}
+use Rattle.code.specs.Description.{on_description}
+use Rattle.hearing_state.specs.State.{refused_in}
+use Rattle.hearing_state.specs.Clauses.{added_under}
 use Rattle.hearing_buffer.specs.declared.Kept.{Kept}
-use Rattle.hearing_buffer.specs.Lent.{stateIn, answer_in}
+use Rattle.hearing_buffer.specs.Lent.{state_in, answer_in}
 use Rattle.hearing_buffer.proofs.add.Statement.{statement}
 use Rattle.hearing_buffer.proofs.add.Tie as tie
 
@@ -17,7 +17,7 @@ use Rattle.hearing_buffer.proofs.add.Tie as tie
 abbrev by : tie.Start → Description → Kept × List ℕ
 by s a =
     let b = s.args.buffer.now in
-    answer_in (onDescription a (refusedIn (stateIn b)) (λ c. addedUnder c (stateIn b) s.args.channel.now)) b
+    answer_in (on_description a (refused_in (state_in b)) (λ c. added_under c (state_in b) s.args.channel.now)) b
 
 returns : tie.Need-returns
 returns c =
@@ -27,7 +27,7 @@ returns c =
     u.add-under.ensures ∙ sym (ap (by r.before.before.before.before) (sym r.Code-in.ensures ∙ t.before.code.given.1))
 
 returns-2 : tie.Need-returns-2
-unfolding refusedOr
+unfolding refused_or
 returns-2 c =
     let r = c.before.before.before in
     sym (ap (by r.before.before.before.before) (sym r.Code-in.ensures ∙ c.before.x.given.1))

@@ -8,19 +8,19 @@ use borrow.Author.Rules.{rules}
 use lib.ListN.{length, get_or, take}
 use Rattle.refusal.specs.declared.Judgement.{Judgement}
 use Rattle.refusal.specs.declared.Judgement.TheVariants.{Fine}
-use Rattle.refusal.specs.Judge.{judge, refusedOr}
-use Rattle.arrays.specs.Sizes.{largestN}
-use Rattle.code.specs.Code.{longestDescription}
-use Rattle.hearing.specs.Hearing.{Hearing, addedTo, addRefusals, isHearing}
-use Rattle.hearing.specs.Contracts.{hearingBy}
-use Rattle.hearing.proofs.Adding.{count_most, not_full, add-pre, sums-are}
-use Rattle.hearing_state.specs.State.{State, codeOfState, refusedIn, withHearing}
-use Rattle.hearing_state.specs.Contracts.{stateBy}
-use Rattle.hearing_state.proofs.States.{code-most, is-hearing}
+use Rattle.refusal.specs.Judge.{judge, refused_or}
+use Rattle.arrays.specs.Sizes.{largest_n}
+use Rattle.code.specs.Code.{longest_description}
+use Rattle.hearing.specs.Hearing.{Hearing, added_to, add_refusals, is_hearing}
+use Rattle.hearing.specs.Clauses.{hearing_by}
+use Rattle.hearing.proofs.Adding.{count_most, not_full, add_pre, sums_are}
+use Rattle.hearing_state.specs.State.{State, code_of_state, refused_in, with_hearing}
+use Rattle.hearing_state.specs.Clauses.{state_by}
+use Rattle.hearing_state.proofs.States.{code-most, is_hearing_lem}
 use Rattle.hearing_buffer.specs.declared.Kept.{Kept}
 use Rattle.hearing_buffer.specs.declared.Kept.TheVariants.{Done}
-use Rattle.hearing_buffer.specs.Lent.{hearingSize, stateIn, answer_in}
-use Rattle.hearing_buffer.proofs.InPlace.{code-size, part, parts, state-parts, added-bytes}
+use Rattle.hearing_buffer.specs.Lent.{hearing_size, state_in, answer_in}
+use Rattle.hearing_buffer.proofs.InPlace.{code-size, part, parts, state_parts, added-bytes}
 use Rattle.hearing_buffer.proofs.add_under.Statement.{statement}
 use Rattle.hearing_buffer.proofs.add_under.Tie as tie
 
@@ -28,40 +28,40 @@ module _ (s : tie.Start) where
   abbrev b : List ℕ
   b = s.args.buffer.now
 
-  size : length b ≡ hearingSize
+  size : length b ≡ hearing_size
   size = code-size b s.args.code s.pre
 
   abbrev count : ℕ
-  count = get_or b longestDescription 0
+  count = get_or b longest_description 0
 
   -- the hearing, by its parts as they are lent
   abbrev h : Hearing
-  h = hearingBy count (part b size)
+  h = hearing_by count (part b size)
 
   abbrev state : State
-  state = stateBy (take longestDescription b) count (part b size)
+  state = state_by (take longest_description b) count (part b size)
 
-  coded : codeOfState state ≡ codeOfState (stateIn b)
-  coded = ap codeOfState (state-parts b size)
+  coded : code_of_state state ≡ code_of_state (state_in b)
+  coded = ap code_of_state (state_parts b size)
 
-  n-most : s.args.code.n ≤ largestN
-  n-most = code-most state s.args.code (coded ∙ s.pre)
+  n_most : s.args.code.n ≤ largest_n
+  n_most = code-most state s.args.code (coded ∙ s.pre)
 
-  hears : isHearing s.args.code h ≡ true
-  hears = is-hearing state s.args.code (coded ∙ s.pre)
+  hears : is_hearing s.args.code h ≡ true
+  hears = is_hearing_lem state s.args.code (coded ∙ s.pre)
 
   -- the answer and the bytes, by the judgement
   abbrev by : State → Judgement → Kept × List ℕ
   by t j =
       let x = s.args in
-      answer_in (refusedOr j (refusedIn t) (Fine, withHearing t (addedTo x.code t.hearing x.channel.now))) b
+      answer_in (refused_or j (refused_in t) (Fine, with_hearing t (added_to x.code t.hearing x.channel.now))) b
 
 -- the answer and the bytes if no refusal applies
 module _ (c : tie.After-enum-told) where
   abbrev start : tie.Start
   start = c.before.before.before.before.before.before
 
-  fine : judge (addRefusals start.args.code (count start) start.args.channel.now) ≡ Fine
+  fine : judge (add_refusals start.args.code (count start) start.args.channel.now) ≡ Fine
   fine = sym c.before.before.judge-add.ensures ∙ c.enum_told.given.1
 
   room : count start < 255
@@ -70,31 +70,31 @@ module _ (c : tie.After-enum-told) where
       not_full s.args.code (count s) s.args.channel.now fine (count_most s.args.code (h s) (hears s))
 
 returns : tie.Need-returns
-unfolding refusedOr
+unfolding refused_or
 returns c =
     let a = c.before.before in
     let t = a.before.before in
     let s = start t in
     let x = s.args in
-    let sums = a.add-values.ensures ∙ sums-are x.code (h s) x.channel.now (n-most s) (parts (b s) (size s)).values-size (hears s) (fine t) in
-    ap (λ (l : List ℕ). (Done (count s + 1), l)) (added-bytes (b s) (size s) _ (count s + 1) ∙ ap (λ (v : List ℕ). take longestDescription (b s) ++ ((count s + 1) ∷ v)) sums)
-    ∙ sym (ap (by s (state s)) (fine t)) ∙ ap (λ (t : State). by s t (judge (addRefusals x.code t.hearing.count x.channel.now))) (state-parts (b s) (size s))
+    let sums = a.add-values.ensures ∙ sums_are x.code (h s) x.channel.now (n_most s) (parts (b s) (size s)).values_size (hears s) (fine t) in
+    ap (λ (l : List ℕ). (Done (count s + 1), l)) (added-bytes (b s) (size s) _ (count s + 1) ∙ ap (λ (v : List ℕ). take longest_description (b s) ++ ((count s + 1) ∷ v)) sums)
+    ∙ sym (ap (by s (state s)) (fine t)) ∙ ap (λ (t : State). by s t (judge (add_refusals x.code t.hearing.count x.channel.now))) (state_parts (b s) (size s))
 
 returns-2 : tie.Need-returns-2
-unfolding refusedOr
+unfolding refused_or
 returns-2 c =
     let j = c.before.before.before in
     let s = j.before.before.before.before in
     let x = s.args in
     sym (ap (by s (state s)) (sym j.judge-add.ensures ∙ c.before.x.given.1))
-    ∙ ap (λ (t : State). by s t (judge (addRefusals x.code t.hearing.count x.channel.now))) (state-parts (b s) (size s))
+    ∙ ap (λ (t : State). by s t (judge (add_refusals x.code t.hearing.count x.channel.now))) (state_parts (b s) (size s))
 
 pub add-under-spec : {M : Type 1} → statement M
 add-under-spec =
     tie.close
     (tie.spec
     (λ c. let s = c.before.before.before in omega (arith, size s))
-    (λ c κs. n-most c.before.before.before)
+    (λ c κs. n_most c.before.before.before)
     (λ c. search rules)
     (λ c. omega (arith, size (start c)))
     (λ c. omega (arith, size (start c)))
@@ -102,7 +102,7 @@ add-under-spec =
     (λ c κs.
     let t = c.before in
     let s = start t in
-    add-pre s.args.code (h s) s.args.channel.now (n-most s) (parts (b s) (size s)).values-size (hears s) (fine t))
+    add_pre s.args.code (h s) s.args.channel.now (n_most s) (parts (b s) (size s)).values_size (hears s) (fine t))
     (λ c. record { fits = omega (arith, room c.before.before.before.before) })
     (λ c. omega (arith, size (start c.before.before.before.before)))
     (λ c. record { fits = omega (arith, room c.before.before.before.before) })

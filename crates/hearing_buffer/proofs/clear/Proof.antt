@@ -6,39 +6,39 @@ use native.Mathlib.Omega.{arith}
 use borrow.Author.Rules.{rules}
 use lib.ListN.{length}
 use Rattle.refusal.specs.declared.Judgement.TheVariants.{Fine}
-use Rattle.refusal.specs.Judge.{refusedOr}
+use Rattle.refusal.specs.Judge.{refused_or}
 use Rattle.code.specs.declared.Description.{Description}
-use Rattle.code.specs.Description.{onDescription}
+use Rattle.code.specs.Description.{on_description}
 use Rattle.hearing.specs.Hearing.{fresh}
-use Rattle.hearing_state.specs.State.{refusedIn, withHearing}
+use Rattle.hearing_state.specs.State.{refused_in, with_hearing}
 use Rattle.hearing_buffer.specs.declared.Kept.{Kept}
 use Rattle.hearing_buffer.specs.declared.Kept.TheVariants.{Done}
-use Rattle.hearing_buffer.specs.Lent.{hearingSize, stateIn, answer_in}
-use Rattle.hearing_buffer.proofs.Bytes.{clear-bytes}
+use Rattle.hearing_buffer.specs.Lent.{hearing_size, state_in, answer_in}
+use Rattle.hearing_buffer.proofs.Bytes.{clear_bytes}
 use Rattle.hearing_buffer.proofs.InPlace.{code-size}
 use Rattle.hearing_buffer.proofs.clear.Statement.{statement}
 use Rattle.hearing_buffer.proofs.clear.Tie as tie
 
 -- the answer and the bytes, by the code of the state
 abbrev by : tie.Start → Description → Kept × List ℕ
-by s a = let b = s.args.buffer.now in answer_in (onDescription a (refusedIn (stateIn b)) (λ c. (Fine, withHearing (stateIn b) fresh))) b
+by s a = let b = s.args.buffer.now in answer_in (on_description a (refused_in (state_in b)) (λ c. (Fine, with_hearing (state_in b) fresh))) b
 
 -- a buffer whose state is not refused
-size : (t : tie.After-enum-told) → length t.before.before.before.before.before.args.buffer.now ≡ hearingSize
+size : (t : tie.After-enum-told) → length t.before.before.before.before.before.args.buffer.now ≡ hearing_size
 size t = code-size t.before.before.before.before.before.args.buffer.now _ (sym t.before.before.Code-in.ensures ∙ t.enum_told.given.1)
 
 returns : tie.Need-returns
-unfolding refusedOr
+unfolding refused_or
 returns c =
     let z = c.before.before in
     let t = z.before.before in
     let r = t.before.before in
     let s = r.before.before.before in
-    ap (λ (l : List ℕ). (Done 0, l)) (z.clear-from.ensures ∙ clear-bytes s.args.buffer.now (size t))
+    ap (λ (l : List ℕ). (Done 0, l)) (z.clear-from.ensures ∙ clear_bytes s.args.buffer.now (size t))
     ∙ sym (ap (by s) (sym r.Code-in.ensures ∙ t.enum_told.given.1))
 
 returns-2 : tie.Need-returns-2
-unfolding refusedOr
+unfolding refused_or
 returns-2 c =
     let r = c.before.before.before in
     sym (ap (by r.before.before.before) (sym r.Code-in.ensures ∙ c.before.x.given.1))

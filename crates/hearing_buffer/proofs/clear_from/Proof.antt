@@ -5,10 +5,10 @@ use Prim.Native.Nat.{ℕ, ◌-◌}
 use native.Mathlib.Omega.{arith}
 use borrow.Author.Rules.{rules}
 use lib.ListN.{length, replicate, length-replicate}
-use Rattle.laws.specs.Contracts.{splice}
+use Rattle.laws.specs.Clauses.{splice}
 use Rattle.laws.proofs.Table.{table-replicate}
 use Rattle.laws.proofs.Segment.{splice-end}
-use Rattle.laws.proofs.Filling.{Filling, filling-none, filling-more, filling-done}
+use Rattle.laws.proofs.Filling.{Filling, filling_none, filling_more, filling_done}
 use Rattle.hearing_buffer.proofs.clear_from.Statement.{statement}
 use Rattle.hearing_buffer.proofs.clear_from.Tie as tie
 
@@ -19,7 +19,7 @@ abbrev decreases-loop : tie.decreases-loop
 decreases-loop buffer₀ start count j₀ buffer j = count - j
 
 loop-again : tie.Need-loop-preserved invariant-loop decreases-loop
-loop-again c = let l = c.before.loop in filling-more l.invariant _ 0 (omega arith) refl refl
+loop-again c = let l = c.before.loop in filling_more l.invariant _ 0 (omega arith) refl refl
 
 returns : tie.Need-returns invariant-loop decreases-loop
 returns c =
@@ -27,7 +27,7 @@ returns c =
     let b : List ℕ = s.args.buffer.now in
     let start : ℕ = s.args.start in
     let count : ℕ = length b - start in
-    filling-done c.before.loop.invariant (omega arith) (omega arith)
+    filling_done c.before.loop.invariant (omega arith) (omega arith)
     ∙ ap (splice b start) (table-replicate 0 count)
     ∙ splice-end b start (replicate count 0) (omega (arith, length-replicate {A = ℕ} count 0, s.requires))
 
@@ -38,7 +38,7 @@ clear-from-spec =
     invariant-loop
     decreases-loop
     (λ c. search rules)
-    (λ c. filling-none)
+    (λ c. filling_none)
     (λ c. search rules)
     (λ c. search rules)
     (λ c. search rules)

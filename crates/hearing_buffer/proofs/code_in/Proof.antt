@@ -3,10 +3,10 @@ use mathlib.Core.Path.{sym, ap, ◌∙◌}
 use mathlib.Core.Bool.{Bool, cond}
 use borrow.Author.Rules.{rules}
 use borrow.Author.Tests.{ne_eqb}
-use Rattle.hearing_state.specs.State.{noState, codeOfState}
+use Rattle.hearing_state.specs.State.{no_state, code_of_state}
 use Rattle.hearing_state.proofs.States.{no_code}
-use Rattle.hearing_buffer.specs.Contracts.{stateAt}
-use Rattle.hearing_buffer.proofs.InPlace.{parts, state-parts}
+use Rattle.hearing_buffer.specs.Clauses.{state_at}
+use Rattle.hearing_buffer.proofs.InPlace.{parts, state_parts}
 use Rattle.hearing_buffer.proofs.code_in.Statement.{statement}
 use Rattle.hearing_buffer.proofs.code_in.Tie as tie
 
@@ -14,18 +14,18 @@ returns : tie.Need-returns
 returns c =
     let t = c.before.before.before.before in
     let b = t.before.before.args.buffer.now in
-    c.code_by.ensures ∙ ap codeOfState (state-parts b t.if1.true)
+    c.code_by.ensures ∙ ap code_of_state (state_parts b t.if1.true)
 
 returns-2 : tie.Need-returns-2
 returns-2 c =
     let b = c.before.before.args.buffer.now in
-    sym (ap (λ (t : Bool). codeOfState (cond t (stateAt b) noState)) (ne_eqb _ _ c.if1.false) ∙ no_code)
+    sym (ap (λ (t : Bool). code_of_state (cond t (state_at b) no_state)) (ne_eqb _ _ c.if1.false) ∙ no_code)
 
 pub code-in-spec : {M : Type 1} → statement M
 code-in-spec =
     tie.close
     (tie.spec
-    (λ c. sym (parts c.before.before.before.args.buffer.now c.before.if1.true).description-size)
+    (λ c. sym (parts c.before.before.before.args.buffer.now c.before.if1.true).description_size)
     (λ c. search rules)
     (λ c. search rules)
     (λ c. search rules)

@@ -4,13 +4,13 @@ use mathlib.Core.List.{List}
 use Prim.Native.Nat.{ℕ}
 use borrow.Author.Rules.{rules}
 use Rattle.code.specs.declared.Description.{Description}
-use Rattle.code.specs.Description.{onDescription}
+use Rattle.code.specs.Description.{on_description}
 use Rattle.flip_run.specs.declared.Decoded.{Decoded}
 use Rattle.flip_run.specs.declared.Decoded.TheVariants.{Refused}
-use Rattle.decoder.specs.Decoder.{single, decodedAs}
+use Rattle.decoder.specs.Decoder.{single, decoded_as}
 use Rattle.hearing.specs.Hearing.{combined}
-use Rattle.hearing_state.specs.State.{descriptionOf}
-use Rattle.hearing_buffer.specs.Lent.{stateIn}
+use Rattle.hearing_state.specs.State.{description_of}
+use Rattle.hearing_buffer.specs.Lent.{state_in}
 use Rattle.hearing_buffer.proofs.decode.Statement.{statement}
 use Rattle.hearing_buffer.proofs.decode.Tie as tie
 
@@ -18,8 +18,8 @@ use Rattle.hearing_buffer.proofs.decode.Tie as tie
 abbrev by : tie.Start → Description → Decoded × List ℕ
 by s a =
     let x = s.args in
-    let t = stateIn x.buffer.now in
-    onDescription a (λ r. (Refused r, x.output.now)) (λ c. decodedAs (single x.terms.limit) x.terms.restart (descriptionOf t) (combined c t.hearing) x.output.now)
+    let t = state_in x.buffer.now in
+    on_description a (λ r. (Refused r, x.output.now)) (λ c. decoded_as (single x.terms.limit) x.terms.restart (description_of t) (combined c t.hearing) x.output.now)
 
 returns : tie.Need-returns
 returns c =

@@ -8,15 +8,15 @@ use lib.ListN.{length, get_or, take}
 use Rattle.arrays.proofs.Sizes.{fits}
 use Rattle.code.specs.declared.Description.TheVariants.{Accepted}
 use Rattle.code.specs.Description.{describe}
-use Rattle.code.specs.Code.{longestDescription}
+use Rattle.code.specs.Code.{longest_description}
 use Rattle.code.proofs.Facts.{described}
-use Rattle.decoder.specs.Decoder.{single, decodedAs}
+use Rattle.decoder.specs.Decoder.{single, decoded_as}
 use Rattle.hearing.specs.Hearing.{combined}
-use Rattle.hearing_state.specs.State.{State, descriptionOf, codeOfState}
-use Rattle.hearing_state.specs.Contracts.{stateBy}
-use Rattle.hearing_state.proofs.States.{state-is}
-use Rattle.hearing_buffer.specs.Lent.{hearingSize}
-use Rattle.hearing_buffer.proofs.InPlace.{code-size, part, parts, state-parts}
+use Rattle.hearing_state.specs.State.{State, description_of, code_of_state}
+use Rattle.hearing_state.specs.Clauses.{state_by}
+use Rattle.hearing_state.proofs.States.{state_is}
+use Rattle.hearing_buffer.specs.Lent.{hearing_size}
+use Rattle.hearing_buffer.proofs.InPlace.{code-size, part, parts, state_parts}
 use Rattle.hearing_buffer.proofs.decode_under.Statement.{statement}
 use Rattle.hearing_buffer.proofs.decode_under.Tie as tie
 
@@ -24,15 +24,15 @@ module _ (s : tie.Start) where
   abbrev b : List ℕ
   b = s.args.buffer.now
 
-  size : length b ≡ hearingSize
+  size : length b ≡ hearing_size
   size = code-size b s.args.code s.pre
 
   -- the state, by its parts as they are lent
   abbrev state : State
-  state = stateBy (take longestDescription b) (get_or b longestDescription 0) (part b size)
+  state = state_by (take longest_description b) (get_or b longest_description 0) (part b size)
 
-  describes : describe (descriptionOf state) ≡ Accepted s.args.code
-  describes = (state-is state s.args.code (ap codeOfState (state-parts b size) ∙ s.pre)).0
+  describes : describe (description_of state) ≡ Accepted s.args.code
+  describes = (state_is state s.args.code (ap code_of_state (state_parts b size) ∙ s.pre)).0
 
 returns : tie.Need-returns
 returns c =
@@ -40,13 +40,13 @@ returns c =
     let s = d.before.before.before.before.before.before in
     let x = s.args in
     d.decode-values.ensures
-    ∙ ap (λ (t : State). decodedAs (single x.terms.limit) x.terms.restart (descriptionOf t) (combined x.code t.hearing) x.output.now) (state-parts (b s) (size s))
+    ∙ ap (λ (t : State). decoded_as (single x.terms.limit) x.terms.restart (description_of t) (combined x.code t.hearing) x.output.now) (state_parts (b s) (size s))
 
 pub decode-under-spec : {M : Type 1} → statement M
 decode-under-spec =
     tie.close
     (tie.spec
-    (λ c. let s = c.before.before.before in sym (parts (b s) (size s)).description-size)
+    (λ c. let s = c.before.before.before in sym (parts (b s) (size s)).description_size)
     (λ c. omega (arith, size c.before.before.before))
     (λ c. omega (arith, size c.before.before.before))
     (λ c. search rules)
@@ -54,9 +54,9 @@ decode-under-spec =
     let s = c.before.before.before.before.before in
     let p = parts (b s) (size s) in
     record {
-      field = omega (arith, p.description-size);
+      field = omega (arith, p.description_size);
       describes = describes s;
-      room = omega (arith, p.values-size, fits (described _ _ (describes s)).coded.n-most);
+      room = omega (arith, p.values_size, fits (described _ _ (describes s)).coded.n_most);
     })
     (λ c. search rules)
     returns)

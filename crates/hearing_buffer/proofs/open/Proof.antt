@@ -7,16 +7,16 @@ use borrow.Author.Rules.{rules}
 use borrow.Author.Tests.{eq-eqb, ne_eqb}
 use Rattle.refusal.specs.declared.Refusal.TheVariants.{Alone}
 use Rattle.refusal.specs.declared.Judgement.TheVariants.{Fine}
-use Rattle.refusal.specs.Judge.{refusedOr}
+use Rattle.refusal.specs.Judge.{refused_or}
 use Rattle.code.specs.declared.Description.{Description}
-use Rattle.code.specs.Description.{describe, onDescription}
+use Rattle.code.specs.Description.{describe, on_description}
 use Rattle.code.proofs.Facts.{described}
 use Rattle.code.proofs.Room.{description-most}
 use Rattle.hearing.specs.Hearing.{fresh}
-use Rattle.hearing_state.specs.State.{state_of, noState, refusedIn}
+use Rattle.hearing_state.specs.State.{state_of, no_state, refused_in}
 use Rattle.hearing_buffer.specs.declared.Kept.{Kept}
 use Rattle.hearing_buffer.specs.declared.Kept.TheVariants.{Done, Refused}
-use Rattle.hearing_buffer.specs.Lent.{answer_in, openedIn}
+use Rattle.hearing_buffer.specs.Lent.{answer_in, opened_in}
 use Rattle.hearing_buffer.proofs.open.Statement.{statement}
 use Rattle.hearing_buffer.proofs.open.Tie as tie
 
@@ -24,7 +24,7 @@ use Rattle.hearing_buffer.proofs.open.Tie as tie
 abbrev by : tie.Start → Bool → Description → Kept × List ℕ
 by s t a =
     let b = s.args.buffer.now in
-    cond t (answer_in (onDescription a (refusedIn noState) (λ c. (Fine, state_of s.args.description.now fresh))) b) (Refused (Alone 40), b)
+    cond t (answer_in (on_description a (refused_in no_state) (λ c. (Fine, state_of s.args.description.now fresh))) b) (Refused (Alone 40), b)
 
 returns : tie.Need-returns
 returns c = let s = c.before.before.before in ap (λ (t : Bool). by s t (describe s.args.description.now)) (sym (ne_eqb _ _ c.if1.true))
@@ -34,20 +34,20 @@ module _ (r : tie.After-read-description) where
   abbrev start : tie.Start
   start = r.before.before.before.before
 
-  described-as : (a : Description) → r.read-description.result ≡ a → by start true a ≡ openedIn start.args.description.now start.args.buffer.now
+  described-as : (a : Description) → r.read-description.result ≡ a → by start true a ≡ opened_in start.args.description.now start.args.buffer.now
   described-as a e =
       ap (by start true) (sym e ∙ r.read-description.ensures)
       ∙ ap (λ (t : Bool). by start t (describe start.args.description.now)) (sym (eq-eqb _ _ r.before.if1.left))
 
 returns-2 : tie.Need-returns-2
-unfolding refusedOr
+unfolding refused_or
 returns-2 c =
     let w = c.before.before in
     let t = w.before.before in
     ap (λ (l : List ℕ). (Done 0, l)) w.write-fresh.ensures ∙ described-as t.before.before _ t.enum_told.given.1
 
 returns-3 : tie.Need-returns-3
-unfolding refusedOr
+unfolding refused_or
 returns-3 c = described-as c.before.before.before _ c.before.x.given.1
 
 pub open_spec : {M : Type 1} → statement M

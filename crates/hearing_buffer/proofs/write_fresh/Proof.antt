@@ -5,7 +5,7 @@ use Prim.Native.Nat.{ℕ, ◌-◌}
 use borrow.Author.Rules.{rules}
 use lib.ListN.{length, take, replicate}
 use lib.Seq.{take-length}
-use Rattle.laws.specs.Contracts.{splice}
+use Rattle.laws.specs.Clauses.{splice}
 use Rattle.hearing_buffer.proofs.Bytes.{fresh-bytes}
 use Rattle.hearing_buffer.proofs.write_fresh.Statement.{statement}
 use Rattle.hearing_buffer.proofs.write_fresh.Tie as tie

@@ -6,19 +6,19 @@ use native.Mathlib.Omega.{arith}
 use borrow.Author.Rules.{rules}
 use lib.ListN.{length, take}
 use lib.Seq.{length-take-le}
-use Rattle.laws.specs.Contracts.{splice}
-use Rattle.arrays.specs.Sizes.{largestN}
+use Rattle.laws.specs.Clauses.{splice}
+use Rattle.arrays.specs.Sizes.{largest_n}
 use Rattle.code.specs.declared.Code.{Code}
-use Rattle.code.specs.Code.{codeLength, longestDescription}
+use Rattle.code.specs.Code.{code_length, longest_description}
 use Rattle.code.specs.Description.{describe}
-use Rattle.code.specs.Record.{recordIn}
+use Rattle.code.specs.Record.{record_in}
 use Rattle.flip_trial.specs.declared.Restart.TheVariants.{AfterFlip}
-use Rattle.decoder.specs.Decoder.{single, decodedAs}
-use Rattle.hearing.specs.Hearing.{clippedSums, addedTo}
-use Rattle.hearing.specs.Contracts.{AddPre}
-use Rattle.hearing_state.specs.State.{State, descriptionOf}
-use Rattle.hearing_buffer.specs.Lent.{hearingSize, stateIn}
-use Rattle.hearing_buffer.proofs.Bytes.{state-at}
+use Rattle.decoder.specs.Decoder.{single, decoded_as}
+use Rattle.hearing.specs.Hearing.{clipped_sums, added_to}
+use Rattle.hearing.specs.Clauses.{AddPre}
+use Rattle.hearing_state.specs.State.{State, description_of}
+use Rattle.hearing_buffer.specs.Lent.{hearing_size, state_in}
+use Rattle.hearing_buffer.proofs.Bytes.{state_at_lem}
 use Rattle.hearing_preview.proofs.Sums as sums
 use Rattle.hearing_preview.proofs.decode_sums.Statement.{statement}
 use Rattle.hearing_preview.proofs.decode_sums.Tie as tie
@@ -33,28 +33,28 @@ module _ (s : tie.Start) where
   abbrev channel : List ℕ
   channel = s.args.channel.now
 
-  size : length b ≡ hearingSize
+  size : length b ≡ hearing_size
   size = sums.size c b channel s.pre
 
-  channel-room : length channel ≤ 2 ^ largestN
+  channel-room : length channel ≤ 2 ^ largest_n
   channel-room = omega (arith, sums.channel-long c b channel s.pre, sums.room c b channel s.pre)
 
   -- the description, as it is lent
-  part-long : length (take longestDescription b) ≡ longestDescription
-  part-long = length-take-le longestDescription b (omega (arith, size))
+  part-long : length (take longest_description b) ≡ longest_description
+  part-long = length-take-le longest_description b (omega (arith, size))
 
-  record_is : recordIn (take longestDescription b) ≡ descriptionOf (stateIn b)
-  record_is = ap (λ (t : State). descriptionOf t) (sym (state-at b size))
+  record_is : record_in (take longest_description b) ≡ description_of (state_in b)
+  record_is = ap (λ (t : State). description_of t) (sym (state_at_lem b size))
 
 -- the array holds the values, and then the sums
-copied : (k : tie.After-copy) → let s = k.before.before.before.before.before in k.copy.new.1.1.0 ≡ (stateIn (b s)).hearing.values
+copied : (k : tie.After-copy) → let s = k.before.before.before.before.before in k.copy.new.1.1.0 ≡ (state_in (b s)).hearing.values
 copied k = let s = k.before.before.before.before.before in k.copy.ensures ∙ sums.copied (c s) (b s) (channel s) s.requires
 
-made : (a : tie.After-add-values) → let s = a.before.before.before.before.before.before.before.before in a.add-values.new.0 ≡ (addedTo (c s) (stateIn (b s)).hearing (channel s)).values
+made : (a : tie.After-add-values) → let s = a.before.before.before.before.before.before.before.before in a.add-values.new.0 ≡ (added_to (c s) (state_in (b s)).hearing (channel s)).values
 made a =
     let k = a.before.before.before in
     let s = k.before.before.before.before.before in
-    a.add-values.ensures ∙ ap (λ (v : List ℕ). splice v 0 (clippedSums (length (channel s)) v (channel s))) (copied k) ∙ sums.sums-made (c s) (b s) (channel s) s.requires
+    a.add-values.ensures ∙ ap (λ (v : List ℕ). splice v 0 (clipped_sums (length (channel s)) v (channel s))) (copied k) ∙ sums.sums-made (c s) (b s) (channel s) s.requires
 
 add-values-requires : tie.Need-add-values-requires
 add-values-requires v κs =
@@ -80,7 +80,7 @@ returns r =
     let s = a.before.before.before.before.before.before.before.before in
     let output = s.args.output.now in
     d.decode-values.ensures
-    ∙ ap₂ (λ (l v : List ℕ). decodedAs (single s.args.limit) AfterFlip l (take (codeLength (c s)) v) output) (record_is s) (made a)
+    ∙ ap₂ (λ (l v : List ℕ). decoded_as (single s.args.limit) AfterFlip l (take (code_length (c s)) v) output) (record_is s) (made a)
     ∙ sym (sums.decoded-sums (c s) (b s) (channel s) s.requires s.args.limit output)
 
 pub decode-sums-spec : {M : Type 1} → statement M

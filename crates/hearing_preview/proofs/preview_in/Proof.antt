@@ -1,7 +1,7 @@
 -- `hearing_preview::preview_in` meets its contract: no code is the answer, and under a code `preview_under` has it.
 use mathlib.Core.Path.{refl, sym, ◌∙◌}
 use borrow.Author.Rules.{rules}
-use Rattle.hearing_preview.proofs.Copy.{preview-no-code}
+use Rattle.hearing_preview.proofs.Copy.{preview_no_code}
 use Rattle.hearing_preview.proofs.preview_in.Statement.{statement}
 use Rattle.hearing_preview.proofs.preview_in.Tie as tie
 
@@ -12,7 +12,7 @@ returns-2 : tie.Need-returns-2
 returns-2 c =
     let r = c.before.before.before in
     let x = r.before.before.before.before.args in
-    (sym (preview-no-code x.buffer.now x.channel.now x.limit x.output.now _ (sym r.Code-in.ensures ∙ c.before.x.given.1)), refl)
+    (sym (preview_no_code x.buffer.now x.channel.now x.limit x.output.now _ (sym r.Code-in.ensures ∙ c.before.x.given.1)), refl)
 
 pub preview-in-spec : {M : Type 1} → statement M
 preview-in-spec =

@@ -6,14 +6,14 @@ use native.Mathlib.Omega.{arith}
 use borrow.Author.Rules.{rules}
 use lib.ListN.{length}
 use Rattle.refusal.specs.Judge.{judge}
-use Rattle.arrays.specs.Sizes.{largestN}
-use Rattle.hearing.specs.Hearing.{addRefusals}
+use Rattle.arrays.specs.Sizes.{largest_n}
+use Rattle.hearing.specs.Hearing.{add_refusals}
 use Rattle.hearing_state.specs.State.{State}
 use Rattle.hearing_state.proofs.States.{code-most}
-use Rattle.hearing_buffer.specs.Lent.{hearingSize, stateIn}
-use Rattle.hearing_buffer.proofs.Bytes.{state-at}
+use Rattle.hearing_buffer.specs.Lent.{hearing_size, state_in}
+use Rattle.hearing_buffer.proofs.Bytes.{state_at_lem}
 use Rattle.hearing_buffer.proofs.InPlace.{code-size}
-use Rattle.hearing_preview.proofs.Copy.{preview-refused, preview-fine}
+use Rattle.hearing_preview.proofs.Copy.{preview_refused, preview_fine}
 use Rattle.hearing_preview.proofs.preview_under.Statement.{statement}
 use Rattle.hearing_preview.proofs.preview_under.Tie as tie
 
@@ -21,17 +21,17 @@ module _ (s : tie.Start) where
   abbrev b : List ℕ
   b = s.args.buffer.now
 
-  size : length b ≡ hearingSize
+  size : length b ≡ hearing_size
   size = code-size b s.args.code s.pre
 
-  n-most : s.args.code.n ≤ largestN
-  n-most = code-most (stateIn b) s.args.code s.pre
+  n_most : s.args.code.n ≤ largest_n
+  n_most = code-most (state_in b) s.args.code s.pre
 
 -- the count is that in the buffer
-judged : (j : tie.After-judge-add) → let s = j.before.before.before.before.before in j.judge-add.result ≡ judge (addRefusals s.args.code (stateIn (b s)).hearing.count s.args.channel.now)
+judged : (j : tie.After-judge-add) → let s = j.before.before.before.before.before in j.judge-add.result ≡ judge (add_refusals s.args.code (state_in (b s)).hearing.count s.args.channel.now)
 judged j =
     let s = j.before.before.before.before.before in
-    j.judge-add.ensures ∙ ap (λ (t : State). judge (addRefusals s.args.code t.hearing.count s.args.channel.now)) (sym (state-at (b s) (size s)))
+    j.judge-add.ensures ∙ ap (λ (t : State). judge (add_refusals s.args.code t.hearing.count s.args.channel.now)) (sym (state_at_lem (b s) (size s)))
 
 returns : tie.Need-returns
 returns c =
@@ -41,7 +41,7 @@ returns c =
     let s = j.before.before.before.before.before in
     let x = s.args in
     d.decode-sums.ensures
-    ∙ sym (preview-fine (b s) x.channel.now x.limit x.output.now x.code s.requires (sym (judged j) ∙ t.enum_told.given.1))
+    ∙ sym (preview_fine (b s) x.channel.now x.limit x.output.now x.code s.requires (sym (judged j) ∙ t.enum_told.given.1))
 
 returns-2 : tie.Need-returns-2
 returns-2 c =
@@ -49,14 +49,14 @@ returns-2 c =
     let j = t.before.before in
     let s = j.before.before.before.before.before in
     let x = s.args in
-    sym (preview-refused (b s) x.channel.now x.limit x.output.now x.code _ s.requires (sym (judged j) ∙ t.x.given.1))
+    sym (preview_refused (b s) x.channel.now x.limit x.output.now x.code _ s.requires (sym (judged j) ∙ t.x.given.1))
 
 pub preview-under-spec : {M : Type 1} → statement M
 preview-under-spec =
     tie.close
     (tie.spec
     (λ c. omega (arith, size c.before.before.before.before))
-    (λ c κs. n-most c.before.before.before.before)
+    (λ c κs. n_most c.before.before.before.before)
     (λ c. search rules)
     (λ c κs.
     let t = c.before in

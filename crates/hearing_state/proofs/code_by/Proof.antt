@@ -6,15 +6,15 @@ use Rattle.code.specs.declared.Code.{Code}
 use Rattle.code.specs.declared.Description.TheVariants.{Accepted}
 use Rattle.code.specs.Description.{describe}
 use Rattle.code.proofs.Facts.{described}
-use Rattle.hearing_state.specs.State.{State, descriptionOf}
-use Rattle.hearing_state.specs.Contracts.{stateBy}
-use Rattle.hearing_state.proofs.States.{codeBy, code_by}
+use Rattle.hearing_state.specs.State.{State, description_of}
+use Rattle.hearing_state.specs.Clauses.{state_by}
+use Rattle.hearing_state.proofs.States.{code_by, code_by_lem}
 use Rattle.hearing_state.proofs.code_by.Statement.{statement}
 use Rattle.hearing_state.proofs.code_by.Tie as tie
 
 -- the state by its parts
 abbrev state : tie.Start → State
-state s = let x = s.args in stateBy x.description.now x.count x.values.now
+state s = let x = s.args in state_by x.description.now x.count x.values.now
 
 -- the code that is described
 module _ (c : tie.After-known-told) where
@@ -24,29 +24,29 @@ module _ (c : tie.After-known-told) where
   abbrev code : Code
   code = c.before.code.given.0.0
 
-  accepted : describe (descriptionOf (state s)) ≡ Accepted code
+  accepted : describe (description_of (state s)) ≡ Accepted code
   accepted = sym c.before.before.before.described-in.ensures ∙ c.before.code.given.1
 
 returns : tie.Need-returns
 returns c =
     let k = c.before.before in
-    sym (code_by (state (s k)) (code k) _ (accepted k) (sym c.before.is_state.ensures ∙ c.if1.true))
+    sym (code_by_lem (state (s k)) (code k) _ (accepted k) (sym c.before.is_state.ensures ∙ c.if1.true))
 
 returns-2 : tie.Need-returns-2
 returns-2 c =
     let k = c.before.before in
-    sym (code_by (state (s k)) (code k) _ (accepted k) (sym c.before.is_state.ensures ∙ c.if1.false))
+    sym (code_by_lem (state (s k)) (code k) _ (accepted k) (sym c.before.is_state.ensures ∙ c.if1.false))
 
 returns-3 : tie.Need-returns-3
-returns-3 c = let r = c.before.before in sym (ap (codeBy (state r.before.before.before)) (sym r.described-in.ensures ∙ c.enum_told.given.1))
+returns-3 c = let r = c.before.before in sym (ap (code_by (state r.before.before.before)) (sym r.described-in.ensures ∙ c.enum_told.given.1))
 
 pub code-by-spec : {M : Type 1} → statement M
 code-by-spec =
     tie.close
     (tie.spec
-    (λ c κs. omega (arith, c.before.before.requires.description-size))
+    (λ c κs. omega (arith, c.before.before.requires.description_size))
     (λ c. search rules)
-    (λ c κs. ((described _ _ (accepted c)).coded.n-most, (s c).requires))
+    (λ c κs. ((described _ _ (accepted c)).coded.n_most, (s c).requires))
     returns
     (λ c. search rules)
     returns-2

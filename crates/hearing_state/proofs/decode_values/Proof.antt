@@ -7,10 +7,10 @@ use borrow.Author.Rules.{rules}
 use lib.ListN.{length, take}
 use lib.Seq.{length-take-le}
 use Rattle.laws.proofs.Powers.{one_shl}
-use Rattle.code.specs.Description.{word, maskAt, mask_of}
+use Rattle.code.specs.Description.{word, mask_at, mask_of}
 use Rattle.code.specs.Claims.{Coded, Described}
 use Rattle.code.proofs.Facts.{described}
-use Rattle.decoder.specs.Decoder.{single, decodedUnder}
+use Rattle.decoder.specs.Decoder.{single, decoded_under}
 use Rattle.decoder.proofs.Decoder.{under-code}
 use Rattle.hearing_state.proofs.decode_values.Statement.{statement}
 use Rattle.hearing_state.proofs.decode_values.Tie as tie
@@ -24,11 +24,11 @@ module _ (s : tie.Start) where
 
   -- N, as it is computed
   size : 1 * 2 ^ s.args.code.n % 2 ^ 64 ≡ 2 ^ s.args.code.n
-  size = one_shl s.args.code.n 64 (omega (arith, facts.coded.n-most))
+  size = one_shl s.args.code.n 64 (omega (arith, facts.coded.n_most))
 
 mask-of-requires : tie.Need-mask-of-requires
 mask-of-requires c κs =
-    subst (λ (l : List ℕ). maskAt (word l 2) ≤ length l) (sym c.record-in.ensures) (facts c.before.before.before.before.before).header
+    subst (λ (l : List ℕ). mask_at (word l 2) ≤ length l) (sym c.record-in.ensures) (facts c.before.before.before.before.before).header
 
 -- the mask of the description
 mask_is : (c : tie.After-mask-of) → c.mask-of.result.now ≡ mask_of (d c.before.before.before.before.before.before)
@@ -47,7 +47,7 @@ returns c =
     let x = s.args in
     let channel : ℕ → List ℕ = λ k. take k x.values.now in
     c.before.before.decode-by.ensures
-    ∙ ap₂ (λ (mask : List ℕ) (k : ℕ). decodedUnder (single x.terms.limit) x.terms.restart mask x.code (channel k) x.output.now) (mask_is m) (size s)
+    ∙ ap₂ (λ (mask : List ℕ) (k : ℕ). decoded_under (single x.terms.limit) x.terms.restart mask x.code (channel k) x.output.now) (mask_is m) (size s)
     ∙ sym (under-code (single x.terms.limit) x.terms.restart (d s) (channel (2 ^ x.code.n)) x.output.now x.code s.requires.describes)
 
 pub decode-values-spec : {M : Type 1} → statement M
@@ -55,7 +55,7 @@ decode-values-spec =
     tie.close
     (tie.spec
     (λ c. search rules)
-    (λ c. omega (arith, (facts c.before.before.before.before).coded.n-most))
+    (λ c. omega (arith, (facts c.before.before.before.before).coded.n_most))
     (λ c κs. c.before.before.before.before.requires.field)
     mask-of-requires
     (λ c.

@@ -5,7 +5,7 @@ use Prim.Native.Nat.{ℕ}
 use native.Mathlib.Omega.{arith}
 use borrow.Author.Rules.{rules}
 use lib.ListN.{length, drop, length-take}
-use Rattle.arrays.specs.Padded.{allZero}
+use Rattle.arrays.specs.Padded.{all_zero}
 use Rattle.code.specs.Description.{word}
 use Rattle.hearing_state.proofs.ends_in_zeros.Statement.{statement}
 use Rattle.hearing_state.proofs.ends_in_zeros.Tie as tie
@@ -20,4 +20,4 @@ ends-in-zeros-spec =
     omega (arith, ap (λ (l : List ℕ). length l) c.record-in.ensures, length-take (word bytes 0) bytes))
     (λ c.
     let bytes = c.before.before.before.args.bytes.now in
-    c.is-zero-from.ensures ∙ ap (λ (l : List ℕ). allZero (drop (length l) bytes)) c.before.record-in.ensures))
+    c.is-zero-from.ensures ∙ ap (λ (l : List ℕ). all_zero (drop (length l) bytes)) c.before.record-in.ensures))

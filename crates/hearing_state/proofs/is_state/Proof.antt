@@ -2,14 +2,14 @@
 use mathlib.Core.Path.{sym, ap, ◌∙◌}
 use mathlib.Core.Bool.{Bool, ◌&&◌}
 use native.Mathlib.Omega.{arith}
-use Rattle.hearing.specs.Hearing.{isHearing}
-use Rattle.hearing.specs.Contracts.{hearingBy}
+use Rattle.hearing.specs.Hearing.{is_hearing}
+use Rattle.hearing.specs.Clauses.{hearing_by}
 use Rattle.hearing_state.proofs.is_state.Statement.{statement}
 use Rattle.hearing_state.proofs.is_state.Tie as tie
 
 -- the answer, by the first test
 abbrev by : tie.Start → Bool → Bool
-by s t = let x = s.args in t && isHearing x.code (hearingBy x.count x.values.now)
+by s t = let x = s.args in t && is_hearing x.code (hearing_by x.count x.values.now)
 
 returns : tie.Need-returns
 returns c =
@@ -23,7 +23,7 @@ pub is-state-spec : {M : Type 1} → statement M
 is-state-spec =
     tie.close
     (tie.spec
-    (λ c κs. omega (arith, c.before.before.requires.1.description-size))
-    (λ c κs. let s = c.before.before.before.before in (s.requires.0, s.requires.1.values-size))
+    (λ c κs. omega (arith, c.before.before.requires.1.description_size))
+    (λ c κs. let s = c.before.before.before.before in (s.requires.0, s.requires.1.values_size))
     returns
     returns-2)

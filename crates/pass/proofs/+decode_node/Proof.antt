@@ -9,27 +9,27 @@ use borrow.Fn.PlainCycle.{Measures, is, falls, and}
 use lib.IntN.{ℤ, pos}
 use lib.ListN.{get_or}
 use mir.Syntax.{w32}
-use Rattle.laws.specs.Contracts.{segment}
+use Rattle.laws.specs.Clauses.{segment}
 use Rattle.laws.proofs.Signed.{back_is}
-use Rattle.arrays.specs.Sizes.{largestN}
+use Rattle.arrays.specs.Sizes.{largest_n}
 use Rattle.arrays.specs.Claims.{longest}
 use Rattle.transform.proofs.Halves.{halving}
 use Rattle.transform.proofs.combine.Reads as combine-reads
 use Rattle.values.specs.Claims.{Within}
-use Rattle.pass_tree.specs.Node.{plusWork}
+use Rattle.pass_tree.specs.Node.{plus_work}
 use Rattle.pass_tree.specs.Claims.{most}
 use Rattle.pass_tree.proofs.StepsMost.{steps_of}
 use Rattle.pass_tree.proofs.Work.none.Reads as none_reads
 use Rattle.pass_tree.proofs.Work.plus.Reads as plus-reads
 use Rattle.pass_halves.proofs.left_values.Reads as left-values-reads
 use Rattle.pass_halves.proofs.right_values.Reads as right-values-reads
-use Rattle.pass_ends.specs.Contracts.{arrays}
+use Rattle.pass_ends.specs.Clauses.{arrays}
 use Rattle.pass_ends.proofs.Halves.{sized_of}
 use Rattle.pass_ends.proofs.decode_four.Reads as decode-four-reads
 use Rattle.pass_ends.proofs.leaf.Reads as leaf-reads
 use Rattle.pass_ends.proofs.rebuild.Reads as rebuild-reads
 use Rattle.pass.proofs.Ending.{forced-bits, forced-worked, is_free, one_value, by_value}
-use Rattle.pass.proofs.Recursion.{Inner, inner-at, inner-half, inner-left, inner-again, inner-right, inner-few, inner-combine, inner-worked}
+use Rattle.pass.proofs.Recursion.{Inner, inner_at, inner_half, inner_left, inner_again, inner_right, inner_few, inner_combine, inner_worked}
 use Rattle.pass.proofs.decode_node.Reads as node
 use Rattle.pass.proofs.decode_node.Kinds as kinds
 use Rattle.pass.proofs.+decode_node.Lts-decode_node as lts
@@ -104,7 +104,7 @@ module _ (t : ℕ) where
       let s = start₂ k in
       let p = s.pre.1.0 in
       let small = p.small k.before.before.if1.false in
-      (sized_of p.whole, omega (arith, p.fits, four k), subst₂ (λ (n m : ℕ). Within (most largestN n) (segment s.args.work.now m m)) (free k).0 (four k) small)
+      (sized_of p.whole, omega (arith, p.fits, four k), subst₂ (λ (n m : ℕ). Within (most largest_n n) (segment s.args.work.now m m)) (free k).0 (four k) small)
 
   returns-2 : lts.Need-returns-2 (Q t) (at t) node.Post
   returns-2 c =
@@ -154,13 +154,13 @@ module _ (t : ℕ) where
     }
 
   left-values-requires : lts.Need-left-values-requires (Q t) (at t) node.Post
-  left-values-requires c κs = inner-at (rules c.before) (inner c.before)
+  left-values-requires c κs = inner_at (rules c.before) (inner c.before)
 
   node-requires : lts.Need-decode-node-requires (Q t) (at t) node.Post
   node-requires c κs =
       let l = c.before.before.before.before in
       let e = l.before.before in
-      (omega (arith, (start e).requires.0, (inner e).halving.below), (inner-left (rules e) (inner e) l.left-values.ensures, inner-half (rules e) (inner e)))
+      (omega (arith, (start e).requires.0, (inner e).halving.below), (inner_left (rules e) (inner e) l.left-values.ensures, inner_half (rules e) (inner e)))
 
   -- after the left half
   module _ (k : lts.After-decode-node (Q t) (at t) node.Post) where
@@ -173,13 +173,13 @@ module _ (t : ℕ) where
   right-values-requires : lts.Need-right-values-requires (Q t) (at t) node.Post
   right-values-requires c κs =
       let k = c.before.before in
-      (inner-again (rules (e k)) (inner (e k)) (l k).left-values.ensures k.decode-node.ensures, omega (arith, (inner (e k)).halving.two, (inner (e k)).pre.fits))
+      (inner_again (rules (e k)) (inner (e k)) (l k).left-values.ensures k.decode-node.ensures, omega (arith, (inner (e k)).halving.two, (inner (e k)).pre.fits))
 
   node-requires-2 : lts.Need-decode-node-requires-2 (Q t) (at t) node.Post
   node-requires-2 c κs =
       let r = c.before.before.before.before in
       let k = r.before.before.before in
-      (omega (arith, (start (e k)).pre.0, (inner (e k)).halving.below), (inner-right (rules (e k)) (inner (e k)) (l k).left-values.ensures k.decode-node.ensures r.right-values.ensures, inner-half (rules (e k)) (inner (e k))))
+      (omega (arith, (start (e k)).pre.0, (inner (e k)).halving.below), (inner_right (rules (e k)) (inner (e k)) (l k).left-values.ensures k.decode-node.ensures r.right-values.ensures, inner_half (rules (e k)) (inner (e k))))
 
   -- after the right half
   module _ (n : lts.After-decode-node2 (Q t) (at t) node.Post) where
@@ -191,19 +191,19 @@ module _ (t : ℕ) where
 
     -- the steps of each half are few
     few : ((l k).left-values.result.steps + k.decode-node.result.steps < 2 ^ 31) × (r.right-values.result.steps + n.decode-node2.result.steps < 2 ^ 31)
-    few = inner-few (rules (e k)) (inner (e k)) (l k).left-values.ensures k.decode-node.ensures r.right-values.ensures n.decode-node2.ensures
+    few = inner_few (rules (e k)) (inner (e k)) (l k).left-values.ensures k.decode-node.ensures r.right-values.ensures n.decode-node2.ensures
 
   combine-requires : lts.Need-combine-requires (Q t) (at t) node.Post
   combine-requires c κs =
       let n = c.before in
-      inner-combine (rules (e (k n))) (inner (e (k n))) (l (k n)).left-values.ensures (k n).decode-node.ensures (r n).right-values.ensures n.decode-node2.ensures
+      inner_combine (rules (e (k n))) (inner (e (k n))) (l (k n)).left-values.ensures (k n).decode-node.ensures (r n).right-values.ensures n.decode-node2.ensures
 
   returns-4 : lts.Need-returns-4 (Q t) (at t) node.Post
   returns-4 c =
       let m = c.before.before.before in
       let n = m.before.before in
-      let total = c.plus3.ensures ∙ ap₂ plusWork c.before.before.plus.ensures c.before.plus2.ensures in
-      inner-worked (rules (e (k n))) (inner (e (k n))) (l (k n)).left-values.ensures (k n).decode-node.ensures (r n).right-values.ensures n.decode-node2.ensures total m.combine.ensures
+      let total = c.plus3.ensures ∙ ap₂ plus_work c.before.before.plus.ensures c.before.plus2.ensures in
+      inner_worked (rules (e (k n))) (inner (e (k n))) (l (k n)).left-values.ensures (k n).decode-node.ensures (r n).right-values.ensures n.decode-node2.ensures total m.combine.ensures
 
 pub +decode-node-spec : {M : Type 1} → statement M
 +decode-node-spec = close μ λ t. lts.spec (Q t)

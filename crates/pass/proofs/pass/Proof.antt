@@ -8,10 +8,10 @@ use lib.ListN.{length}
 use Rattle.arrays.specs.Claims.{longest}
 use Rattle.arrays.proofs.Sizes.{fits}
 use Rattle.transform.proofs.Halves.{halving}
-use Rattle.pass_tree.specs.Node.{plusWork}
+use Rattle.pass_tree.specs.Node.{plus_work}
 use Rattle.pass_tree.proofs.StepsMost.{steps_of}
-use Rattle.pass_ends.specs.Contracts.{arrays}
-use Rattle.pass.proofs.Root.{pass-forced, Rooted, root-at, root-half, root-left, root-again, root-right, root-few, passed}
+use Rattle.pass_ends.specs.Clauses.{arrays}
+use Rattle.pass.proofs.Root.{pass-forced, Rooted, root-at, root-half, root-left, root_again, root-right, root_few, passed}
 use Rattle.pass.proofs.pass.Statement.{statement}
 use Rattle.pass.proofs.pass.Tie as tie
 
@@ -19,7 +19,7 @@ returns : tie.Need-returns
 returns c =
     let t = c.before in
     let s = t.before.before in
-    pass-forced s.args.rules.now s.requires (fits s.requires.n-most) t.if1.true c.none.ensures
+    pass-forced s.args.rules.now s.requires (fits s.requires.n_most) t.if1.true c.none.ensures
 
 -- at the root
 module _ (e : tie.Else1) where
@@ -30,7 +30,7 @@ module _ (e : tie.Else1) where
   rules = s.args.rules.now
 
   root : let t = s.args in let size = length t.channel.now in Rooted longest t.q (t.code.n - 1) (size / 2) t.code t.channel.now (arrays t.work.now t.bits.now t.sums.now t.leaves.now)
-  root = record { pre = s.pre; fits = fits s.pre.n-most; halving = halving (λ z. omega (arith, s.pre.n-least)) s.pre.long; less = e.if1.left }
+  root = record { pre = s.pre; fits = fits s.pre.n_most; halving = halving (λ z. omega (arith, s.pre.n_least)) s.pre.long; less = e.if1.left }
 
 left-requires : tie.Need-root-left-values-requires
 left-requires c κs = root-at (rules c.before) (root c.before)
@@ -52,7 +52,7 @@ module _ (k : tie.After-decode-node) where
 right-requires : tie.Need-root-right-values-requires
 right-requires c κs =
     let k = c.before.before in
-    root-again (rules (e k)) (root (e k)) (l k).root-left-values.ensures k.decode-node.ensures
+    root_again (rules (e k)) (root (e k)) (l k).root-left-values.ensures k.decode-node.ensures
 
 right-node-requires : tie.Need-decode-node-requires-2
 right-node-requires c κs =
@@ -70,12 +70,12 @@ module _ (n : tie.After-decode-node2) where
 
   -- the steps of each half are few
   few : ((l k).root-left-values.result.steps + k.decode-node.result.steps < 2 ^ 31) × (r.root-right-values.result.steps + n.decode-node2.result.steps < 2 ^ 31)
-  few = root-few (rules (e k)) (root (e k)) (l k).root-left-values.ensures k.decode-node.ensures r.root-right-values.ensures n.decode-node2.ensures
+  few = root_few (rules (e k)) (root (e k)) (l k).root-left-values.ensures k.decode-node.ensures r.root-right-values.ensures n.decode-node2.ensures
 
 returns-2 : tie.Need-returns-2
 returns-2 c =
     let n = c.before.before.before in
-    let total = c.plus3.ensures ∙ ap₂ plusWork c.before.before.plus.ensures c.before.plus2.ensures in
+    let total = c.plus3.ensures ∙ ap₂ plus_work c.before.before.plus.ensures c.before.plus2.ensures in
     passed (rules (e (k n))) (root (e (k n))) (l (k n)).root-left-values.ensures (k n).decode-node.ensures (r n).root-right-values.ensures n.decode-node2.ensures total
 
 pub pass_spec : {M : Type 1} → statement M

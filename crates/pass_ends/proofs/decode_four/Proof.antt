@@ -9,20 +9,20 @@ use lib.IntN.{ℤ, pos, nat_abs}
 use lib.ListN.{get_or}
 use mir.Syntax.{w32}
 use Rattle.laws.specs.Table.{table}
-use Rattle.laws.specs.Contracts.{segment}
-use Rattle.laws.proofs.Segment.{getD-segment}
+use Rattle.laws.specs.Clauses.{segment}
+use Rattle.laws.proofs.Segment.{get_or-segment}
 use Rattle.laws.proofs.Signed.{back, back_is}
-use Rattle.arrays.specs.Sizes.{largestN}
-use Rattle.values.specs.Values.{rightValues, leftValues, g, f}
+use Rattle.arrays.specs.Sizes.{largest_n}
+use Rattle.values.specs.Values.{right_values, left_values, g, f}
 use Rattle.values.specs.Claims.{Within}
 use Rattle.values.proofs.Bounds.{within-right, within-left, back-within}
 use Rattle.pass_tree.specs.declared.Work.{Work}
-use Rattle.pass_tree.specs.Node.{plusWork}
+use Rattle.pass_tree.specs.Node.{plus_work}
 use Rattle.pass_tree.specs.Claims.{most}
-use Rattle.pass_tree.specs.Contracts.{counted}
-use Rattle.pass_tree.proofs.StepsMost.{steps_of, same-steps}
-use Rattle.pass_ends.proofs.Halves.{laid-most}
-use Rattle.pass_ends.proofs.Free.{free-sized, free-combine, free-laid}
+use Rattle.pass_tree.specs.Clauses.{counted}
+use Rattle.pass_tree.proofs.StepsMost.{steps_of, same_steps}
+use Rattle.pass_ends.proofs.Halves.{laid_most}
+use Rattle.pass_ends.proofs.Free.{free_sized, free_combine, free_laid}
 use Rattle.pass_ends.proofs.decode_four.Statement.{statement}
 use Rattle.pass_ends.proofs.decode_four.Tie as tie
 
@@ -35,7 +35,7 @@ module _ (s : tie.Start) where
 
   -- the four values, as the machine reads them
   own : (k : ℕ) → k < 4 → back w32 (get_or w (4 + k) (pos 0)) ≡ get_or v k (pos 0)
-  own k l = ap (back w32) (sym (getD-segment w 4 4 k (pos 0) l)) ∙ back-within s.pre.2 (omega arith) k
+  own k l = ap (back w32) (sym (get_or-segment w 4 4 k (pos 0) l)) ∙ back-within s.pre.2 (omega arith) k
 
   -- of those half the node apart, neither is large
   small : (k : ℕ) → k < 2 → nat_abs (back w32 (get_or w (4 + k) (pos 0))) + nat_abs (back w32 (get_or w (4 + (2 + k)) (pos 0))) < 2 ^ 31
@@ -52,8 +52,8 @@ module _ (k : tie.After-f2) where
   abbrev s : tie.Start
   s = k.before.before.before.before.before.before
 
-  left-own : back w32 k.before.f.result ∷ back w32 k.f2.result ∷ [] ≡ leftValues 2 (v s)
-  unfolding leftValues table
+  left-own : back w32 k.before.f.result ∷ back w32 k.f2.result ∷ [] ≡ left_values 2 (v s)
+  unfolding left_values table
   left-own =
       let m = k.before in
       ap₂ (λ (x y : ℤ). x ∷ y ∷ [])
@@ -64,7 +64,7 @@ decode-two-requires : tie.Need-decode-two-requires
 decode-two-requires c κs =
     let k = c.before.before.before in
     let p = (s k).requires in
-    let low = subst (Within (most largestN 2)) (sym (left-own k)) (within-left 2 p.2) in
+    let low = subst (Within (most largest_n 2)) (sym (left-own k)) (within-left 2 p.2) in
     (p.0, omega (arith, p.1), omega (arith, low.at 0, low.at 1))
 
 -- after the left half
@@ -80,8 +80,8 @@ module _ (n : tie.After-g2) where
   abbrev l : tie.After-decode-two
   l = n.before.before.before.before
 
-  right-own : back w32 n.before.g.result ∷ back w32 n.g2.result ∷ [] ≡ rightValues 2 (v (s (m l))) (segment (sums l) (s (m l)).args.base 2)
-  unfolding rightValues table
+  right-own : back w32 n.before.g.result ∷ back w32 n.g2.result ∷ [] ≡ right_values 2 (v (s (m l))) (segment (sums l) (s (m l)).args.base 2)
+  unfolding right_values table
   right-own =
       let o = n.before in
       let st = s (m l) in
@@ -90,8 +90,8 @@ module _ (n : tie.After-g2) where
       let b = own st 1 (omega arith) in
       let e = own st 2 (omega arith) in
       let d = own st 3 (omega arith) in
-      let s₀ = ap (λ (i : ℕ). get_or (sums l) i 0) (sym (add-zero base)) ∙ sym (getD-segment (sums l) base 2 0 0 (omega arith)) in
-      let s₁ = sym (getD-segment (sums l) base 2 1 0 (omega arith)) in
+      let s₀ = ap (λ (i : ℕ). get_or (sums l) i 0) (sym (add-zero base)) ∙ sym (get_or-segment (sums l) base 2 0 0 (omega arith)) in
+      let s₁ = sym (get_or-segment (sums l) base 2 1 0 (omega arith)) in
       ap₂ (λ (x y : ℤ). x ∷ y ∷ [])
       (back_is w32 o.g.result (record { sfits = o.g.ok }) ∙ o.g.ensures ∙ (λ t. g (a t) (e t) (s₀ t)))
       (back_is w32 n.g2.result (record { sfits = n.g2.ok }) ∙ n.g2.ensures ∙ (λ t. g (b t) (d t) (s₁ t)))
@@ -101,8 +101,8 @@ decode-two-requires-2 c κs =
     let n = c.before.before.before in
     let st = s (m (l n)) in
     let p = st.pre in
-    let low = subst (Within (most largestN 2 + most largestN 2)) (sym (right-own n)) (within-right 2 (segment (sums (l n)) st.args.base 2) p.2) in
-    (free-sized 1 _ st.args.rules.now (v st) p.0 p.1 (left-own (m (l n))) (l n).decode-two.ensures, omega (arith, p.1), omega (arith, low.at 0, low.at 1))
+    let low = subst (Within (most largest_n 2 + most largest_n 2)) (sym (right-own n)) (within-right 2 (segment (sums (l n)) st.args.base 2) p.2) in
+    (free_sized 1 _ st.args.rules.now (v st) p.0 p.1 (left-own (m (l n))) (l n).decode-two.ensures, omega (arith, p.1), omega (arith, low.at 0, low.at 1))
 
 -- after the right half
 module _ (r : tie.After-decode-two2) where
@@ -114,18 +114,18 @@ module _ (r : tie.After-decode-two2) where
 
   -- the steps of the halves are few
   few : ((l n).decode-two.result.steps ≤ 2) × (r.decode-two2.result.steps ≤ 2)
-  few = (laid-most (l n).decode-two.ensures, laid-most r.decode-two2.ensures)
+  few = (laid_most (l n).decode-two.ensures, laid_most r.decode-two2.ensures)
 
 combine-requires : tie.Need-combine-requires
 combine-requires c κs =
     let r = c.before in
     let k = l (n r) in
     let p = (start r).requires in
-    free-combine 1 _ (start r).args.rules.now (v (start r)) p.0 p.1 (left-own (m k)) k.decode-two.ensures (right-own (n r)) r.decode-two2.ensures
+    free_combine 1 _ (start r).args.rules.now (v (start r)) p.0 p.1 (left-own (m k)) k.decode-two.ensures (right-own (n r)) r.decode-two2.ensures
 
 -- all that is done
-total : (a b : Work) → plusWork (counted 4) (plusWork a b) ≡ plusWork (plusWork (counted 2) a) (plusWork (counted 2) b)
-total a b = let e : 4 + (a.steps + b.steps) ≡ 2 + a.steps + (2 + b.steps) = omega arith in same-steps e
+total : (a b : Work) → plus_work (counted 4) (plus_work a b) ≡ plus_work (plus_work (counted 2) a) (plus_work (counted 2) b)
+total a b = let e : 4 + (a.steps + b.steps) ≡ 2 + a.steps + (2 + b.steps) = omega arith in same_steps e
 
 returns : tie.Need-returns
 returns c =
@@ -133,8 +133,8 @@ returns c =
     let r = o.before.before.before in
     let k = l (n r) in
     let p = (start r).requires in
-    let work = c.plus2.ensures ∙ ap₂ plusWork o.of.ensures c.before.plus.ensures ∙ total _ _ in
-    free-laid 1 _ (start r).args.rules.now (v (start r)) p.0 p.1 (left-own (m k)) k.decode-two.ensures (right-own (n r)) r.decode-two2.ensures work o.before.combine.ensures
+    let work = c.plus2.ensures ∙ ap₂ plus_work o.of.ensures c.before.plus.ensures ∙ total _ _ in
+    free_laid 1 _ (start r).args.rules.now (v (start r)) p.0 p.1 (left-own (m k)) k.decode-two.ensures (right-own (n r)) r.decode-two2.ensures work o.before.combine.ensures
 
 pub decode-four-spec : {M : Type 1} → statement M
 decode-four-spec =

@@ -9,11 +9,11 @@ use lib.IntN.{ℤ, nat_abs}
 use lib.ListN.{get_or}
 use mir.Syntax.{w32}
 use Rattle.laws.specs.Table.{table}
-use Rattle.laws.specs.Contracts.{segment}
-use Rattle.laws.proofs.Segment.{getD-segment}
+use Rattle.laws.specs.Clauses.{segment}
+use Rattle.laws.proofs.Segment.{get_or-segment}
 use Rattle.laws.proofs.Signed.{back, back_is}
-use Rattle.values.specs.Values.{rightValues, leftValues, g, f}
-use Rattle.pass_ends.proofs.Free.{free-sized, free-combine, free-laid}
+use Rattle.values.specs.Values.{right_values, left_values, g, f}
+use Rattle.pass_ends.proofs.Free.{free_sized, free_combine, free_laid}
 use Rattle.pass_ends.proofs.decode_two.Statement.{statement}
 use Rattle.pass_ends.proofs.decode_two.Tie as tie
 
@@ -45,8 +45,8 @@ module _ (k : tie.After-leaf) where
   abbrev sums : List ℕ
   sums = k.leaf.last.1.1.1.1.0
 
-  left-own : back w32 m.f.result ∷ [] ≡ leftValues 1 (v s)
-  unfolding leftValues table
+  left-own : back w32 m.f.result ∷ [] ≡ left_values 1 (v s)
+  unfolding left_values table
   left-own =
       ap (λ (x : ℤ). x ∷ []) (back_is w32 m.f.result (record { sfits = m.f.ok }) ∙ m.f.ensures ∙ ap₂ f (first s) (second s))
 
@@ -54,7 +54,7 @@ leaf-requires-2 : tie.Need-leaf-requires-2
 leaf-requires-2 c κs =
     let k = c.before.before.before.before in
     let p = (s k).requires in
-    (free-sized 0 _ (s k).args.rules.now (v (s k)) p.0 p.1 (left-own k) k.leaf.ensures.1, omega (arith, p.1))
+    (free_sized 0 _ (s k).args.rules.now (v (s k)) p.0 p.1 (left-own k) k.leaf.ensures.1, omega (arith, p.1))
 
 -- after the right leaf
 module _ (r : tie.After-leaf2) where
@@ -64,11 +64,11 @@ module _ (r : tie.After-leaf2) where
   abbrev k : tie.After-leaf
   k = n.before
 
-  right-own : back w32 n.g.result ∷ [] ≡ rightValues 1 (v (s k)) (segment (sums k) (s k).args.base 1)
-  unfolding rightValues table
+  right-own : back w32 n.g.result ∷ [] ≡ right_values 1 (v (s k)) (segment (sums k) (s k).args.base 1)
+  unfolding right_values table
   right-own =
       let base = (s k).args.base in
-      let sum = k.leaf.ensures.0 ∙ ap (λ (i : ℕ). get_or (sums k) i 0) (sym (add-zero base)) ∙ sym (getD-segment (sums k) base 1 0 0 (omega arith)) in
+      let sum = k.leaf.ensures.0 ∙ ap (λ (i : ℕ). get_or (sums k) i 0) (sym (add-zero base)) ∙ sym (get_or-segment (sums k) base 1 0 0 (omega arith)) in
       ap (λ (x : ℤ). x ∷ [])
       (back_is w32 n.g.result (record { sfits = n.g.ok }) ∙ n.g.ensures ∙ (λ t. g (first (s k) t) (second (s k) t) (sum t)))
 
@@ -76,13 +76,13 @@ combine-requires : tie.Need-combine-requires
 combine-requires c κs =
     let r = c.before in
     let p = (s (k r)).pre in
-    free-combine 0 _ (s (k r)).args.rules.now (v (s (k r))) p.0 p.1 (left-own (k r)) (k r).leaf.ensures.1 (right-own r) r.leaf2.ensures.1
+    free_combine 0 _ (s (k r)).args.rules.now (v (s (k r))) p.0 p.1 (left-own (k r)) (k r).leaf.ensures.1 (right-own r) r.leaf2.ensures.1
 
 returns : tie.Need-returns
 returns c =
     let r = c.before.before.before in
     let p = (s (k r)).pre in
-    free-laid 0 _ (s (k r)).args.rules.now (v (s (k r))) p.0 p.1 (left-own (k r)) (k r).leaf.ensures.1 (right-own r) r.leaf2.ensures.1 c.of.ensures c.before.combine.ensures
+    free_laid 0 _ (s (k r)).args.rules.now (v (s (k r))) p.0 p.1 (left-own (k r)) (k r).leaf.ensures.1 (right-own r) r.leaf2.ensures.1 c.of.ensures c.before.combine.ensures
 
 pub decode-two-spec : {M : Type 1} → statement M
 decode-two-spec =

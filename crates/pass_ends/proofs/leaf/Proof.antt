@@ -9,13 +9,13 @@ use lib.IntN.{ℤ}
 use lib.ListN.{length, set, length-take}
 use lib.Seq.{get_or-set_same}
 use mir.Syntax.{w32}
-use Rattle.laws.specs.Contracts.{splice, segment}
+use Rattle.laws.specs.Clauses.{splice, segment}
 use Rattle.laws.proofs.Signed.{back_is}
 use Rattle.laws.proofs.Segment.{set-splice}
 use Rattle.values.specs.Values.{decided}
-use Rattle.pass_tree.specs.Node.{workOf, Out, leaf}
+use Rattle.pass_tree.specs.Node.{work_of, Out, leaf}
 use Rattle.pass_tree.proofs.Node.{node-leaf}
-use Rattle.pass_ends.specs.Contracts.{ruleAt, Results, forcedBits, rulesFrom, node_of, StoredSums, NodeStored}
+use Rattle.pass_ends.specs.Clauses.{rule_at, Results, forced_bits, rules_from, node_of, StoredSums, NodeStored}
 use Rattle.pass_ends.proofs.leaf.Statement.{statement}
 use Rattle.pass_ends.proofs.leaf.Tie as tie
 
@@ -24,16 +24,16 @@ stored : {A : Type 0} (w : List A) (i : ℕ) (x y : A) → i < length w → x �
 stored w i x y l e = ap (set w i) e ∙ set-splice w i y l
 
 -- it is a node of one index whose bit is not forced
-leaf-laid : (rules : List ℕ) (base : ℕ) (value : ℤ) {r r' : Results} → StoredSums (leaf (ruleAt rules base) value) base base r r' (workOf []) → NodeStored 0 1 base base rules (value ∷ []) r r' (workOf [])
-leaf-laid rules base value {r} {r'} l = record { laid = subst₂ (λ (o : Out) (k : ℕ). StoredSums o base k r r' (workOf [])) (sym is) at l }
+leaf-laid : (rules : List ℕ) (base : ℕ) (value : ℤ) {r r' : Results} → StoredSums (leaf (rule_at rules base) value) base base r r' (work_of []) → NodeStored 0 1 base base rules (value ∷ []) r r' (work_of [])
+leaf-laid rules base value {r} {r'} l = record { laid = subst₂ (λ (o : Out) (k : ℕ). StoredSums o base k r r' (work_of [])) (sym is) at l }
   where
-    at : base ≡ base + length (forcedBits r.bits base 1 base)
+    at : base ≡ base + length (forced_bits r.bits base 1 base)
     at = omega (arith, length-take (base - base) (segment r.bits base 1))
 
-    is : node_of 0 1 base base rules r.bits (value ∷ []) ≡ leaf (ruleAt rules base) value
+    is : node_of 0 1 base base rules r.bits (value ∷ []) ≡ leaf (rule_at rules base) value
     is =
-        node-leaf (forcedBits r.bits base 1 base) (rulesFrom rules base) (value ∷ []) (omega (arith, at))
-        ∙ ap (λ (k : ℕ). leaf (ruleAt rules k) value) (add-zero base)
+        node-leaf (forced_bits r.bits base 1 base) (rules_from rules base) (value ∷ []) (omega (arith, at))
+        ∙ ap (λ (k : ℕ). leaf (rule_at rules k) value) (add-zero base)
 
 returns : tie.Need-returns
 returns c =
@@ -42,7 +42,7 @@ returns c =
     let rules = s.args.rules.now in
     let same = back_is w32 s.args.value s.ranges.value in
     let z = s.requires.0 in
-    let bit = c.decide.ensures ∙ ap (decided (ruleAt rules base)) same in (
+    let bit = c.decide.ensures ∙ ap (decided (rule_at rules base)) same in (
       sym (get_or-set_same s.args.sums.now base _ 0 (omega (arith, s.requires.1, z.sums))),
       leaf-laid rules base s.args.value
           (record {

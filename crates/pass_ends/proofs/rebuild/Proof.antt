@@ -5,11 +5,11 @@ use Prim.Native.Nat.{ℕ, ◌^◌}
 use native.Mathlib.Omega.{arith}
 use borrow.Author.Rules.{rules}
 use lib.ListN.{length}
-use Rattle.laws.specs.Contracts.{splice, segment}
+use Rattle.laws.specs.Clauses.{splice, segment}
 use Rattle.laws.proofs.Segment.{length-segment, segment-splice, splice-twice}
 use Rattle.transform.specs.Transform.{transformed}
-use Rattle.transform.specs.Contracts.{BitsAt}
-use Rattle.transform.proofs.BitsAt.{bits-at-splice}
+use Rattle.transform.specs.Clauses.{BitsAt}
+use Rattle.transform.proofs.BitsAt.{bits_at_splice}
 use Rattle.transform.proofs.Transformed.{length-transformed}
 use Rattle.pass_ends.proofs.rebuild.Statement.{statement}
 use Rattle.pass_ends.proofs.rebuild.Tie as tie
@@ -19,7 +19,7 @@ module _ (layer : ℕ) (sums : List ℕ) {room size base : ℕ} {bits sums₁ : 
   long = length-segment bits base size (omega (arith, p.whole, p.fits))
 
   copied : BitsAt room sums₁ base size
-  copied = bits-at-splice sums base (segment bits base size) e long whole p.fits p.bits
+  copied = bits_at_splice sums base (segment bits base size) e long whole p.fits p.bits
 
   rebuilt : {sums₂ : List ℕ} → sums₂ ≡ splice sums₁ base (transformed layer (segment sums₁ base size)) → sums₂ ≡ splice sums base (transformed layer (segment bits base size))
   rebuilt e₂ =

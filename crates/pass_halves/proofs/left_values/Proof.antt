@@ -2,14 +2,14 @@
 use Prim.Native.Nat.{◌-◌}
 use native.Mathlib.Omega.{arith}
 use borrow.Author.Rules.{rules}
-use Rattle.values.specs.Values.{leftValues}
-use Rattle.pass_halves.specs.Contracts.{nodeValues}
-use Rattle.pass_halves.proofs.Layers.{addable-reads, own-reads, Computing, left_at, computing-none, left-turn, computed-all, computed-none}
+use Rattle.values.specs.Values.{left_values}
+use Rattle.pass_halves.specs.Clauses.{node_values}
+use Rattle.pass_halves.proofs.Layers.{addable_reads, own_reads, Computing, left_at, computing_none, left-turn, computed-all, computed-none}
 use Rattle.pass_halves.proofs.left_values.Statement.{statement}
 use Rattle.pass_halves.proofs.left_values.Tie as tie
 
 abbrev invariant-loop : tie.invariant-loop
-invariant-loop forced h work₀ steps₀ j₀ work steps j = Computing (left_at (nodeValues work₀ h) h) h work₀ work steps j
+invariant-loop forced h work₀ steps₀ j₀ work steps j = Computing (left_at (node_values work₀ h) h) h work₀ work steps j
 
 abbrev decreases-loop : tie.decreases-loop
 decreases-loop forced h work₀ steps₀ j₀ work steps j = h - j
@@ -18,22 +18,22 @@ returns : tie.Need-returns invariant-loop decreases-loop
 returns c =
     let t = c.before in
     let s = t.before.args in
-    computed-none (leftValues s.h (nodeValues s.work.now s.h)) t.if1.true c.none.ensures
+    computed-none (left_values s.h (node_values s.work.now s.h)) t.if1.true c.none.ensures
 
 f-requires : tie.Need-f-requires invariant-loop decreases-loop
 f-requires c κs =
     let p = c.before.before.before.before.before.requires in
-    let few = addable-reads (omega arith) p.small (own-reads p c.before.before.before.loop.invariant.filling (omega arith)) in
+    let few = addable_reads (omega arith) p.small (own_reads p c.before.before.before.loop.invariant.filling (omega arith)) in
     (omega (arith, few), omega (arith, few))
 
 loop-again : tie.Need-loop-preserved invariant-loop decreases-loop
 loop-again c =
     let p = c.before.before.before.before.before.before.requires in
     let inv = c.before.before.before.before.loop.invariant in
-    left-turn (record { sfits = c.f.type-inv }) (omega arith) inv (own-reads p inv.filling (omega arith)) c.f.ensures
+    left-turn (record { sfits = c.f.type-inv }) (omega arith) inv (own_reads p inv.filling (omega arith)) c.f.ensures
 
 returns-2 : tie.Need-returns-2 invariant-loop decreases-loop
-unfolding leftValues
+unfolding left_values
 returns-2 c =
     let l = c.before.before in
     let p = l.before.before.requires in
@@ -47,7 +47,7 @@ left-values-spec =
     decreases-loop
     (λ c κs. search rules)
     returns
-    (λ c. computing-none)
+    (λ c. computing_none)
     (λ c. search rules)
     (λ c. search rules)
     (λ c. search rules)

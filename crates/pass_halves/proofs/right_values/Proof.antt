@@ -3,16 +3,16 @@ use mathlib.Core.Path.{sym}
 use Prim.Native.Nat.{◌-◌}
 use native.Mathlib.Omega.{arith}
 use borrow.Author.Rules.{rules}
-use Rattle.laws.specs.Contracts.{segment}
-use Rattle.laws.proofs.Segment.{getD-segment}
-use Rattle.values.specs.Values.{rightValues}
-use Rattle.pass_halves.specs.Contracts.{nodeValues}
-use Rattle.pass_halves.proofs.Layers.{addable-reads, own-reads, Computing, rightAt, computing-none, right-turn, computed}
+use Rattle.laws.specs.Clauses.{segment}
+use Rattle.laws.proofs.Segment.{get_or-segment}
+use Rattle.values.specs.Values.{right_values}
+use Rattle.pass_halves.specs.Clauses.{node_values}
+use Rattle.pass_halves.proofs.Layers.{addable_reads, own_reads, Computing, right_at, computing_none, right-turn, computed}
 use Rattle.pass_halves.proofs.right_values.Statement.{statement}
 use Rattle.pass_halves.proofs.right_values.Tie as tie
 
 abbrev invariant-loop : tie.invariant-loop
-invariant-loop h base sums work₀ steps₀ j₀ work steps j = Computing (rightAt (nodeValues work₀ h) (segment sums base h) h) h work₀ work steps j
+invariant-loop h base sums work₀ steps₀ j₀ work steps j = Computing (right_at (node_values work₀ h) (segment sums base h) h) h work₀ work steps j
 
 abbrev decreases-loop : tie.decreases-loop
 decreases-loop h base sums work₀ steps₀ j₀ work steps j = h - j
@@ -20,17 +20,17 @@ decreases-loop h base sums work₀ steps₀ j₀ work steps j = h - j
 g-requires : tie.Need-g-requires invariant-loop decreases-loop
 g-requires c κs =
     let p = c.before.before.before.before.before.requires.0 in
-    addable-reads (omega arith) p.small (own-reads p c.before.before.before.before.loop.invariant.filling (omega arith))
+    addable_reads (omega arith) p.small (own_reads p c.before.before.before.before.loop.invariant.filling (omega arith))
 
 loop-again : tie.Need-loop-preserved invariant-loop decreases-loop
 loop-again c =
     let s = c.before.before.before.before.before.before in
     let l = c.before.before.before.before.before.loop in
-    let sum = sym (getD-segment s.args.sums.now s.args.base s.args.h l.j 0 (omega arith)) in
-    right-turn (record { sfits = c.g.type-inv }) (omega arith) (segment s.args.sums.now s.args.base s.args.h) l.invariant (own-reads s.requires.0 l.invariant.filling (omega arith)) sum c.g.ensures
+    let sum = sym (get_or-segment s.args.sums.now s.args.base s.args.h l.j 0 (omega arith)) in
+    right-turn (record { sfits = c.g.type-inv }) (omega arith) (segment s.args.sums.now s.args.base s.args.h) l.invariant (own_reads s.requires.0 l.invariant.filling (omega arith)) sum c.g.ensures
 
 returns : tie.Need-returns invariant-loop decreases-loop
-unfolding rightValues
+unfolding right_values
 returns c =
     let l = c.before.before in
     let p = l.before.requires.0 in
@@ -42,7 +42,7 @@ right-values-spec =
     (tie.spec
     invariant-loop
     decreases-loop
-    (λ c. computing-none)
+    (λ c. computing_none)
     (λ c. search rules)
     (λ c. search rules)
     (λ c. search rules)

@@ -2,14 +2,14 @@
 use Prim.Native.Nat.{◌-◌}
 use native.Mathlib.Omega.{arith}
 use borrow.Author.Rules.{rules}
-use Rattle.values.specs.Values.{leftValues}
-use Rattle.channel.specs.Channel.{channelValues}
-use Rattle.pass_halves.proofs.Layers.{Reads, addable-reads, channel-reads, Computing, left_at, computing-none, left-turn, computed-all, computed-none}
+use Rattle.values.specs.Values.{left_values}
+use Rattle.channel.specs.Channel.{channel_values}
+use Rattle.pass_halves.proofs.Layers.{Reads, addable_reads, channel_reads, Computing, left_at, computing_none, left-turn, computed-all, computed-none}
 use Rattle.pass_halves.proofs.root_left_values.Statement.{statement}
 use Rattle.pass_halves.proofs.root_left_values.Tie as tie
 
 abbrev invariant-loop : tie.invariant-loop
-invariant-loop forced channel h work₀ steps₀ j₀ work steps j = Computing (left_at (channelValues channel) h) h work₀ work steps j
+invariant-loop forced channel h work₀ steps₀ j₀ work steps j = Computing (left_at (channel_values channel) h) h work₀ work steps j
 
 abbrev decreases-loop : tie.decreases-loop
 decreases-loop forced channel h work₀ steps₀ j₀ work steps j = h - j
@@ -18,7 +18,7 @@ returns : tie.Need-returns invariant-loop decreases-loop
 returns c =
     let t = c.before in
     let s = t.before.before.args in
-    computed-none (leftValues s.h (channelValues s.channel.now)) t.if1.true c.none.ensures
+    computed-none (left_values s.h (channel_values s.channel.now)) t.if1.true c.none.ensures
 
 -- what a turn reads
 module _ (c : tie.After-channel-value2 invariant-loop decreases-loop) where
@@ -28,17 +28,17 @@ module _ (c : tie.After-channel-value2 invariant-loop decreases-loop) where
   abbrev l : tie.At-loop invariant-loop decreases-loop
   l = c.before.before.before.before.before
 
-  reads : Reads (channelValues s.args.channel.now) s.args.h l.loop.j c.before.before.channel-value.result c.channel-value2.result
-  reads = channel-reads s.args.channel.now s.args.h l.loop.j s.pre.small c.before.before.channel-value.ensures c.channel-value2.ensures
+  reads : Reads (channel_values s.args.channel.now) s.args.h l.loop.j c.before.before.channel-value.result c.channel-value2.result
+  reads = channel_reads s.args.channel.now s.args.h l.loop.j s.pre.small c.before.before.channel-value.ensures c.channel-value2.ensures
 
 f-requires : tie.Need-f-requires invariant-loop decreases-loop
-f-requires c κs = let few = addable-reads (omega arith) (s c).requires.small (reads c) in (omega (arith, few), omega (arith, few))
+f-requires c κs = let few = addable_reads (omega arith) (s c).requires.small (reads c) in (omega (arith, few), omega (arith, few))
 
 loop-again : tie.Need-loop-preserved invariant-loop decreases-loop
 loop-again c = left-turn (record { sfits = c.f.type-inv }) (omega arith) (l c.before).loop.inv (reads c.before) c.f.ensures
 
 returns-2 : tie.Need-returns-2 invariant-loop decreases-loop
-unfolding leftValues
+unfolding left_values
 returns-2 c =
     let l = c.before.before in
     let p = l.before.before.before.requires in
@@ -52,7 +52,7 @@ root-left-values-spec =
     decreases-loop
     (λ c κs. search rules)
     returns
-    (λ c. computing-none)
+    (λ c. computing_none)
     (λ c. search rules)
     (λ c κs. search rules)
     (λ c. search rules)

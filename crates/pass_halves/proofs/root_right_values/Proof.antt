@@ -4,15 +4,15 @@ use Prim.Native.Nat.{◌-◌}
 use native.Mathlib.Omega.{arith}
 use borrow.Author.Rules.{rules}
 use lib.Seq.{get_or-take}
-use Rattle.laws.specs.Contracts.{segment}
-use Rattle.values.specs.Values.{rightValues}
-use Rattle.channel.specs.Channel.{channelValues}
-use Rattle.pass_halves.proofs.Layers.{Reads, addable-reads, channel-reads, Computing, rightAt, computing-none, right-turn, computed}
+use Rattle.laws.specs.Clauses.{segment}
+use Rattle.values.specs.Values.{right_values}
+use Rattle.channel.specs.Channel.{channel_values}
+use Rattle.pass_halves.proofs.Layers.{Reads, addable_reads, channel_reads, Computing, right_at, computing_none, right-turn, computed}
 use Rattle.pass_halves.proofs.root_right_values.Statement.{statement}
 use Rattle.pass_halves.proofs.root_right_values.Tie as tie
 
 abbrev invariant-loop : tie.invariant-loop
-invariant-loop channel h sums work₀ steps₀ j₀ work steps j = Computing (rightAt (channelValues channel) (segment sums 0 h) h) h work₀ work steps j
+invariant-loop channel h sums work₀ steps₀ j₀ work steps j = Computing (right_at (channel_values channel) (segment sums 0 h) h) h work₀ work steps j
 
 abbrev decreases-loop : tie.decreases-loop
 decreases-loop channel h sums work₀ steps₀ j₀ work steps j = h - j
@@ -25,11 +25,11 @@ module _ (c : tie.After-channel-value2 invariant-loop decreases-loop) where
   abbrev l : tie.At-loop invariant-loop decreases-loop
   l = c.before.before.before.before.before
 
-  reads : Reads (channelValues s.args.channel.now) s.args.h l.loop.j c.before.before.channel-value.result c.channel-value2.result
-  reads = channel-reads s.args.channel.now s.args.h l.loop.j s.pre.small c.before.before.channel-value.ensures c.channel-value2.ensures
+  reads : Reads (channel_values s.args.channel.now) s.args.h l.loop.j c.before.before.channel-value.result c.channel-value2.result
+  reads = channel_reads s.args.channel.now s.args.h l.loop.j s.pre.small c.before.before.channel-value.ensures c.channel-value2.ensures
 
 g-requires : tie.Need-g-requires invariant-loop decreases-loop
-g-requires c κs = addable-reads (omega arith) (s c.before).pre.small (reads c.before)
+g-requires c κs = addable_reads (omega arith) (s c.before).pre.small (reads c.before)
 
 loop-again : tie.Need-loop-preserved invariant-loop decreases-loop
 loop-again c =
@@ -38,7 +38,7 @@ loop-again c =
     right-turn (record { sfits = c.g.type-inv }) (omega arith) (segment t.sums.now 0 t.h) at.inv (reads c.before.before) (sym (get_or-take t.h t.sums.now at.j 0 (omega arith))) c.g.ensures
 
 returns : tie.Need-returns invariant-loop decreases-loop
-unfolding rightValues
+unfolding right_values
 returns c =
     let l = c.before.before in
     let p = l.before.before.requires in
@@ -50,7 +50,7 @@ root-right-values-spec =
     (tie.spec
     invariant-loop
     decreases-loop
-    (λ c. computing-none)
+    (λ c. computing_none)
     (λ c. search rules)
     (λ c κs. search rules)
     (λ c. search rules)

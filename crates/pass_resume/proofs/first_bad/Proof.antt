@@ -8,13 +8,13 @@ use borrow.Author.Count.{below_none, below_more}
 use borrow.Author.Rules.{rules}
 use lib.ListN.{length, get_or}
 use Rattle.laws.proofs.First.{first-is}
-use Rattle.bits.specs.Mask.{maskBit}
-use Rattle.pass_resume.specs.Contracts.{badBit}
+use Rattle.bits.specs.Mask.{mask_bit}
+use Rattle.pass_resume.specs.Clauses.{bad_bit}
 use Rattle.pass_resume.proofs.first_bad.Statement.{statement}
 use Rattle.pass_resume.proofs.first_bad.Tie as tie
 
 abbrev bad : List ℕ → List ℕ → ℕ → Bool
-bad mask prefix k = badBit (get_or prefix k 0) (maskBit mask k)
+bad mask prefix k = bad_bit (get_or prefix k 0) (mask_bit mask k)
 
 abbrev invariant-loop : tie.invariant-loop
 invariant-loop mask prefix i₀ i = (i ≤ length prefix) × ((k : ℕ) → k < i → bad mask prefix k ≡ false)
@@ -28,7 +28,7 @@ test : (c : tie.After-is-bad invariant-loop decreases-loop) →
     c.is-bad.result ≡ bad s.mask.now s.prefix.now c.before.before.before.before.loop.i
 test c =
     let s = c.before.before.before.before.before.before.before.args in
-    c.is-bad.ensures ∙ ap (badBit (get_or s.prefix.now c.before.before.before.before.loop.i 0)) c.before.mask-bit.ensures
+    c.is-bad.ensures ∙ ap (bad_bit (get_or s.prefix.now c.before.before.before.before.loop.i 0)) c.before.mask-bit.ensures
 
 returns : tie.Need-returns invariant-loop decreases-loop
 returns c =

@@ -3,20 +3,20 @@ use mathlib.Core.Path.{sym, ap, ◌∙◌}
 use mathlib.Core.Bool.{Bool, ◌&&◌}
 use borrow.Author.Tests.{lt-ltb, le-ltb, eq-eqb, ne_eqb}
 use lib.Dec.{eqb}
-use Rattle.laws.proofs.Choice.{or-first, or-second}
+use Rattle.laws.proofs.Choice.{or_first, or_second}
 use Rattle.pass_resume.proofs.is_bad.Statement.{statement}
 use Rattle.pass_resume.proofs.is_bad.Tie as tie
 
 returns-2 : tie.Need-returns-2
 returns-2 c =
     let s = c.before.before.args in
-    ap (λ (t : Bool). t && eqb s.marked 0) (sym (eq-eqb _ _ c.if2.true)) ∙ or-second _ _ (le-ltb _ _ c.before.if1.false)
+    ap (λ (t : Bool). t && eqb s.marked 0) (sym (eq-eqb _ _ c.if2.true)) ∙ or_second _ _ (le-ltb _ _ c.before.if1.false)
 
 returns-3 : tie.Need-returns-3
 returns-3 c =
     let s = c.before.before.args in
     let e = ne_eqb s.byte 1 c.if2.false in
-    e ∙ ap (λ (t : Bool). t && eqb s.marked 0) (sym e) ∙ or-second _ _ (le-ltb _ _ c.before.if1.false)
+    e ∙ ap (λ (t : Bool). t && eqb s.marked 0) (sym e) ∙ or_second _ _ (le-ltb _ _ c.before.if1.false)
 
 pub is-bad-spec : {M : Type 1} → statement M
-is-bad-spec = tie.close (tie.spec (λ c. or-first _ _ (lt-ltb _ _ c.if1.true)) returns-2 returns-3)
+is-bad-spec = tie.close (tie.spec (λ c. or_first _ _ (lt-ltb _ _ c.if1.true)) returns-2 returns-3)

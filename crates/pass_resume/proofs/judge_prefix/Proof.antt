@@ -11,20 +11,20 @@ use Rattle.refusal.specs.declared.Judgement.{Judgement}
 use Rattle.refusal.specs.declared.Judgement.TheVariants.{Refused}
 use Rattle.refusal.specs.declared.Refusal.TheVariants.{At}
 use Rattle.refusal.specs.Judge.{judge}
-use Rattle.refusal.proofs.Judge.{judge-none, judge-yes, judge-no}
-use Rattle.code.specs.Code.{codeLength}
-use Rattle.pass_resume.specs.Resume.{firstBad}
-use Rattle.pass_resume.specs.Contracts.{prefixRefusals}
+use Rattle.refusal.proofs.Judge.{judge-none, judge_yes, judge_no}
+use Rattle.code.specs.Code.{code_length}
+use Rattle.pass_resume.specs.Resume.{first_bad}
+use Rattle.pass_resume.specs.Clauses.{prefix_refusals}
 use Rattle.pass_resume.proofs.judge_prefix.Statement.{statement}
 use Rattle.pass_resume.proofs.judge_prefix.Tie as tie
 
 -- the judgement once the first i tests have failed
 abbrev past : ℕ → tie.Start → Judgement
-past i s = judge (drop i (prefixRefusals s.args.mask.now s.args.code s.args.prefix.now s.args.output.now))
+past i s = judge (drop i (prefix_refusals s.args.mask.now s.args.code s.args.prefix.now s.args.output.now))
 
 -- the size of the code
-size : (s : tie.Start) → 1 * 2 ^ s.args.code.n % 2 ^ 64 ≡ codeLength s.args.code
-size s = one_shl s.args.code.n 64 (omega (arith, s.requires.n-most))
+size : (s : tie.Start) → 1 * 2 ^ s.args.code.n % 2 ^ 64 ≡ code_length s.args.code
+size s = one_shl s.args.code.n 64 (omega (arith, s.requires.n_most))
 
 -- back to the start
 abbrev from1 : tie.Else1 → tie.Start
@@ -33,46 +33,46 @@ from1 c = c.before.before.before.before.before
 abbrev from2 : tie.Else2 → tie.Start
 from2 c = from1 c.before.before
 
-short : (c : tie.Else1) → length (from1 c).args.prefix.now ≤ codeLength (from1 c).args.code
+short : (c : tie.Else1) → length (from1 c).args.prefix.now ≤ code_length (from1 c).args.code
 short c = omega (arith, c.if1.false, size (from1 c))
 
 past-1 : (c : tie.Else1) → past 0 (from1 c) ≡ past 1 (from1 c)
-past-1 c = judge-no _ _ _ (le-ltb _ _ (short c))
+past-1 c = judge_no _ _ _ (le-ltb _ _ (short c))
 
-good : (c : tie.Else2) → length (from2 c).args.prefix.now ≤ firstBad (from2 c).args.mask.now (from2 c).args.prefix.now
+good : (c : tie.Else2) → length (from2 c).args.prefix.now ≤ first_bad (from2 c).args.mask.now (from2 c).args.prefix.now
 good c = omega (arith, c.before.first-bad.ensures, c.if2.false)
 
 past-2 : (c : tie.Else2) → past 0 (from2 c) ≡ past 2 (from2 c)
-past-2 c = past-1 c.before.before ∙ judge-no _ _ _ (le-ltb _ _ (good c))
+past-2 c = past-1 c.before.before ∙ judge_no _ _ _ (le-ltb _ _ (good c))
 
 returns : tie.Need-returns
 returns c =
     let s = c.before.before.before.before.before in
-    sym (judge-yes _ _ _ (lt-ltb _ _ (subst (λ (k : ℕ). k < length s.args.prefix.now) (size s) c.if1.true)))
+    sym (judge_yes _ _ _ (lt-ltb _ _ (subst (λ (k : ℕ). k < length s.args.prefix.now) (size s) c.if1.true)))
 
 returns-2 : tie.Need-returns-2
 returns-2 c =
     let e = c.before.before in
     let i = c.before.first-bad.ensures in
     ap (λ (k : ℕ). Refused (At 18 k)) i
-    ∙ sym (past-1 e ∙ judge-yes _ _ _ (lt-ltb _ _ (subst (λ (k : ℕ). k < length (from1 e).args.prefix.now) i c.if2.true)))
+    ∙ sym (past-1 e ∙ judge_yes _ _ _ (lt-ltb _ _ (subst (λ (k : ℕ). k < length (from1 e).args.prefix.now) i c.if2.true)))
 
 returns-3 : tie.Need-returns-3
 returns-3 c =
     let e = c.before in
-    sym (past-2 e ∙ judge-yes _ _ _ (ap not (ne_eqb _ _ (λ q. c.if3.true (q ∙ sym (size (from2 e)))))))
+    sym (past-2 e ∙ judge_yes _ _ _ (ap not (ne_eqb _ _ (λ q. c.if3.true (q ∙ sym (size (from2 e)))))))
 
 returns-4 : tie.Need-returns-4
 returns-4 c =
     let e = c.before in
-    sym (past-2 e ∙ judge-no _ _ _ (ap not (eq-eqb _ _ (c.if3.false ∙ size (from2 e)))) ∙ judge-none)
+    sym (past-2 e ∙ judge_no _ _ _ (ap not (eq-eqb _ _ (c.if3.false ∙ size (from2 e)))) ∙ judge-none)
 
 pub judge-prefix-spec : {M : Type 1} → statement M
 judge-prefix-spec =
     tie.close
     (tie.spec
     (λ c. search rules)
-    (λ c. omega (arith, c.before.before.before.before.requires.n-most))
+    (λ c. omega (arith, c.before.before.before.before.requires.n_most))
     returns
     (λ c κs. omega (arith, short c, (from1 c).requires.mask_size))
     returns-2

@@ -4,19 +4,19 @@ use mathlib.Core.Bool.{Bool}
 use mathlib.Core.List.{List}
 use borrow.Author.Rules.{rules}
 use Rattle.refusal.specs.declared.Refusal.{Refusal}
-use Rattle.refusal.proofs.Judge.{append-fine, append-refused}
-use Rattle.channel.specs.Channel.{channelRefusals}
-use Rattle.pass_resume.specs.Contracts.{prefixRefusals}
+use Rattle.refusal.proofs.Judge.{append-fine, append_refused}
+use Rattle.channel.specs.Channel.{channel_refusals}
+use Rattle.pass_resume.specs.Clauses.{prefix_refusals}
 use Rattle.pass_resume.proofs.judge_resuming.Statement.{statement}
 use Rattle.pass_resume.proofs.judge_resuming.Tie as tie
 
 -- the two lists of a call
 module _ (s : tie.Start) where
-  abbrev channelTests : List (Bool × Refusal)
-  channelTests = channelRefusals s.args.code s.args.channel.now
+  abbrev channel_tests : List (Bool × Refusal)
+  channel_tests = channel_refusals s.args.code s.args.channel.now
 
-  abbrev prefixTests : List (Bool × Refusal)
-  prefixTests = prefixRefusals s.args.mask.now s.args.code s.args.prefix.now s.args.output.now
+  abbrev prefix_tests : List (Bool × Refusal)
+  prefix_tests = prefix_refusals s.args.mask.now s.args.code s.args.prefix.now s.args.output.now
 
 returns : tie.Need-returns
 returns c =
@@ -24,19 +24,19 @@ returns c =
     let j = e.before.before in
     let s = j.before.before.before.before.before in
     c.judge-prefix.ensures
-    ∙ sym (append-fine (channelTests s) (prefixTests s) (sym j.judge-channel.ensures ∙ e.enum_told.given.1))
+    ∙ sym (append-fine (channel_tests s) (prefix_tests s) (sym j.judge-channel.ensures ∙ e.enum_told.given.1))
 
 returns-2 : tie.Need-returns-2
 returns-2 c =
     let j = c.before.before.before in
     let s = j.before.before.before.before.before in
-    sym (append-refused (channelTests s) (prefixTests s) _ (sym j.judge-channel.ensures ∙ c.before.x.given.1))
+    sym (append_refused (channel_tests s) (prefix_tests s) _ (sym j.judge-channel.ensures ∙ c.before.x.given.1))
 
 pub judge-resuming-spec : {M : Type 1} → statement M
 judge-resuming-spec =
     tie.close
     (tie.spec
-    (λ c κs. c.before.before.before.before.requires.n-most)
+    (λ c κs. c.before.before.before.before.requires.n_most)
     (λ c. search rules)
     (λ c κs. c.before.before.before.before.before.before.before.requires)
     (λ c. search rules)

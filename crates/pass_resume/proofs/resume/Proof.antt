@@ -6,12 +6,12 @@ use borrow.Author.Rules.{rules}
 use Rattle.code.specs.declared.Code.{Code}
 use Rattle.code.specs.declared.Description.{Description}
 use Rattle.code.specs.declared.Description.TheVariants.{Accepted}
-use Rattle.code.specs.Description.{mask_of, describe, onDescription}
+use Rattle.code.specs.Description.{mask_of, describe, on_description}
 use Rattle.code.specs.Claims.{Described, Coded}
 use Rattle.code.proofs.Facts.{described}
 use Rattle.pass_resume.specs.declared.Resumed.{Resumed}
 use Rattle.pass_resume.specs.declared.Resumed.TheVariants.{Refused}
-use Rattle.pass_resume.specs.Resume.{resumedBy, resumed}
+use Rattle.pass_resume.specs.Resume.{resumed_by, resumed}
 use Rattle.pass_resume.proofs.resume.Statement.{statement}
 use Rattle.pass_resume.proofs.resume.Tie as tie
 
@@ -19,7 +19,7 @@ use Rattle.pass_resume.proofs.resume.Tie as tie
 abbrev by : tie.Start → Description → Resumed × List ℕ
 by s a =
     let x = s.args in
-    onDescription a (λ i. (Refused i, x.output.now)) (λ c. resumedBy (mask_of x.description.now) c x.channel.now x.prefix.now x.output.now)
+    on_description a (λ i. (Refused i, x.output.now)) (λ c. resumed_by (mask_of x.description.now) c x.channel.now x.prefix.now x.output.now)
 
 -- the code that was accepted
 module _ (c : tie.After-known-told) where
@@ -46,7 +46,7 @@ returns c =
     let a = c.before.before.before.before.before.before in
     let x = (s a).args in
     c.before.before.resume-by.ensures
-    ∙ ap (λ (mask : List ℕ). resumedBy mask (code a) x.channel.now x.prefix.now x.output.now) c.before.before.before.before.before.mask-of.ensures
+    ∙ ap (λ (mask : List ℕ). resumed_by mask (code a) x.channel.now x.prefix.now x.output.now) c.before.before.before.before.before.mask-of.ensures
     ∙ ap (by (s a)) (accepted a)
 
 returns-2 : tie.Need-returns-2

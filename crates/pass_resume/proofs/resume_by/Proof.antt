@@ -3,14 +3,14 @@ use mathlib.Core.Path.{sym, ap₂, ◌∙◌}
 use mathlib.Core.List.{List}
 use Prim.Native.Nat.{ℕ}
 use borrow.Author.Rules.{rules}
-use Rattle.refusal.proofs.Judge.{refused-by}
+use Rattle.refusal.proofs.Judge.{refused_by}
 use Rattle.pass_tree.specs.declared.Work.{Work}
 use Rattle.pass_tree.specs.Node.{Out}
 use Rattle.pass_resume.specs.declared.Resumed.TheVariants.{Done, Refused}
-use Rattle.pass_resume.specs.Resume.{resumedBy}
-use Rattle.pass_resume.specs.Contracts.{resumePass}
+use Rattle.pass_resume.specs.Resume.{resumed_by}
+use Rattle.pass_resume.specs.Clauses.{resume_pass}
 use Rattle.pass_resume.specs.Claims.{WellFormed}
-use Rattle.pass_resume.proofs.WellFormed.{fine-well-formed, well-formed-answer}
+use Rattle.pass_resume.proofs.WellFormed.{fine_well_formed, well_formed_answer}
 use Rattle.pass_resume.proofs.resume_by.Statement.{statement}
 use Rattle.pass_resume.proofs.resume_by.Tie as tie
 
@@ -19,9 +19,9 @@ module _ (c : tie.After-enum-told) where
   abbrev s : tie.Start
   s = c.before.before.before.before.before.before.before.before
 
-  well-formed : WellFormed s.args.mask.now s.args.code s.args.channel.now s.args.prefix.now s.args.output.now
-  well-formed =
-      fine-well-formed s.args.mask.now s.args.code s.args.channel.now s.args.prefix.now s.args.output.now
+  well_formed : WellFormed s.args.mask.now s.args.code s.args.channel.now s.args.prefix.now s.args.output.now
+  well_formed =
+      fine_well_formed s.args.mask.now s.args.code s.args.channel.now s.args.prefix.now s.args.output.now
       (sym c.before.before.judge-resuming.ensures ∙ c.enum_told.given.1)
 
 returns : tie.Need-returns
@@ -31,15 +31,15 @@ returns c =
     let x = (s e).args in
     let d = k.resume-pass.ensures in
     ap₂ (λ (w : Work) (bits : List ℕ). (Done w.steps, bits)) d.0 d.1
-    ∙ sym (well-formed-answer x.mask.now x.code x.channel.now x.prefix.now x.output.now (well-formed e))
+    ∙ sym (well_formed_answer x.mask.now x.code x.channel.now x.prefix.now x.output.now (well_formed e))
 
 returns-2 : tie.Need-returns-2
-unfolding resumedBy
+unfolding resumed_by
 returns-2 c =
     let j = c.before.before.before in
     let x = j.before.before.before.before.before.before.args in
-    let o : Out = resumePass x.mask.now x.code x.channel.now x.prefix.now in
-    sym (refused-by (λ i. (Refused i, x.output.now)) (Done o.work.steps, o.bits) _ _ (sym j.judge-resuming.ensures ∙ c.before.x.given.1))
+    let o : Out = resume_pass x.mask.now x.code x.channel.now x.prefix.now in
+    sym (refused_by (λ i. (Refused i, x.output.now)) (Done o.work.steps, o.bits) _ _ (sym j.judge-resuming.ensures ∙ c.before.x.given.1))
 
 pub resume-by-spec : {M : Type 1} → statement M
 resume-by-spec =
@@ -47,7 +47,7 @@ resume-by-spec =
     (tie.spec
     (λ c κs. search rules)
     (λ c. search rules)
-    (λ c κs. let e = c.before.before in (record { coded = (s e).requires.0; well-formed = well-formed e }, (s e).requires.1))
+    (λ c κs. let e = c.before.before in (record { coded = (s e).requires.0; well_formed = well_formed e }, (s e).requires.1))
     (λ c. search rules)
     (λ c. search rules)
     returns

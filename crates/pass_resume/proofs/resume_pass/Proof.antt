@@ -5,14 +5,14 @@ use native.Mathlib.Omega.{arith}
 use borrow.Author.Rules.{rules}
 use Rattle.arrays.specs.Claims.{longest}
 use Rattle.arrays.proofs.Sizes.{fits}
-use Rattle.code.specs.Code.{codeLength}
-use Rattle.pass_resume.proofs.Resuming.{resume-on, resume-work, resume-bits}
+use Rattle.code.specs.Code.{code_length}
+use Rattle.pass_resume.proofs.Resuming.{resume_on, resume_work, resume_bits}
 use Rattle.pass_resume.proofs.resume_pass.Statement.{statement}
 use Rattle.pass_resume.proofs.resume_pass.Tie as tie
 
 -- the code fits the arrays
-code_fits : (s : tie.Start) → codeLength s.args.code ≤ longest
-code_fits s = fits s.requires.0.coded.n-most
+code_fits : (s : tie.Start) → code_length s.args.code ≤ longest
+code_fits s = fits s.requires.0.coded.n_most
 
 rules-from-requires : tie.Need-rules-from-requires
 rules-from-requires c κs =
@@ -21,20 +21,20 @@ rules-from-requires c κs =
 copy-requires : tie.Need-copy-requires
 copy-requires c κs =
     let s = c.before.before.before.before.before.before.before in
-    (omega arith, omega (arith, s.requires.0.well-formed.prefix-size, code_fits s))
+    (omega arith, omega (arith, s.requires.0.well_formed.prefix_size, code_fits s))
 
 pass-requires : tie.Need-pass-requires
 pass-requires c κs =
     let d = c.before.before.before.before.before in
     let s = d.before.before.before.before.before.before.before.before in
-    resume-on s.args.bits.now s.requires.0 d.before.before.rules-from.ensures.0 (code_fits s) s.requires.1 d.copy.ensures refl refl refl
+    resume_on s.args.bits.now s.requires.0 d.before.before.rules-from.ensures.0 (code_fits s) s.requires.1 d.copy.ensures refl refl refl
 
 copy-requires-2 : tie.Need-copy-requires-2
 copy-requires-2 c κs =
     let p = c.before.before.before in
     let s = p.before.before.before.before.before.before.before.before.before.before.before.before.before.before in
-    let w = s.requires.0.well-formed in
-    (omega (arith, w.channel-size, code_fits s, p.pass.ensures.whole.bits), omega (arith, w.channel-size, w.output-size))
+    let w = s.requires.0.well_formed in
+    (omega (arith, w.channel_size, code_fits s, p.pass.ensures.whole.bits), omega (arith, w.channel_size, w.output_size))
 
 returns : tie.Need-returns
 returns c =
@@ -43,8 +43,8 @@ returns c =
     let s = d.before.before.before.before.before.before.before.before in
     let rules = d.before.before.rules-from.ensures.0 in
     let e = p.pass.ensures in (
-      resume-work s.args.bits.now s.requires.0 rules (code_fits s) s.requires.1 d.copy.ensures e,
-      c.before.before.copy2.ensures ∙ resume-bits s.args.bits.now s.requires.0 rules (code_fits s) s.requires.1 d.copy.ensures e,
+      resume_work s.args.bits.now s.requires.0 rules (code_fits s) s.requires.1 d.copy.ensures e,
+      c.before.before.copy2.ensures ∙ resume_bits s.args.bits.now s.requires.0 rules (code_fits s) s.requires.1 d.copy.ensures e,
     )
 
 pub resume-pass-spec : {M : Type 1} → statement M

@@ -6,12 +6,12 @@ use native.Mathlib.Omega.{arith}
 use borrow.Author.Rules.{rules}
 use lib.ListN.{length}
 use Rattle.laws.specs.Table.{table}
-use Rattle.laws.specs.Contracts.{splice}
-use Rattle.laws.proofs.Filling.{Filling, filling-none, filling-more, filling-done}
-use Rattle.bits.specs.Packing.{bytesFor, packedByte, packed}
+use Rattle.laws.specs.Clauses.{splice}
+use Rattle.laws.proofs.Filling.{Filling, filling_none, filling_more, filling_done}
+use Rattle.bits.specs.Packing.{bytes_for, packed_byte, packed}
 use Rattle.walk.specs.declared.Walk.{Walk}
 use Rattle.walk.specs.Walked.{walked}
-use Rattle.walk.proofs.Walked.{looks-are}
+use Rattle.walk.proofs.Walked.{looks_are}
 use Rattle.placing.specs.Place.{placed}
 use Rattle.placing.proofs.Placing.{length-placed}
 use Rattle.placing.proofs.place.Statement.{statement}
@@ -23,7 +23,7 @@ bits mask message = placed mask message (8 * length mask)
 
 abbrev invariant-loop : tie.invariant-loop
 invariant-loop mask message u₀ walk₀ u walk =
-    Filling (packedByte (bits mask message)) 0 (length mask) u₀ u (walk.looks / 8) × (walk ≡ walked mask (8 * (walk.looks / 8)))
+    Filling (packed_byte (bits mask message)) 0 (length mask) u₀ u (walk.looks / 8) × (walk ≡ walked mask (8 * (walk.looks / 8)))
 
 abbrev decreases-loop : tie.decreases-loop
 decreases-loop mask message u₀ walk₀ u walk = 8 * length mask - walk.looks
@@ -35,7 +35,7 @@ loop-holds c =
     let mask = s.args.mask.now in
     let e = c.start.ensures in
     let none : 0 ≡ c.start.result.looks = sym (ap (λ (w : Walk). w.looks) e) in (
-      subst (λ (n : ℕ). Filling (packedByte (bits mask s.args.message.now)) 0 (length mask) s.args.u.now s.args.u.now (n / 8)) none filling-none,
+      subst (λ (n : ℕ). Filling (packed_byte (bits mask s.args.message.now)) 0 (length mask) s.args.u.now s.args.u.now (n / 8)) none filling_none,
       e ∙ ap (λ (n : ℕ). walked mask (8 * (n / 8))) none,
     )
 
@@ -63,16 +63,16 @@ module _ (c : tie.After-looks2 invariant-loop decreases-loop) where
 
 -- after the byte, its walk has eight looks more
 next : (c : tie.After-placed-byte invariant-loop decreases-loop) → c.placed-byte.result.walk.looks ≡ 8 * (m (l c.before) + 1)
-next c = looks-are (mask (l c.before)) _ c.placed-byte.ensures.1 ∙ ap (λ (k : ℕ). 8 * (k + 1)) (same c.before)
+next c = looks_are (mask (l c.before)) _ c.placed-byte.ensures.1 ∙ ap (λ (k : ℕ). 8 * (k + 1)) (same c.before)
 
 loop-again : tie.Need-loop-preserved invariant-loop decreases-loop
 loop-again c =
     let k = c.before.before in
     let a = l k in
     let e = c.before.placed-byte.ensures in
-    let byte = packedByte (bits (mask a) (s a).args.message.now) in
+    let byte = packed_byte (bits (mask a) (s a).args.message.now) in
     let more : m a + 1 ≡ c.before.placed-byte.result.walk.looks / 8 = omega (arith, next c.before) in (
-      subst (Filling byte 0 (length (mask a)) (s a).args.u.now _) more (filling-more a.loop.inv.0 _ _ (inside k) (omega (arith, same k)) (e.0 ∙ ap byte (same k))),
+      subst (Filling byte 0 (length (mask a)) (s a).args.u.now _) more (filling_more a.loop.inv.0 _ _ (inside k) (omega (arith, same k)) (e.0 ∙ ap byte (same k))),
       e.1 ∙ ap (λ (k : ℕ). walked (mask a) (8 * k)) (ap (λ (k : ℕ). k + 1) (same k) ∙ more),
     )
 
@@ -82,10 +82,10 @@ returns c =
     let l = c.before.before.before in
     let message = (s l).args.message.now in
     let all : m l ≡ length (mask l) = omega (arith, l.loop.invariant.0.reached, c.before.before.looks.ensures) in
-    let size : length (mask l) ≡ bytesFor (length (bits (mask l) message)) = omega (arith, length-placed (mask l) message (8 * length (mask l))) in (
+    let size : length (mask l) ≡ bytes_for (length (bits (mask l) message)) = omega (arith, length-placed (mask l) message (8 * length (mask l))) in (
       c.looks3.ensures ∙ ap (λ (w : Walk). w.looks) l.loop.invariant.1 ∙ ap (λ (m : ℕ). (walked (mask l) (8 * m)).looks) all,
-      filling-done l.loop.invariant.0 (omega (arith, all)) (omega (arith, (s l).requires.1))
-          ∙ ap (λ (k : ℕ). splice (s l).args.u.now 0 (table (packedByte (bits (mask l) message)) k)) size,
+      filling_done l.loop.invariant.0 (omega (arith, all)) (omega (arith, (s l).requires.1))
+          ∙ ap (λ (k : ℕ). splice (s l).args.u.now 0 (table (packed_byte (bits (mask l) message)) k)) size,
     )
 
 pub place-spec : {M : Type 1} → statement M

@@ -6,7 +6,7 @@ use native.Mathlib.Omega.{arith}
 use borrow.Author.Rules.{rules}
 use lib.Dec.{eqb}
 use lib.ListN.{get_or}
-use Rattle.bits.proofs.Bitwise.{and-bits}
+use Rattle.bits.proofs.Bitwise.{and_bits}
 use Rattle.placing.proofs.placed_bit.Statement.{statement}
 use Rattle.placing.proofs.placed_bit.Tie as tie
 
@@ -20,7 +20,7 @@ returns : tie.Need-returns
 returns c =
     let s = c.before in
     let x = get_or s.args.message.now s.args.c 0 in
-    and-bits s.args.information x s.requires.0 (s.requires.2.at s.args.c) ∙ chosen s.args.information x s.requires.0
+    and_bits s.args.information x s.requires.0 (s.requires.2.at s.args.c) ∙ chosen s.args.information x s.requires.0
 
 pub placed-bit-spec : {M : Type 1} → statement M
 placed-bit-spec = tie.close (tie.spec (λ c. search rules) returns)

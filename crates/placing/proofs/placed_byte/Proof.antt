@@ -11,13 +11,13 @@ use lib.Dec.{eqb}
 use lib.ListN.{length, get_or}
 use lib.Pow.{pow_mono}
 use Rattle.bits.specs.Bit.{number}
-use Rattle.bits.specs.Mask.{maskBit, onesBelow}
-use Rattle.bits.proofs.Mask.{ones-le, mask-bit-lt}
+use Rattle.bits.specs.Mask.{mask_bit, ones_below}
+use Rattle.bits.proofs.Mask.{ones_le, mask_bit_lt}
 use Rattle.bits.proofs.Number.{number_lt}
 use Rattle.walk.specs.Walked.{walked}
-use Rattle.walk.proofs.Walked.{ones-are, next_bit, next-walk, may-look}
+use Rattle.walk.proofs.Walked.{ones_are, next_bit, next_walk, may_look}
 use Rattle.placing.specs.Place.{placed}
-use Rattle.placing.proofs.Placing.{getD-placed, bits-placed}
+use Rattle.placing.proofs.Placing.{get_or-placed, bits-placed}
 use Rattle.placing.proofs.placed_byte.Statement.{statement}
 use Rattle.placing.proofs.placed_byte.Tie as tie
 
@@ -63,7 +63,7 @@ module _ (k : tie.In-loop invariant-loop decreases-loop) where
 
   -- the message bit lies in the message
   in-message : l.loop.walk.ones < length message
-  in-message = omega (arith, ones-are mask i l.loop.inv.0, ones-le mask i, inside, s.pre.0.room)
+  in-message = omega (arith, ones_are mask i l.loop.inv.0, ones_le mask i, inside, s.pre.0.room)
 
   -- fewer than eight bits leave room for one more
   room : l.loop.byte < 128
@@ -71,9 +71,9 @@ module _ (k : tie.In-loop invariant-loop decreases-loop) where
       omega (arith, l.loop.inv.2, number_lt (bit_at mask message s.args.m) l.loop.b (λ b. (bits-placed mask message _ s.pre.0.bits).at (8 * s.args.m + b)), pow_mono {i = l.loop.b} {j = 7} (omega arith))
 
   -- the bit of the turn, by what its look sees
-  placed-is : {information c bit : ℕ} → information ≡ maskBit mask i → c ≡ onesBelow mask i → bit ≡ cond (eqb information 1) (get_or message c 0) 0 → bit ≡ bit_at mask message s.args.m l.loop.b
+  placed-is : {information c bit : ℕ} → information ≡ mask_bit mask i → c ≡ ones_below mask i → bit ≡ cond (eqb information 1) (get_or message c 0) 0 → bit ≡ bit_at mask message s.args.m l.loop.b
   placed-is e o p =
-      p ∙ ap₂ (λ (x k : ℕ). cond (eqb x 1) (get_or message k 0) 0) e o ∙ sym (getD-placed mask message _ i inside)
+      p ∙ ap₂ (λ (x k : ℕ). cond (eqb x 1) (get_or message k 0) 0) e o ∙ sym (get_or-placed mask message _ i inside)
 
 -- after the bit
 module _ (c : tie.After-placed-bit invariant-loop decreases-loop) where
@@ -83,17 +83,17 @@ module _ (c : tie.After-placed-bit invariant-loop decreases-loop) where
   bit_is : c.placed-bit.result ≡ bit_at (mask k) (message k) (s k).args.m (l k).loop.b
   bit_is =
       let e = (l k).loop.inv.0 in
-      placed-is k (c.before.look.ensures.0 ∙ next_bit (mask k) (i k) e) (c.before.before.ones.ensures ∙ ones-are (mask k) (i k) e) c.placed-bit.ensures
+      placed-is k (c.before.look.ensures.0 ∙ next_bit (mask k) (i k) e) (c.before.before.ones.ensures ∙ ones_are (mask k) (i k) e) c.placed-bit.ensures
 
-  bit-lt : c.placed-bit.result < 2
-  bit-lt = omega (arith, bit_is, (bits-placed (mask k) (message k) (8 * length (mask k)) (s k).pre.0.bits).at (i k))
+  bit_lt : c.placed-bit.result < 2
+  bit_lt = omega (arith, bit_is, (bits-placed (mask k) (message k) (8 * length (mask k)) (s k).pre.0.bits).at (i k))
 
 loop-again : tie.Need-loop-preserved invariant-loop decreases-loop
 unfolding number
 loop-again c =
     let p = c.before in
     let a = (l (k p)).loop in (
-      next-walk (mask (k p)) (i (k p)) a.inv.0 p.before.look.ensures.1
+      next_walk (mask (k p)) (i (k p)) a.inv.0 p.before.look.ensures.1
           ∙ ap (walked (mask (k p))) (add_assoc (8 * (s (k p)).args.m) a.b 1),
       omega arith,
       rw add-one (ap₂ (λ (x y : ℕ). x * 2 + y) a.inv.2 (bit_is p)),
@@ -115,10 +115,10 @@ placed-byte-spec =
     decreases-loop
     loop-holds
     (λ c κs. search rules)
-    (λ c κs. let k = c.before in may-look (mask k) (i k) (l k).loop.invariant.0 (few k) (inside k))
+    (λ c κs. let k = c.before in may_look (mask k) (i k) (l k).loop.invariant.0 (few k) (inside k))
     (λ c. omega (arith, room c.before.before))
-    (λ c κs. let k = c.before.before in (omega (arith, c.look.ensures.0, mask-bit-lt (mask k) (l k).loop.walk.looks), omega (arith, c.before.ones.ensures, in-message k), (s k).requires.0.bits))
-    (λ c. omega (arith, room (k c), bit-lt c))
+    (λ c κs. let k = c.before.before in (omega (arith, c.look.ensures.0, mask_bit_lt (mask k) (l k).loop.walk.looks), omega (arith, c.before.ones.ensures, in-message k), (s k).requires.0.bits))
+    (λ c. omega (arith, room (k c), bit_lt c))
     (λ c. search rules)
     (λ c. search rules)
     loop-again

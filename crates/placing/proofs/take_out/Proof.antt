@@ -8,13 +8,13 @@ use native.Mathlib.Omega.{arith}
 use borrow.Author.Rules.{rules}
 use lib.Dec.{eqb}
 use lib.ListN.{length, get_or, set}
-use Rattle.laws.specs.Contracts.{splice}
-use Rattle.bits.proofs.Mask.{ones-le}
+use Rattle.laws.specs.Clauses.{splice}
+use Rattle.bits.proofs.Mask.{ones_le}
 use Rattle.walk.specs.declared.Walk.{Walk}
 use Rattle.walk.specs.Walked.{walked}
-use Rattle.walk.proofs.Walked.{ones-are, next_bit, next-walk, may-look}
+use Rattle.walk.proofs.Walked.{ones_are, next_bit, next_walk, may_look}
 use Rattle.placing.specs.Place.{taken}
-use Rattle.placing.proofs.Placing.{take-start, take_next}
+use Rattle.placing.proofs.Placing.{take_start, take_next}
 use Rattle.placing.proofs.take_out.Statement.{statement}
 use Rattle.placing.proofs.take_out.Tie as tie
 
@@ -27,7 +27,7 @@ decreases-loop mask u message₀ walk₀ i₀ message walk i = 8 * length mask -
 
 loop-holds : tie.Need-loop-init invariant-loop decreases-loop
 unfolding walked
-loop-holds c = (omega arith, c.start.ensures, refl, take-start _ _ _)
+loop-holds c = (omega arith, c.start.ensures, refl, take_start _ _ _)
 
 module _ (k : tie.In-loop invariant-loop decreases-loop) where
   abbrev l : tie.At-loop invariant-loop decreases-loop
@@ -41,7 +41,7 @@ module _ (k : tie.In-loop invariant-loop decreases-loop) where
 
   -- fewer bits are taken than there is room for
   room : l.loop.walk.ones < length l.loop.message
-  room = omega (arith, l.loop.inv.2, ones-are mask l.loop.i l.loop.inv.1, ones-le mask l.loop.i, s.pre.1)
+  room = omega (arith, l.loop.inv.2, ones_are mask l.loop.i l.loop.inv.1, ones_le mask l.loop.i, s.pre.1)
 
 loop-again : tie.Need-loop-preserved invariant-loop decreases-loop
 loop-again c =
@@ -53,11 +53,11 @@ loop-again c =
     let ones = after_look.before.ones in
     let after = c.before.before.before.take-bit in (
       omega arith,
-      next-walk (mask k) a.i a.inv.1 after_look.look.ensures.1,
+      next_walk (mask k) a.i a.inv.1 after_look.look.ensures.1,
       after.auto.0 ∙ a.inv.2,
       after.ensures
           ∙ ap (λ (t : ℕ). cond (eqb t 1) (set a.message ones.result (get_or u a.i 0)) a.message) (after_look.look.ensures.0 ∙ next_bit (mask k) a.i a.inv.1)
-          ∙ take_next (mask k) u w a.message a.i ones.result _ a.inv.3 (ones.ensures ∙ ones-are (mask k) a.i a.inv.1) (omega (arith, ones.ensures, room k, a.inv.2)) refl
+          ∙ take_next (mask k) u w a.message a.i ones.result _ a.inv.3 (ones.ensures ∙ ones_are (mask k) a.i a.inv.1) (omega (arith, ones.ensures, room k, a.inv.2)) refl
           ∙ ap (λ (n : ℕ). splice w 0 (taken (mask k) u n)) (sym (add-one a.i)),
     )
 
@@ -81,7 +81,7 @@ take-out-spec =
     loop-holds
     (λ c. search rules)
     (λ c κs. search rules)
-    (λ c κs. let k = c.before in may-look (mask k) (l k).loop.i (l k).loop.invariant.1 (search rules) (search rules))
+    (λ c κs. let k = c.before in may_look (mask k) (l k).loop.i (l k).loop.invariant.1 (search rules) (search rules))
     (λ c. search rules)
     (λ c κs. let k = c.before.before.before.before in omega (arith, c.before.before.before.ones.ensures, room k))
     (λ c. search rules)

@@ -2,10 +2,10 @@
 use mathlib.Core.Path.{sym, subst}
 use borrow.Author.Rules.{rules}
 use Rattle.flip_trial.specs.declared.Restart.TheVariants.{Half}
-use Rattle.polar_number.specs.Number.{decodedParts}
+use Rattle.polar_number.specs.Number.{decoded_parts}
 use Rattle.polar.proofs.Answers.{numbered-answer}
 use Rattle.decoder.specs.Decoder.{single}
-use Rattle.polar.proofs.Fitting.{Fits, decoded-fits}
+use Rattle.polar.proofs.Fitting.{Fits, decoded_fits}
 use Rattle.polar.proofs.polar_decode_half.Statement.{statement}
 use Rattle.polar.proofs.polar_decode_half.Tie as tie
 
@@ -14,6 +14,6 @@ polar-decode-half-spec =
     tie.close
     (tie.spec
     (λ c κs. search rules)
-    (λ c κs. subst (Fits decodedParts) (sym c.before.before.decode-half.ensures) (decoded-fits (single _) Half _ _ _))
+    (λ c κs. subst (Fits decoded_parts) (sym c.before.before.decode-half.ensures) (decoded_fits (single _) Half _ _ _))
     (λ c. search rules)
-    (λ c. numbered-answer decodedParts c.decoded-answer.ensures c.before.before.before.decode-half.ensures))
+    (λ c. numbered-answer decoded_parts c.decoded-answer.ensures c.before.before.before.decode-half.ensures))

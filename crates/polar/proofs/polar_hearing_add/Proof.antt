@@ -1,7 +1,7 @@
 -- `polar::polar_hearing_add` meets its contract.
 use mathlib.Core.Path.{sym, subst}
 use borrow.Author.Rules.{rules}
-use Rattle.polar_number.specs.Number.{keptParts}
+use Rattle.polar_number.specs.Number.{kept_parts}
 use Rattle.polar.proofs.Answers.{numbered-answer}
 use Rattle.polar.proofs.Fitting.{Fits, added-fits}
 use Rattle.polar.proofs.polar_hearing_add.Statement.{statement}
@@ -12,6 +12,6 @@ polar-hearing-add-spec =
     tie.close
     (tie.spec
     (λ c κs. search rules)
-    (λ c κs. let x = c.before.before.before.before.before.before.args in subst (Fits keptParts) (sym c.before.before.add.ensures) (added-fits x.state.now x.channel.now))
+    (λ c κs. let x = c.before.before.before.before.before.before.args in subst (Fits kept_parts) (sym c.before.before.add.ensures) (added-fits x.state.now x.channel.now))
     (λ c. search rules)
-    (λ c. numbered-answer keptParts c.kept-answer.ensures c.before.before.before.add.ensures))
+    (λ c. numbered-answer kept_parts c.kept-answer.ensures c.before.before.before.add.ensures))

@@ -1,7 +1,7 @@
 -- `polar_number::encoded_answer` meets its contract.
 use borrow.Author.Rules.{rules}
-use Rattle.polar_number.specs.Number.{encodedParts}
-use Rattle.polar_number.proofs.Told.{told-fits, told-number}
+use Rattle.polar_number.specs.Number.{encoded_parts}
+use Rattle.polar_number.proofs.Told.{told_fits, told_number}
 use Rattle.polar_number.proofs.encoded_answer.Statement.{statement}
 use Rattle.polar_number.proofs.encoded_answer.Tie as tie
 
@@ -12,6 +12,6 @@ encoded-answer-spec =
     (λ c. search rules)
     (λ c κs. search rules)
     (λ c. search rules)
-    (λ c κs. told-fits encodedParts c.before.before.before.requires c.before.encoded.given.1)
-    (λ c. told-number encodedParts c.answer.ensures c.before.enum_told.given.1)
-    (λ c. told-number encodedParts c.refusal-answer.ensures c.before.before.encoded.given.1))
+    (λ c κs. told_fits encoded_parts c.before.before.before.requires c.before.encoded.given.1)
+    (λ c. told_number encoded_parts c.answer.ensures c.before.enum_told.given.1)
+    (λ c. told_number encoded_parts c.refusal-answer.ensures c.before.before.encoded.given.1))

@@ -1,14 +1,14 @@
 -- `polar_number::kept_answer` meets its contract.
 use native.Mathlib.Omega.{arith}
 use borrow.Author.Rules.{rules}
-use Rattle.polar_number.specs.Number.{keptParts}
-use Rattle.polar_number.proofs.Told.{told-fits, told-number}
+use Rattle.polar_number.specs.Number.{kept_parts}
+use Rattle.polar_number.proofs.Told.{told_fits, told_number}
 use Rattle.polar_number.proofs.kept_answer.Statement.{statement}
 use Rattle.polar_number.proofs.kept_answer.Tie as tie
 
 answer-requires : tie.Need-answer-requires
 answer-requires c κs =
-    let f = told-fits keptParts c.before.before.before.requires c.before.kept.given.1 in omega (arith, f.value-fits)
+    let f = told_fits kept_parts c.before.before.before.requires c.before.kept.given.1 in omega (arith, f.value_fits)
 
 pub kept-answer-spec : {M : Type 1} → statement M
 kept-answer-spec =
@@ -18,6 +18,6 @@ kept-answer-spec =
     (λ c. search rules)
     answer-requires
     (λ c. search rules)
-    (λ c κs. told-fits keptParts c.before.before.before.requires c.before.kept2.given.1)
-    (λ c. told-number keptParts c.answer.ensures c.before.before.kept.given.1)
-    (λ c. told-number keptParts c.refusal-answer.ensures c.before.before.kept2.given.1))
+    (λ c κs. told_fits kept_parts c.before.before.before.requires c.before.kept2.given.1)
+    (λ c. told_number kept_parts c.answer.ensures c.before.before.kept.given.1)
+    (λ c. told_number kept_parts c.refusal-answer.ensures c.before.before.kept2.given.1))

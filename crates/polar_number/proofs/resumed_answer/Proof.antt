@@ -1,7 +1,7 @@
 -- `polar_number::resumed_answer` meets its contract.
 use borrow.Author.Rules.{rules}
-use Rattle.polar_number.specs.Number.{resumedParts}
-use Rattle.polar_number.proofs.Told.{told-fits, told-number}
+use Rattle.polar_number.specs.Number.{resumed_parts}
+use Rattle.polar_number.proofs.Told.{told_fits, told_number}
 use Rattle.polar_number.proofs.resumed_answer.Statement.{statement}
 use Rattle.polar_number.proofs.resumed_answer.Tie as tie
 
@@ -13,6 +13,6 @@ resumed-answer-spec =
     (λ c. search rules)
     (λ c κs. search rules)
     (λ c. search rules)
-    (λ c κs. told-fits resumedParts c.before.before.before.requires c.before.resumed2.given.1)
-    (λ c. told-number resumedParts c.answer.ensures c.before.before.resumed.given.1)
-    (λ c. told-number resumedParts c.refusal-answer.ensures c.before.before.resumed2.given.1))
+    (λ c κs. told_fits resumed_parts c.before.before.before.requires c.before.resumed2.given.1)
+    (λ c. told_number resumed_parts c.answer.ensures c.before.before.resumed.given.1)
+    (λ c. told_number resumed_parts c.refusal-answer.ensures c.before.before.resumed2.given.1))

@@ -4,13 +4,13 @@ use Prim.Native.Nat.{◌-◌, ◌≤◌}
 use native.Mathlib.Omega.{arith}
 use borrow.Author.Rules.{rules}
 use lib.ListN.{length, drop, drop_of_length-le}
-use Rattle.probe.specs.Contracts.{allBits}
-use Rattle.probe.proofs.AllBits.{all-next, all-stop}
+use Rattle.probe.specs.Clauses.{all_bits}
+use Rattle.probe.proofs.AllBits.{all-next, all_stop}
 use Rattle.probe.proofs.are_bits.Statement.{statement}
 use Rattle.probe.proofs.are_bits.Tie as tie
 
 abbrev invariant-loop : tie.invariant-loop
-invariant-loop bits i₀ i = (i ≤ length bits) × (allBits (drop i bits) ≡ allBits bits)
+invariant-loop bits i₀ i = (i ≤ length bits) × (all_bits (drop i bits) ≡ all_bits bits)
 
 abbrev decreases-loop : tie.decreases-loop
 decreases-loop bits i₀ i = length bits - i
@@ -18,7 +18,7 @@ decreases-loop bits i₀ i = length bits - i
 returns : tie.Need-returns invariant-loop decreases-loop
 returns c =
     let l = c.before.before.before.loop in
-    all-stop c.before.before.before.before.args.bits.now l.i (omega arith) (omega arith) ∙ l.invariant.1
+    all_stop c.before.before.before.before.args.bits.now l.i (omega arith) (omega arith) ∙ l.invariant.1
 
 loop-again : tie.Need-loop-preserved invariant-loop decreases-loop
 loop-again c =
@@ -28,7 +28,7 @@ loop-again c =
 returns-2 : tie.Need-returns-2 invariant-loop decreases-loop
 returns-2 c =
     let l = c.before.loop in
-    sym (ap allBits (drop_of_length-le c.before.before.args.bits.now {i = l.i} (omega arith))) ∙ l.invariant.1
+    sym (ap all_bits (drop_of_length-le c.before.before.args.bits.now {i = l.i} (omega arith))) ∙ l.invariant.1
 
 pub are-bits-spec : {M : Type 1} → statement M
 are-bits-spec =

@@ -4,13 +4,13 @@ use mathlib.Core.List.{List}
 use Prim.Native.Nat.{ℕ}
 use borrow.Author.Rules.{rules}
 use Rattle.code.specs.declared.Description.{Description}
-use Rattle.probe.specs.Numbers.{descriptionNumbers}
+use Rattle.probe.specs.Numbers.{description_numbers}
 use Rattle.probe.proofs.probe_description.Statement.{statement}
 use Rattle.probe.proofs.probe_description.Tie as tie
 
 -- by an answer of `describe`
 abbrev by : List ℕ → Description → ℕ × List ℕ
-by numbers x = descriptionNumbers x numbers
+by numbers x = description_numbers x numbers
 
 returns : tie.Need-returns
 returns c =

@@ -6,16 +6,16 @@ use Prim.Native.Nat.{ℕ}
 use borrow.Author.Rules.{rules}
 use borrow.Author.Tests.{eq-eqb, ne_eqb, not-true, not-false}
 use lib.ListN.{length}
-use Rattle.bits.specs.Packing.{bytesFor}
-use Rattle.probe.specs.Contracts.{allBits}
+use Rattle.bits.specs.Packing.{bytes_for}
+use Rattle.probe.specs.Clauses.{all_bits}
 use Rattle.probe.proofs.AllBits.{all-bits}
 use Rattle.probe.proofs.probe_pack.Statement.{statement}
 use Rattle.probe.proofs.probe_pack.Tie as tie
 
-are-bits : (c : tie.Else1) → allBits c.before.before.before.before.args.bits.now ≡ true
+are-bits : (c : tie.Else1) → all_bits c.before.before.before.before.args.bits.now ≡ true
 are-bits c = sym c.before.are-bits.ensures ∙ not-false _ c.if1.false
 
-full : (c : tie.Else2) → length c.before.before.before.before.before.before.args.bytes.now ≡ bytesFor (length c.before.before.before.before.before.before.args.bits.now)
+full : (c : tie.Else2) → length c.before.before.before.before.before.before.args.bytes.now ≡ bytes_for (length c.before.before.before.before.before.before.args.bits.now)
 full c = c.if2.false ∙ c.before.bytes-for.ensures
 
 returns : tie.Need-returns

@@ -7,21 +7,21 @@ use native.Mathlib.Omega.{arith}
 use borrow.Author.Rules.{rules}
 use borrow.Author.Tests.{lt-ltb, le-ltb, not-true, not-false}
 use lib.ListN.{length}
-use Rattle.arrays.specs.Claims.{longestBytes}
-use Rattle.probe.specs.Contracts.{allBits}
+use Rattle.arrays.specs.Claims.{longest_bytes}
+use Rattle.probe.specs.Clauses.{all_bits}
 use Rattle.probe.proofs.AllBits.{all-bits}
 use Rattle.probe.proofs.probe_place.Statement.{statement}
 use Rattle.probe.proofs.probe_place.Tie as tie
 
 -- the mask is no longer than that of the longest code
-short : (c : tie.Else1) → length c.before.before.before.before.args.mask.now ≤ longestBytes
+short : (c : tie.Else1) → length c.before.before.before.before.args.mask.now ≤ longest_bytes
 short c = omega (arith, c.if1.false)
 
 -- there is a bit for each index
 room : (c : tie.Else3) → 8 * length c.before.before.before.before.before.before.args.mask.now ≤ length c.before.before.before.before.before.before.args.message.now
 room c = omega arith
 
-are-bits : (c : tie.Else4) → allBits c.before.before.before.before.before.before.before.before.args.message.now ≡ true
+are-bits : (c : tie.Else4) → all_bits c.before.before.before.before.before.before.before.before.args.message.now ≡ true
 are-bits c = sym c.before.are-bits.ensures ∙ not-false _ c.if4.false
 
 returns-3 : tie.Need-returns-3
@@ -52,7 +52,7 @@ pub probe-place-spec : {M : Type 1} → statement M
 probe-place-spec =
     tie.close
     (tie.spec
-    (λ c. rw (lt-ltb longestBytes _ c.if1.true))
+    (λ c. rw (lt-ltb longest_bytes _ c.if1.true))
     (λ c. rw (le-ltb _ _ (short c.before), lt-ltb _ _ c.if2.true))
     returns-3
     (λ c κs. search rules)

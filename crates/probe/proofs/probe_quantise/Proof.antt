@@ -5,15 +5,15 @@ use Prim.Native.Nat.{ℕ}
 use borrow.Author.Rules.{rules}
 use lib.Ieee.{of_bits}
 use Rattle.quantiser.specs.declared.Quantised.{Quantised}
-use Rattle.probe.specs.Numbers.{quantisedNumbers}
+use Rattle.probe.specs.Numbers.{quantised_numbers}
 use Rattle.probe.proofs.probe_quantise.Statement.{statement}
 use Rattle.probe.proofs.probe_quantise.Tie as tie
 
 -- an answer a that was found, with the output that it left
 by : {a b : Quantised} {left : List ℕ} {x : Quantised × List ℕ} (numbers : List ℕ) → b ≡ a → (b, left) ≡ x
-    → (quantisedNumbers a numbers ≡ quantisedNumbers x.0 numbers) × (left ≡ x.1)
+    → (quantised_numbers a numbers ≡ quantised_numbers x.0 numbers) × (left ≡ x.1)
 by numbers e f =
-    (ap (λ (a : Quantised). quantisedNumbers a numbers) (sym e ∙ ap (λ (y : Quantised × List ℕ). y.0) f), ap (λ (y : Quantised × List ℕ). y.1) f)
+    (ap (λ (a : Quantised). quantised_numbers a numbers) (sym e ∙ ap (λ (y : Quantised × List ℕ). y.0) f), ap (λ (y : Quantised × List ℕ). y.1) f)
 
 returns : tie.Need-returns
 returns c =

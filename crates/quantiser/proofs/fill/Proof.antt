@@ -8,27 +8,27 @@ use borrow.Author.Rules.{rules}
 use lib.Dec.{T}
 use lib.Ieee.{Float, is_nan, of_bits}
 use lib.ListN.{length}
-use Rattle.laws.proofs.Filling.{Filling, filling-none, filling-more, filling-whole}
+use Rattle.laws.proofs.Filling.{Filling, filling_none, filling_more, filling_whole}
 use Rattle.quantiser_level.specs.declared.Level.{Level}
-use Rattle.quantiser_level.specs.Level.{levelOf}
-use Rattle.quantiser.specs.Quantise.{product, bytes, larger, peakOf, clippedOf}
+use Rattle.quantiser_level.specs.Level.{level_of}
+use Rattle.quantiser.specs.Quantise.{product, bytes, larger, peak_of, clipped_of}
 use Rattle.quantiser.proofs.Numbers.{admitted-number}
-use Rattle.quantiser.proofs.Totals.{clipped-le}
+use Rattle.quantiser.proofs.Totals.{clipped_le}
 use Rattle.quantiser.proofs.fill.Statement.{statement}
 use Rattle.quantiser.proofs.fill.Tie as tie
 
 abbrev invariant-loop : tie.invariant-loop
 invariant-loop scale samples output₀ peak₀ clipped₀ i₀ output peak clipped i =
-    Filling (λ k. (levelOf (product scale samples k)).byte) 0 (length output₀) output₀ output i
-    × (peak ≡ peakOf (product scale samples) i)
-    × (clipped ≡ clippedOf (product scale samples) i)
+    Filling (λ k. (level_of (product scale samples k)).byte) 0 (length output₀) output₀ output i
+    × (peak ≡ peak_of (product scale samples) i)
+    × (clipped ≡ clipped_of (product scale samples) i)
 
 abbrev decreases-loop : tie.decreases-loop
 decreases-loop scale samples output₀ peak₀ clipped₀ i₀ output peak clipped i = length samples - i
 
 loop-holds : tie.Need-loop-init invariant-loop decreases-loop
-unfolding peakOf clippedOf of_bits
-loop-holds c = (filling-none, refl, refl)
+unfolding peak_of clipped_of of_bits
+loop-holds c = (filling_none, refl, refl)
 
 -- the products
 abbrev p : tie.In-loop invariant-loop decreases-loop → ℕ → Float
@@ -38,23 +38,23 @@ p c = let s = c.before.before.before.before in product s.args.scale s.args.sampl
 number : (c : tie.In-loop invariant-loop decreases-loop) → T (not (is_nan (p c c.before.loop.i)))
 number c = admitted-number c.before.before.before.before.requires c.before.loop.i (omega arith)
 
-counted : (c : tie.After-quantise-one invariant-loop decreases-loop) → let l = c.before.before in l.before.loop.clipped + c.quantise-one.result.clipped ≡ clippedOf (p l) (suc l.before.loop.i)
-unfolding clippedOf
+counted : (c : tie.After-quantise-one invariant-loop decreases-loop) → let l = c.before.before in l.before.loop.clipped + c.quantise-one.result.clipped ≡ clipped_of (p l) (suc l.before.loop.i)
+unfolding clipped_of
 counted c = ap₂ (λ (x y : ℕ). x + y) c.before.before.before.loop.invariant.2 (ap (λ (x : Level). x.clipped) c.quantise-one.ensures)
 
 add-clipped : tie.Need-overflow-add-clipped invariant-loop decreases-loop
 add-clipped c =
     let l = c.before.before.before in
-    omega (arith, counted c.before, clipped-le (p l) (suc l.before.loop.i))
+    omega (arith, counted c.before, clipped_le (p l) (suc l.before.loop.i))
 
 loop-again : tie.Need-loop-preserved invariant-loop decreases-loop
-unfolding peakOf
+unfolding peak_of
 loop-again c =
     let q = c.before.before in
     let l = q.before.before in
     let k = l.before.loop in
     let e = q.quantise-one.ensures in (
-      filling-more k.invariant.0 k.i q.quantise-one.result.byte (omega (arith, l)) (omega arith) (ap (λ (x : Level). x.byte) e),
+      filling_more k.invariant.0 k.i q.quantise-one.result.byte (omega (arith, l)) (omega arith) (ap (λ (x : Level). x.byte) e),
       rw add-one (c.larger-of.ensures ∙ ap₂ larger k.invariant.1 (ap (λ (x : Level). x.magnitude) e)),
       rw add-one (counted q),
     )
@@ -65,7 +65,7 @@ returns c =
     let s = c.before.before.before.before in
     let p : ℕ → Float = product s.args.scale s.args.samples.now in
     let e : k.i ≡ length s.args.samples.now = omega arith in
-    let written = filling-whole k.invariant.0 (omega arith) ∙ ap (bytes p) (sym s.requires.same_length) in
+    let written = filling_whole k.invariant.0 (omega arith) ∙ ap (bytes p) (sym s.requires.same_length) in
     rw (k.invariant.1, k.invariant.2, e, written)
 
 pub fill_spec : {M : Type 1} → statement M

@@ -8,7 +8,7 @@ use borrow.Author.Rules.{rules}
 use lib.Ieee.{nan, is_nan}
 use lib.ListN.{length, get_or}
 use Rattle.laws.proofs.First.{first-is}
-use Rattle.quantiser.proofs.Numbers.{differs-nan, same_number}
+use Rattle.quantiser.proofs.Numbers.{differs_nan, same_number}
 use Rattle.quantiser.proofs.first_nan.Statement.{statement}
 use Rattle.quantiser.proofs.first_nan.Tie as tie
 
@@ -21,7 +21,7 @@ decreases-loop samples i₀ i = length samples - i
 returns : tie.Need-returns invariant-loop decreases-loop
 returns c =
     let l = c.before.before.before in
-    sym (first-is _ (length l.before.args.samples.now) l.loop.i l.loop.invariant.0 l.loop.invariant.1 (λ h. differs-nan _ c.if1.true))
+    sym (first-is _ (length l.before.args.samples.now) l.loop.i l.loop.invariant.0 l.loop.invariant.1 (λ h. differs_nan _ c.if1.true))
 
 loop-again : tie.Need-loop-preserved invariant-loop decreases-loop
 loop-again c = (search rules, below_more _ _ c.before.before.before.loop.invariant.1 (same_number _ c.if1.false))

@@ -1,6 +1,6 @@
 -- `quantiser::is_valid` meets its contract.
 use lib.Ieee.{of_bits, nan_bits}
-use Rattle.quantiser.specs.Quantise.{validScale}
+use Rattle.quantiser.specs.Quantise.{valid_scale}
 use Rattle.quantiser.proofs.is_valid.Statement.{statement}
 use Rattle.quantiser.proofs.is_valid.Tie as tie
 
@@ -10,11 +10,11 @@ unfolding nan_bits
 infinity c = tt
 
 returns : tie.Need-returns
-unfolding of_bits validScale
+unfolding of_bits valid_scale
 returns c = simp c.if1.true
 
 returns-2 : tie.Need-returns-2
-unfolding of_bits validScale
+unfolding of_bits valid_scale
 returns-2 c = simp c.if1.false
 
 pub is-valid-spec : {M : Type 1} → statement M

@@ -11,15 +11,15 @@ use Rattle.refusal.specs.declared.Refusal.{Refusal}
 use Rattle.refusal.specs.declared.Refusal.TheVariants.{At}
 use Rattle.refusal.specs.declared.Judgement.TheVariants.{Refused}
 use Rattle.refusal.specs.Judge.{judge}
-use Rattle.refusal.proofs.Judge.{judge-none, judge-yes, judge-no}
-use Rattle.refusal.proofs.Tests.{differs-no}
-use Rattle.quantiser.specs.Quantise.{firstNan, quantisingRefusals}
+use Rattle.refusal.proofs.Judge.{judge-none, judge_yes, judge_no}
+use Rattle.refusal.proofs.Tests.{differs_no}
+use Rattle.quantiser.specs.Quantise.{first_nan, quantising_refusals}
 use Rattle.quantiser.proofs.judge_quantising.Statement.{statement}
 use Rattle.quantiser.proofs.judge_quantising.Tie as tie
 
 -- the tests from i on
 abbrev from : ℕ → tie.Start → List (Bool × Refusal)
-from i s = drop i (quantisingRefusals s.args.scale s.args.samples.now s.args.output.now)
+from i s = drop i (quantising_refusals s.args.scale s.args.samples.now s.args.output.now)
 
 -- the call's start, after each test
 abbrev s1 : tie.Else1 → tie.Start
@@ -32,28 +32,28 @@ abbrev s3 : tie.Else3 → tie.Start
 s3 c = s2 c.before.before
 
 past-1 : (c : tie.Else1) → judge (from 0 (s1 c)) ≡ judge (from 1 (s1 c))
-past-1 c = judge-no _ _ _ (differs-no _ _ c.if1.false)
+past-1 c = judge_no _ _ _ (differs_no _ _ c.if1.false)
 
 past-2 : (c : tie.Else2) → judge (from 0 (s2 c)) ≡ judge (from 2 (s2 c))
-past-2 c = past-1 c.before.before ∙ judge-no _ _ _ (ap not (sym c.before.is-valid.ensures) ∙ c.if2.false)
+past-2 c = past-1 c.before.before ∙ judge_no _ _ _ (ap not (sym c.before.is-valid.ensures) ∙ c.if2.false)
 
 past-3 : (c : tie.Else3) → judge (from 0 (s3 c)) ≡ judge (from 3 (s3 c))
 past-3 c =
     let samples = (s3 c).args.samples.now in
-    past-2 c.before.before ∙ judge-no _ _ _ (le-ltb (firstNan samples) (length samples) (omega arith))
+    past-2 c.before.before ∙ judge_no _ _ _ (le-ltb (first_nan samples) (length samples) (omega arith))
 
 returns : tie.Need-returns
-returns c = sym (judge-yes _ _ _ (ap not (ne_eqb _ _ c.if1.true)))
+returns c = sym (judge_yes _ _ _ (ap not (ne_eqb _ _ c.if1.true)))
 
 returns-2 : tie.Need-returns-2
-returns-2 c = sym (past-1 c.before.before ∙ judge-yes _ _ _ (ap not (sym c.before.is-valid.ensures) ∙ c.if2.true))
+returns-2 c = sym (past-1 c.before.before ∙ judge_yes _ _ _ (ap not (sym c.before.is-valid.ensures) ∙ c.if2.true))
 
 returns-3 : tie.Need-returns-3
 returns-3 c =
     let e = c.before.before in
     let samples = (s2 e).args.samples.now in
     ap (λ (k : ℕ). Refused (At 22 k)) c.before.first-nan.ensures
-    ∙ sym (past-2 e ∙ judge-yes _ _ _ (lt-ltb (firstNan samples) (length samples) (omega arith)))
+    ∙ sym (past-2 e ∙ judge_yes _ _ _ (lt-ltb (first_nan samples) (length samples) (omega arith)))
 
 pub judge-quantising-spec : {M : Type 1} → statement M
 judge-quantising-spec =

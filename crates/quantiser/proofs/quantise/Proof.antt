@@ -3,9 +3,9 @@ use mathlib.Core.Path.{◌≡◌, sym, ◌∙◌}
 use borrow.Author.Rules.{rules}
 use Rattle.refusal.specs.declared.Judgement.TheVariants.{Fine}
 use Rattle.refusal.specs.Judge.{judge}
-use Rattle.refusal.proofs.Judge.{refused-fine, refused-by}
-use Rattle.quantiser.specs.Quantise.{quantisingRefusals, quantised}
-use Rattle.quantiser.proofs.WellFormed.{fine-well-formed}
+use Rattle.refusal.proofs.Judge.{refused_fine, refused_by}
+use Rattle.quantiser.specs.Quantise.{quantising_refusals, quantised}
+use Rattle.quantiser.proofs.WellFormed.{fine_well_formed}
 use Rattle.quantiser.proofs.quantise.Statement.{statement}
 use Rattle.quantiser.proofs.quantise.Tie as tie
 
@@ -14,20 +14,20 @@ abbrev start : tie.After-judge-quantising → tie.Start
 start j = j.before.before.before.before
 
 -- no refusal applies
-fine : (t : tie.After-enum-told) → let s = (start t.before.before).args in judge (quantisingRefusals s.scale s.samples.now s.output.now) ≡ Fine
+fine : (t : tie.After-enum-told) → let s = (start t.before.before).args in judge (quantising_refusals s.scale s.samples.now s.output.now) ≡ Fine
 fine t = sym t.before.before.judge-quantising.ensures ∙ t.enum_told.given.1
 
 returns : tie.Need-returns
 unfolding quantised
 returns c =
     let f = c.before.before in
-    f.fill.ensures ∙ sym (refused-fine _ _ _ (fine f.before.before))
+    f.fill.ensures ∙ sym (refused_fine _ _ _ (fine f.before.before))
 
 returns-2 : tie.Need-returns-2
 unfolding quantised
 returns-2 c =
     let x = c.before in
-    sym (refused-by _ _ _ _ (sym x.before.before.judge-quantising.ensures ∙ x.x.given.1))
+    sym (refused_by _ _ _ _ (sym x.before.before.judge-quantising.ensures ∙ x.x.given.1))
 
 pub quantise-spec : {M : Type 1} → statement M
 quantise-spec =
@@ -35,7 +35,7 @@ quantise-spec =
     (tie.spec
     (λ c κs. search rules)
     (λ c. search rules)
-    (λ c κs. fine-well-formed _ _ _ (fine c.before))
+    (λ c κs. fine_well_formed _ _ _ (fine c.before))
     (λ c. search rules)
     (λ c. search rules)
     returns

@@ -9,7 +9,7 @@ use Rattle.quantiser_level.proofs.absolute.Tie as tie
 
 -- an f32 holds what fits the format
 held : (c : tie.Start) → T (fits binary32 c.args.p)
-held c = subst T (sym c.well-formed.0.1) tt
+held c = subst T (sym c.well_formed.0.1) tt
 
 pub absolute-spec : {M : Type 1} → statement M
 absolute-spec =

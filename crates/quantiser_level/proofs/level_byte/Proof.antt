@@ -4,14 +4,14 @@ use native.Mathlib.Omega.{arith}
 use borrow.Author.Rules.{rules}
 use lib.Ieee.{of_bits}
 use Rattle.quantiser_level.specs.Level.{quarters}
-use Rattle.channel.proofs.Bytes.{minus-byte}
+use Rattle.channel.proofs.Bytes.{minus_byte}
 use Rattle.quantiser_level.proofs.Levels.{level-signed}
 use Rattle.quantiser_level.proofs.level_byte.Statement.{statement}
 use Rattle.quantiser_level.proofs.level_byte.Tie as tie
 
 returns : tie.Need-returns
 unfolding of_bits
-returns c = rw (level-signed, c.if1.true) (minus-byte _ (min 31 (quarters c.before.args.p)) (omega arith) (omega arith))
+returns c = rw (level-signed, c.if1.true) (minus_byte _ (min 31 (quarters c.before.args.p)) (omega arith) (omega arith))
 
 returns-2 : tie.Need-returns-2
 unfolding of_bits

@@ -5,12 +5,12 @@ use native.Mathlib.Omega.{arith}
 use borrow.Author.Rules.{rules}
 use lib.Dec.{T}
 use Rattle.quantiser_level.specs.Level.{nearest}
-use Rattle.quantiser_level.proofs.Pattern.{shifted, shifted-lt, quarters-bits}
+use Rattle.quantiser_level.proofs.Pattern.{shifted, shifted_lt, quarters-bits}
 use Rattle.quantiser_level.proofs.nearest_quarters.Statement.{statement}
 use Rattle.quantiser_level.proofs.nearest_quarters.Tie as tie
 
 small : (c : tie.After-clamped) → shifted c.clamped.result < 0x4000_0000
-small c = shifted-lt c.clamped.result (omega arith)
+small c = shifted_lt c.clamped.result (omega arith)
 
 returns : tie.Need-returns
 returns c =
@@ -18,7 +18,7 @@ returns c =
     let v = shifted c.before.clamped.result in
     let whole : v % 0x1_0000_0000 ≡ v = omega (arith, small c.before) in
     c.rounded.ensures ∙ ap (λ (x : ℕ). nearest x 0x200_0000) (whole ∙ ap shifted c.before.clamped.ensures)
-    ∙ quarters-bits s.args.p (subst T (sym s.well-formed.0.1) tt) s.requires
+    ∙ quarters-bits s.args.p (subst T (sym s.well_formed.0.1) tt) s.requires
 
 pub nearest-quarters-spec : {M : Type 1} → statement M
 nearest-quarters-spec =

@@ -5,7 +5,7 @@ use native.Mathlib.Omega.{arith}
 use borrow.Author.Rules.{rules}
 use lib.Ieee.{Float, binary32, mul}
 use Rattle.quantiser_level.specs.declared.Level.{Level}
-use Rattle.quantiser_level.proofs.Levels.{one-if}
+use Rattle.quantiser_level.proofs.Levels.{one_if}
 use Rattle.quantiser_level.proofs.quantise_one.Statement.{statement}
 use Rattle.quantiser_level.proofs.quantise_one.Tie as tie
 
@@ -17,7 +17,7 @@ returns : tie.Need-returns
 returns c =
     let b = c.before in
     let s = b.before.before.args in
-    made b.level-byte.ensures (one-if _ (mul binary32 s.scale s.y) (λ h. omega arith) (λ h. omega arith)) c.absolute.ensures
+    made b.level-byte.ensures (one_if _ (mul binary32 s.scale s.y) (λ h. omega arith) (λ h. omega arith)) c.absolute.ensures
 
 pub quantise-one-spec : {M : Type 1} → statement M
 quantise-one-spec =

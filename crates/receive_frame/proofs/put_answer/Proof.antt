@@ -5,13 +5,13 @@ use Prim.Native.Nat.{ℕ}
 use borrow.Author.Rules.{rules}
 use Rattle.flip_run.specs.declared.Decoded.{Decoded}
 use Rattle.receive_lines.proofs.Putting.{put_as}
-use Rattle.receive_frame.specs.Frame.{answerLine}
+use Rattle.receive_frame.specs.Frame.{answer_line}
 use Rattle.receive_frame.proofs.put_answer.Statement.{statement}
 use Rattle.receive_frame.proofs.put_answer.Tie as tie
 
 -- the line of an answer whose case is known
-case : (payload : List ℕ) {a b : Decoded} → a ≡ b → answerLine b payload ≡ answerLine a payload
-case payload e = ap (λ (x : Decoded). answerLine x payload) (sym e)
+case : (payload : List ℕ) {a b : Decoded} → a ≡ b → answer_line b payload ≡ answer_line a payload
+case payload e = ap (λ (x : Decoded). answer_line x payload) (sym e)
 
 returns : tie.Need-returns
 returns c =

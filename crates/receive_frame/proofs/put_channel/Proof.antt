@@ -10,31 +10,31 @@ use lib.ListN.{length, drop, length-drop}
 use lib.Seq.{take_all}
 use Rattle.refusal.specs.declared.Refusal.{Refusal}
 use Rattle.refusal.specs.declared.Refusal.TheVariants.{Alone}
-use Rattle.refusal.specs.Judge.{judge, refusedOr, number_of}
+use Rattle.refusal.specs.Judge.{judge, refused_or, number_of}
 use Rattle.refusal.proofs.Judge.{at_test, past-test, past_all}
 use Rattle.code.specs.Description.{word}
-use Rattle.receive_lines.specs.Line.{noLine}
+use Rattle.receive_lines.specs.Line.{no_line}
 use Rattle.receive_lines.proofs.Putting.{put_as}
-use Rattle.receive_frame.specs.Frame.{decodingLine, channelLine}
+use Rattle.receive_frame.specs.Frame.{decoding_line, channel_line}
 use Rattle.receive_frame.proofs.put_channel.Statement.{statement}
 use Rattle.receive_frame.proofs.put_channel.Tie as tie
 
 abbrev refuse : Refusal → List ℕ
-refuse x = noLine (number_of x)
+refuse x = no_line (number_of x)
 
 -- the line after both refusals, and after the first
 abbrev decoding : List ℕ → List ℕ → List ℕ
-decoding held bytes = decodingLine held (drop 6 bytes) (word bytes 4)
+decoding held bytes = decoding_line held (drop 6 bytes) (word bytes 4)
 
 abbrev past : List ℕ → List ℕ → List ℕ
-past held bytes = refusedOr (judge ((ltb (length bytes) 6, Alone 24) ∷ [])) refuse (decoding held bytes)
+past held bytes = refused_or (judge ((ltb (length bytes) 6, Alone 24) ∷ [])) refuse (decoding held bytes)
 
-past-1 : (c : tie.Else1) → channelLine c.before.before.before.before.args.held.now c.before.before.before.before.args.bytes.now ≡ past c.before.before.before.before.args.held.now c.before.before.before.before.args.bytes.now
-unfolding channelLine
+past-1 : (c : tie.Else1) → channel_line c.before.before.before.before.args.held.now c.before.before.before.before.args.bytes.now ≡ past c.before.before.before.before.args.held.now c.before.before.before.before.args.bytes.now
+unfolding channel_line
 past-1 c = past-test refuse _ _ (Alone 23) _ (ne_eqb _ _ c.if1.false)
 
 returns : tie.Need-returns
-unfolding channelLine
+unfolding channel_line
 returns c = put_as c.before.before.put-line.ensures _ (at_test refuse _ _ (Alone 23) _ (eq-eqb _ _ c.before.before.before.before.before.if1.true))
 
 returns-2 : tie.Need-returns-2
@@ -48,7 +48,7 @@ returns-3 c =
     let s = e.before.before.before.before.before in
     let bytes = s.args.bytes.now in
     put_as c.before.before.put-decoding.ensures _
-    (ap₂ (decodingLine s.args.held.now) (take_all _ _ (le_of_eq (length-drop 6 bytes))) c.before.before.before.before.before.read_word.ensures
+    (ap₂ (decoding_line s.args.held.now) (take_all _ _ (le_of_eq (length-drop 6 bytes))) c.before.before.before.before.before.read_word.ensures
     ∙ sym (past-1 e.before ∙ past-test refuse _ _ (Alone 24) [] (le-ltb _ _ e.if2.false) ∙ past_all refuse _))
 
 pub put-channel-spec : {M : Type 1} → statement M

@@ -2,12 +2,12 @@
 use mathlib.Core.Path.{ap}
 use borrow.Author.Rules.{rules}
 use Rattle.receive_lines.proofs.Putting.{put_as}
-use Rattle.receive_frame.specs.Contracts.{lineOfAnswer}
+use Rattle.receive_frame.specs.Clauses.{line_of_answer}
 use Rattle.receive_frame.proofs.put_decoded.Statement.{statement}
 use Rattle.receive_frame.proofs.put_decoded.Tie as tie
 
 returns : tie.Need-returns
-returns c = put_as c.before.before.put-answer.ensures _ (ap lineOfAnswer c.before.before.before.before.before.before.before.decode-by.ensures)
+returns c = put_as c.before.before.put-answer.ensures _ (ap line_of_answer c.before.before.before.before.before.before.before.decode-by.ensures)
 
 pub put-decoded-spec : {M : Type 1} → statement M
 put-decoded-spec =

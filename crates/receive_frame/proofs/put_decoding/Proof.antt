@@ -8,32 +8,32 @@ use lib.ListN.{length, take, replicate}
 use lib.Seq.{length-take-le}
 use Rattle.laws.proofs.Segment.{take-replicate}
 use Rattle.refusal.specs.Judge.{number_of}
-use Rattle.arrays.specs.Claims.{longestBytes}
-use Rattle.bits.specs.Packing.{bytesFor}
+use Rattle.arrays.specs.Claims.{longest_bytes}
+use Rattle.bits.specs.Packing.{bytes_for}
 use Rattle.code.specs.declared.Code.{Code}
 use Rattle.code.specs.declared.Description.{Description}
 use Rattle.code.specs.declared.Description.TheVariants.{Accepted}
-use Rattle.code.specs.Description.{describe, onDescription}
+use Rattle.code.specs.Description.{describe, on_description}
 use Rattle.code.specs.Claims.{Coded, Described}
 use Rattle.code.proofs.Facts.{described}
 use Rattle.flip_trial.specs.declared.Restart.TheVariants.{AfterFlip}
-use Rattle.decoder.specs.Decoder.{single, decodedUnder, decodedRestarted}
+use Rattle.decoder.specs.Decoder.{single, decoded_under, decoded_restarted}
 use Rattle.decoder.proofs.Decoder.{under-code}
-use Rattle.receive_lines.specs.Line.{noLine}
+use Rattle.receive_lines.specs.Line.{no_line}
 use Rattle.receive_lines.proofs.Putting.{put_as}
-use Rattle.receive_frame.specs.Frame.{decodingLine}
-use Rattle.receive_frame.specs.Contracts.{lineOfAnswer}
+use Rattle.receive_frame.specs.Frame.{decoding_line}
+use Rattle.receive_frame.specs.Clauses.{line_of_answer}
 use Rattle.receive_frame.proofs.Room.{payload-most}
 use Rattle.receive_frame.proofs.put_decoding.Statement.{statement}
 use Rattle.receive_frame.proofs.put_decoding.Tie as tie
 
 -- the line under a code, and the definition by an answer of `describe`
 abbrev under : List ℕ → Code → List ℕ → ℕ → List ℕ → List ℕ
-under mask c channel limit output = lineOfAnswer (decodedUnder (single limit) AfterFlip mask c channel output)
+under mask c channel limit output = line_of_answer (decoded_under (single limit) AfterFlip mask c channel output)
 
 abbrev by : List ℕ → List ℕ → ℕ → Description → List ℕ
 by held channel limit a =
-    onDescription a (λ x. noLine (number_of x)) (λ c. lineOfAnswer (decodedRestarted held channel limit (replicate (bytesFor c.k) 0)))
+    on_description a (λ x. no_line (number_of x)) (λ c. line_of_answer (decoded_restarted held channel limit (replicate (bytes_for c.k) 0)))
 
 -- the code that was accepted
 module _ (c : tie.After-code) where
@@ -52,16 +52,16 @@ module _ (c : tie.After-code) where
 -- the part of the zeros that is lent for the payload
 module _ (c : tie.After-bytes-for) where
   abbrev zeros : List ℕ
-  zeros = replicate longestBytes 0
+  zeros = replicate longest_bytes 0
 
-  fits : c.bytes-for.result ≤ longestBytes
+  fits : c.bytes-for.result ≤ longest_bytes
   fits = omega (arith, c.bytes-for.ensures, payload-most (facts c.before.before))
 
   part_length : length (take c.bytes-for.result zeros) ≡ c.bytes-for.result
   part_length = length-take-le c.bytes-for.result zeros fits
 
-  part-is : take c.bytes-for.result zeros ≡ replicate (bytesFor (code c.before.before).k) 0
-  part-is = take-replicate c.bytes-for.result longestBytes 0 fits ∙ ap (λ (size : ℕ). replicate size 0) c.bytes-for.ensures
+  part-is : take c.bytes-for.result zeros ≡ replicate (bytes_for (code c.before.before).k) 0
+  part-is = take-replicate c.bytes-for.result longest_bytes 0 fits ∙ ap (λ (size : ℕ). replicate size 0) c.bytes-for.ensures
 
 put-decoded-requires : tie.Need-put-decoded-requires
 put-decoded-requires c κs =
@@ -73,7 +73,7 @@ put-decoded-requires c κs =
     )
 
 returns : tie.Need-returns
-unfolding decodingLine
+unfolding decoding_line
 returns c =
     let m = c.before.before.before.before.before.before in
     let a = m.before.before.before in
@@ -81,11 +81,11 @@ returns c =
     let channel = s.args.channel.now in
     put_as c.before.before.before.put-decoded.ensures _
     (ap₂ (λ (mask output : List ℕ). under mask (code a) channel s.args.limit output) m.mask-of.ensures (part-is m.before)
-    ∙ ap lineOfAnswer (sym (under-code (single s.args.limit) AfterFlip (held a) channel (replicate (bytesFor (code a).k) 0) (code a) (sym (accepted a))))
+    ∙ ap line_of_answer (sym (under-code (single s.args.limit) AfterFlip (held a) channel (replicate (bytes_for (code a).k) 0) (code a) (sym (accepted a))))
     ∙ ap (by (held a) channel s.args.limit) (accepted a))
 
 returns-2 : tie.Need-returns-2
-unfolding decodingLine
+unfolding decoding_line
 returns-2 c =
     let a = c.before.before.before.before.before in
     let s = a.before.before.before.before.before.before in

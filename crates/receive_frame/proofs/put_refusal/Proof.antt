@@ -1,7 +1,7 @@
 -- `receive_frame::put_refusal` meets its contract.
 use mathlib.Core.Path.{ap}
 use borrow.Author.Rules.{rules}
-use Rattle.receive_lines.specs.Line.{noLine}
+use Rattle.receive_lines.specs.Line.{no_line}
 use Rattle.receive_lines.proofs.Putting.{put_as}
 use Rattle.receive_frame.proofs.put_refusal.Statement.{statement}
 use Rattle.receive_frame.proofs.put_refusal.Tie as tie
@@ -9,7 +9,7 @@ use Rattle.receive_frame.proofs.put_refusal.Tie as tie
 returns : tie.Need-returns
 returns c =
     let p = c.before.before in
-    put_as p.put-line.ensures _ (ap noLine p.before.number.ensures)
+    put_as p.put-line.ensures _ (ap no_line p.before.number.ensures)
 
 pub put-refusal-spec : {M : Type 1} → statement M
 put-refusal-spec =

@@ -7,7 +7,7 @@ use borrow.Fn.Kinds.{In}
 use borrow.Fn.PlainCycle.{Measures, is, falls, and}
 use lib.ListN.{length}
 use Rattle.receive_lines.proofs.Decimal.{decimal-small, decimal-more, length-small, length_more}
-use Rattle.receive_lines.proofs.Putting.{put-more, put_byte, put_as, length-put}
+use Rattle.receive_lines.proofs.Putting.{put_more, put_byte, put_as, length_put}
 use Rattle.receive_lines.proofs.put_decimal.Reads as put-decimal
 use Rattle.receive_lines.proofs.put_decimal.Kinds as put-decimal-kinds
 use Rattle.receive_lines.proofs.+put_decimal.Lts-put_decimal as put-decimal-lts
@@ -52,11 +52,11 @@ module _ (t : ℕ) where
     last_fits : c.before.before.put-decimal.result < length c.before.before.put-decimal.new.0
     last_fits =
         let p = c.before.before.put-decimal.ensures in
-        omega (arith, s.pre.1, length_more s.args.n big, p.next-is, length-put p)
+        omega (arith, s.pre.1, length_more s.args.n big, p.next_is, length_put p)
 
   returns-2 : put-decimal-lts.Need-returns-2 (Q t) (put-decimal-at t) put-decimal.Post
   returns-2 c =
-      put_as (put-more c.before.before.put-decimal.ensures (put_byte (last_fits c))) _ (sym (decimal-more (s c).args.n (big c)))
+      put_as (put_more c.before.before.put-decimal.ensures (put_byte (last_fits c))) _ (sym (decimal-more (s c).args.n (big c)))
 
 pub +put-decimal-spec : {M : Type 1} → statement M
 +put-decimal-spec = close μ-put-decimal λ t. put-decimal-lts.spec (Q t)

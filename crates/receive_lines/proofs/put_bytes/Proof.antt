@@ -4,7 +4,7 @@ use native.Mathlib.Omega.{arith}
 use borrow.Author.Rules.{rules}
 use lib.ListN.{length}
 use lib.Seq.{take_all}
-use Rattle.laws.specs.Contracts.{splice}
+use Rattle.laws.specs.Clauses.{splice}
 use Rattle.receive_lines.proofs.put_bytes.Statement.{statement}
 use Rattle.receive_lines.proofs.put_bytes.Tie as tie
 
@@ -14,7 +14,7 @@ returns c =
     let s = k.before.before.before.before in
     let bytes = s.args.bytes.now in
     record {
-      next-is = refl;
+      next_is = refl;
       fits = omega (arith, s.requires);
       after_is = k.copy.ensures ∙ ap (splice s.args.buffer.now s.args.at) (take_all (length bytes) bytes (omega arith));
     }

@@ -7,9 +7,9 @@ use borrow.Author.Rules.{rules}
 use lib.ListN.{length, get_or, take, length-set}
 use lib.Seq.{length-take-le, take_all}
 use Rattle.receive_lines.specs.Line.{hex}
-use Rattle.receive_lines.specs.Contracts.{PutPost}
+use Rattle.receive_lines.specs.Clauses.{PutPost}
 use Rattle.receive_lines.proofs.Hex.{length-hex, hex-next}
-use Rattle.receive_lines.proofs.Putting.{put-none, put-more, put_two, put_as, length-put}
+use Rattle.receive_lines.proofs.Putting.{put_none, put_more, put_two, put_as, length_put}
 use Rattle.receive_lines.proofs.put_hex.Statement.{statement}
 use Rattle.receive_lines.proofs.put_hex.Tie as tie
 
@@ -25,7 +25,7 @@ room c =
     let s = c.before.before.before.before in
     let l = c.before.loop in
     let done = take l.i s.args.bytes.now in
-    omega (arith, s.requires, l.invariant.1.next-is, length-put l.invariant.1, length-hex done, length-take-le l.i s.args.bytes.now l.invariant.0)
+    omega (arith, s.requires, l.invariant.1.next_is, length_put l.invariant.1, length-hex done, length-take-le l.i s.args.bytes.now l.invariant.0)
 
 -- the byte that a turn reads
 byte : (c : tie.After-shared-slice-known2 invariant-loop decreases-loop) → get_or c.before.before.before.before.before.args.bytes.now c.before.before.loop.i 0 < 256
@@ -38,7 +38,7 @@ loop-again c =
     let bytes = h.before.before.before.before.args.bytes.now in
     let digits = put_two l.line l.next c.before.before.hex-digit.result c.hex-digit2.result (room h) in (
       search rules,
-      put_as (put-more l.invariant.1 digits) (hex (take (l.i + 1) bytes))
+      put_as (put_more l.invariant.1 digits) (hex (take (l.i + 1) bytes))
           (ap₂ (λ (x y : ℕ). hex (take l.i bytes) ++ (x ∷ y ∷ [])) c.before.before.hex-digit.ensures c.hex-digit2.ensures
           ∙ sym (hex-next bytes l.i h.loop-test.true)),
     )
@@ -54,7 +54,7 @@ put-hex-spec =
     (tie.spec
     invariant-loop
     decreases-loop
-    (λ c. (search rules, put-none (search rules)))
+    (λ c. (search rules, put_none (search rules)))
     (λ c. search rules)
     (λ c κs. omega (arith, byte c))
     (λ c. omega (arith, room c.before.before))
@@ -66,5 +66,5 @@ put-hex-spec =
     (λ c. search rules)
     (λ c. search rules)
     loop-again
-    (λ c. length-put c.before.loop.invariant.1)
+    (λ c. length_put c.before.loop.invariant.1)
     returns)

@@ -5,9 +5,9 @@ use borrow.Author.Rules.{rules}
 use lib.ListN.{length, set, length-set}
 use Rattle.receive_lines.specs.Text.{text}
 use Rattle.receive_lines.specs.Line.{decimal}
-use Rattle.receive_lines.specs.Contracts.{spaced, PutPost}
+use Rattle.receive_lines.specs.Clauses.{spaced, PutPost}
 use Rattle.receive_lines.proofs.Decimal.{length-decimal}
-use Rattle.receive_lines.proofs.Putting.{put-more, put_byte, length-put}
+use Rattle.receive_lines.proofs.Putting.{put_more, put_byte, length_put}
 use Rattle.receive_lines.proofs.put_number.Statement.{statement}
 use Rattle.receive_lines.proofs.put_number.Tie as tie
 
@@ -19,7 +19,7 @@ space : (c : tie.Start) → PutPost c.args.line.now c.args.at (text " ") (set c.
 space c = put_byte (omega (arith, c.requires))
 
 number : (c : tie.After-put-decimal) → PutPost c.before.before.before.args.line.now c.before.before.before.args.at (spaced (decimal c.before.before.before.args.n)) c.put-decimal.new.0 c.put-decimal.result
-number c = put-more (space c.before.before.before) c.put-decimal.ensures
+number c = put_more (space c.before.before.before) c.put-decimal.ensures
 
 pub put-number-spec : {M : Type 1} → statement M
 put-number-spec =
@@ -28,7 +28,7 @@ put-number-spec =
     (λ c. search rules)
     (λ c. search rules)
     (λ c κs. simp length-set (omega (arith, digits c.before.before, c.before.before.requires)))
-    (λ c. length-put (number c.before.before))
+    (λ c. length_put (number c.before.before))
     (λ c.
     let p = number c.before.before in
-    (p, omega (arith, digits c.before.before.before.before.before, p.next-is))))
+    (p, omega (arith, digits c.before.before.before.before.before, p.next_is))))

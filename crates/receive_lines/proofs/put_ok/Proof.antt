@@ -4,7 +4,7 @@ use native.Mathlib.Omega.{arith}
 use borrow.Author.Rules.{rules}
 use lib.ListN.{length}
 use Rattle.receive_lines.proofs.Hex.{length-hex}
-use Rattle.receive_lines.proofs.Putting.{put-more, length-put}
+use Rattle.receive_lines.proofs.Putting.{put_more, length_put}
 use Rattle.receive_lines.proofs.put_ok.Statement.{statement}
 use Rattle.receive_lines.proofs.put_ok.Tie as tie
 
@@ -28,27 +28,27 @@ module _ (h : tie.After-put-hex) where
       omega (
         arith,
         s.pre,
-        word.put-bytes.ensures.next-is,
+        word.put-bytes.ensures.next_is,
         trial.1,
         steps.1,
-        space.next-is,
-        payload.next-is,
+        space.next_is,
+        payload.next_is,
         length-hex s.args.payload.now,
-        length-put word.put-bytes.ensures,
-        length-put trial.0,
-        length-put steps.0,
-        length-put space,
-        length-put payload,
+        length_put word.put-bytes.ensures,
+        length_put trial.0,
+        length_put steps.0,
+        length_put space,
+        length_put payload,
       )
 
 returns : tie.Need-returns
 returns c =
     let h = c.before.before.before.before.before.before.before in
-    put-more (word h).put-bytes.ensures
-    (put-more (n2 h).before.before.before.before.put-number.ensures.0
-    (put-more (n2 h).put-number2.ensures.0
-    (put-more h.before.before.before.before.put-bytes2.ensures
-    (put-more h.put-hex.ensures
+    put_more (word h).put-bytes.ensures
+    (put_more (n2 h).before.before.before.before.put-number.ensures.0
+    (put_more (n2 h).put-number2.ensures.0
+    (put_more h.before.before.before.before.put-bytes2.ensures
+    (put_more h.put-hex.ensures
     c.before.before.put-bytes3.ensures))))
 
 pub put-ok-spec : {M : Type 1} → statement M

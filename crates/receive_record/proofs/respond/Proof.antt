@@ -8,24 +8,24 @@ use borrow.Author.Tests.{eq-eqb, ne_eqb}
 use lib.Dec.{eqb}
 use lib.ListN.{take}
 use lib.Seq.{length-take-le}
-use Rattle.code.specs.Description.{word, isDescription}
-use Rattle.receive_lines.specs.Line.{skipLine}
-use Rattle.receive_frame.specs.Frame.{channelLine}
+use Rattle.code.specs.Description.{word, is_description}
+use Rattle.receive_lines.specs.Line.{skip_line}
+use Rattle.receive_frame.specs.Frame.{channel_line}
 use Rattle.receive_record.specs.declared.Header.{Header}
-use Rattle.receive_record.specs.Respond.{descriptionResponse, responded}
-use Rattle.receive_record.proofs.Answers.{answers-line, answers-as}
+use Rattle.receive_record.specs.Respond.{description_response, responded}
+use Rattle.receive_record.proofs.Answers.{answers-line, answers_as}
 use Rattle.receive_record.proofs.respond.Statement.{statement}
 use Rattle.receive_record.proofs.respond.Tie as tie
 
 -- the answer by what the tests of a description and of kind 2 say
 abbrev by_2 : List ℕ → List ℕ → Bool → List ℕ × List ℕ
-by_2 held bytes t = cond t (channelLine held bytes, held) (skipLine (word bytes 2), held)
+by_2 held bytes t = cond t (channel_line held bytes, held) (skip_line (word bytes 2), held)
 
 abbrev past : List ℕ → List ℕ → List ℕ × List ℕ
 past held bytes = by_2 held bytes (eqb (word bytes 2) 2)
 
 abbrev by-1 : List ℕ → List ℕ → Bool → List ℕ × List ℕ
-by-1 held bytes t = cond t (descriptionResponse held bytes) (past held bytes)
+by-1 held bytes t = cond t (description_response held bytes) (past held bytes)
 
 module _ (c : tie.After-read-header) where
   abbrev held : List ℕ
@@ -38,8 +38,8 @@ module _ (c : tie.After-read-header) where
   kind-is = ap (λ (h : Header). h.kind) c.read-header.ensures.0
 
 -- whether the record is a description
-described : (c : tie.After-is-description) → c.is-description.result ≡ isDescription (word (bytes c.before) 2)
-described c = c.is-description.ensures ∙ ap isDescription (kind-is c.before)
+described : (c : tie.After-is-description) → c.is-description.result ≡ is_description (word (bytes c.before) 2)
+described c = c.is-description.ensures ∙ ap is_description (kind-is c.before)
 
 past-1 : (c : tie.Else1) → let h = c.before.before in responded (held h) (bytes h) ≡ past (held h) (bytes h)
 unfolding responded
@@ -50,21 +50,21 @@ unfolding responded
 returns c =
     let t = c.before.before.before.before.before.before.before in
     let h = t.before.before in
-    answers-as c.before.before.before.before.respond-description.ensures _ (ap (by-1 (held h) (bytes h)) (sym t.if1.true ∙ described t.before))
+    answers_as c.before.before.before.before.respond-description.ensures _ (ap (by-1 (held h) (bytes h)) (sym t.if1.true ∙ described t.before))
 
 returns-2 : tie.Need-returns-2
 returns-2 c =
     let t = c.before.before.before.before.before in
     let h = t.before.before.before in
-    answers-as (answers-line c.before.before.put-channel.ensures h.before.before.before.before.requires.size-most) _
+    answers_as (answers-line c.before.before.put-channel.ensures h.before.before.before.before.requires.size_most) _
     (sym (past-1 t.before ∙ ap (by_2 (held h) (bytes h)) (eq-eqb _ _ (sym (kind-is h) ∙ t.if2.true))))
 
 returns-3 : tie.Need-returns-3
 returns-3 c =
     let e = c.before.before.before.before.before in
     let h = e.before.before.before in
-    answers-as (answers-line c.before.before.put-line.ensures h.before.before.before.before.requires.size-most) _
-    (ap (λ (kind : ℕ). (skipLine kind, held h)) (kind-is h)
+    answers_as (answers-line c.before.before.put-line.ensures h.before.before.before.before.requires.size_most) _
+    (ap (λ (kind : ℕ). (skip_line kind, held h)) (kind-is h)
     ∙ sym (past-1 e.before ∙ ap (by_2 (held h) (bytes h)) (ne_eqb _ _ (λ q. e.if2.false (kind-is h ∙ q)))))
 
 pub respond-spec : {M : Type 1} → statement M
@@ -78,7 +78,7 @@ respond-spec =
     (λ c. search rules)
     returns
     (λ c. search rules)
-    (λ c. sym (length-take-le _ _ c.before.before.before.before.before.before.before.before.before.requires.size-most))
+    (λ c. sym (length-take-le _ _ c.before.before.before.before.before.before.before.before.before.requires.size_most))
     (λ c κs. search rules)
     (λ c. search rules)
     (λ c. search rules)

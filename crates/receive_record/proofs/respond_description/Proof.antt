@@ -10,21 +10,21 @@ use Rattle.refusal.specs.Judge.{number_of}
 use Rattle.code.specs.declared.Code.{Code}
 use Rattle.code.specs.declared.Description.{Description}
 use Rattle.code.specs.declared.Description.TheVariants.{Accepted}
-use Rattle.code.specs.Code.{codeLength}
-use Rattle.code.specs.Description.{describe, onDescription}
+use Rattle.code.specs.Code.{code_length}
+use Rattle.code.specs.Description.{describe, on_description}
 use Rattle.code.specs.Claims.{Described}
 use Rattle.code.proofs.Facts.{described}
 use Rattle.code.proofs.Room.{description-most}
-use Rattle.receive_lines.specs.Line.{codeLine, noLine}
-use Rattle.receive_lines.proofs.Putting.{length-put, take_put}
-use Rattle.receive_record.specs.Respond.{descriptionResponse}
-use Rattle.receive_record.proofs.Answers.{answers-line, answers-as}
+use Rattle.receive_lines.specs.Line.{code_line, no_line}
+use Rattle.receive_lines.proofs.Putting.{length_put, take_put}
+use Rattle.receive_record.specs.Respond.{description_response}
+use Rattle.receive_record.proofs.Answers.{answers-line, answers_as}
 use Rattle.receive_record.proofs.respond_description.Statement.{statement}
 use Rattle.receive_record.proofs.respond_description.Tie as tie
 
 -- the definition, by an answer of `describe`
 abbrev by : List ℕ → List ℕ → Description → List ℕ × List ℕ
-by held bytes a = onDescription a (λ x. (noLine (number_of x), held)) (λ c. (codeLine (codeLength c) c.k c.r, bytes))
+by held bytes a = on_description a (λ x. (no_line (number_of x), held)) (λ c. (code_line (code_length c) c.k c.r, bytes))
 
 -- the code that was accepted
 module _ (c : tie.After-code) where
@@ -41,30 +41,30 @@ module _ (c : tie.After-code) where
   facts = described d code (sym accepted)
 
 put-bytes-requires : tie.Need-put-bytes-requires
-put-bytes-requires c κs = omega (arith, description-most (facts c.before.before), c.before.before.before.before.before.before.before.before.requires.held-room)
+put-bytes-requires c κs = omega (arith, description-most (facts c.before.before), c.before.before.before.before.before.before.before.before.requires.held_room)
 
 returns : tie.Need-returns
-unfolding descriptionResponse
+unfolding description_response
 returns c =
     let kept = c.before.before.before.before.before.before.before.before.put-bytes.ensures in
     let line = c.before.before.put-code.ensures in
     let a = c.before.before.before.before.before.before.before.before.before.before.before in
     let s = a.before.before.before.before.before.before in
     record {
-      line-fits = omega (arith, line.fits, length-put line);
-      held_fits = omega (arith, kept.fits, length-put kept);
-      answer-is = ap₂ (λ (x y : List ℕ). (x, y)) (take_put line) (take_put kept)
-          ∙ ap (λ (size : ℕ). (codeLine size (code a).k (code a).r, d a)) (one_shl (code a).n 64 (omega (arith, (facts a).coded.n-most)))
+      line_fits = omega (arith, line.fits, length_put line);
+      held_fits = omega (arith, kept.fits, length_put kept);
+      answer_is = ap₂ (λ (x y : List ℕ). (x, y)) (take_put line) (take_put kept)
+          ∙ ap (λ (size : ℕ). (code_line size (code a).k (code a).r, d a)) (one_shl (code a).n 64 (omega (arith, (facts a).coded.n_most)))
           ∙ ap (by (take s.args.size s.args.held.now) (d a)) (accepted a);
     }
 
 returns-2 : tie.Need-returns-2
-unfolding descriptionResponse
+unfolding description_response
 returns-2 c =
     let a = c.before.before.before.before.before in
     let s = a.before.before.before.before.before.before in
     let held = take s.args.size s.args.held.now in
-    answers-as (answers-line c.before.before.put-refusal.ensures s.requires.size-most) _
+    answers_as (answers-line c.before.before.put-refusal.ensures s.requires.size_most) _
     (ap (by held s.args.bytes.now) (sym a.x.given.1 ∙ a.before.before.read-description.ensures))
 
 pub respond-description-spec : {M : Type 1} → statement M
@@ -75,7 +75,7 @@ respond-description-spec =
     (λ c. search rules)
     put-bytes-requires
     (λ c. search rules)
-    (λ c. omega (arith, (facts c.before.before.before.before.before.before.before).coded.n-most))
+    (λ c. omega (arith, (facts c.before.before.before.before.before.before.before).coded.n_most))
     (λ c. search rules)
     (λ c κs. search rules)
     (λ c. search rules)

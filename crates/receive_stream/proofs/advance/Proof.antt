@@ -7,8 +7,8 @@ use lib.ListN.{take}
 use lib.Seq.{length-take-le}
 use Rattle.receive_stream.specs.declared.Ahead.{Ahead}
 use Rattle.receive_stream.specs.declared.Ahead.TheVariants.{Whole, Short}
-use Rattle.receive_stream.specs.Contracts.{ahead_of, Fits}
-use Rattle.receive_stream.proofs.Steps.{record-there, advance-whole, advance-short, advance-cut, advance-end, advance-more}
+use Rattle.receive_stream.specs.Clauses.{ahead_of, Fits}
+use Rattle.receive_stream.proofs.Steps.{record_there, advance_whole, advance_short, advance_cut, advance_end, advance_more}
 use Rattle.receive_stream.proofs.advance.Statement.{statement}
 use Rattle.receive_stream.proofs.advance.Tie as tie
 
@@ -28,49 +28,49 @@ respond-to-requires c κs =
     let a = c.before.before.before.before.before.before.before.before.before.before.before in
     let pre = a.requires in
     record {
-      header = (record-there a.args.stream a.args.got a.args.bytes.now a.args.held.now a.args.output.now pre (says c.before.before.before.before.before Whole c.before.before.before.enum_told.given.1)).least;
-      held-most = pre.between.held-most;
-      held-room = pre.held-room;
-      output-room = pre.between.output-room;
+      header = (record_there a.args.stream a.args.got a.args.bytes.now a.args.held.now a.args.output.now pre (says c.before.before.before.before.before Whole c.before.before.before.enum_told.given.1)).least;
+      held_most = pre.between.held_most;
+      held_room = pre.held_room;
+      output_room = pre.between.output_room;
       counts = pre.between.counts;
-      turns-most = pre.turns-most;
+      turns_most = pre.turns_most;
     }
 
 returns : tie.Need-returns
 returns c =
     let a = c.before.before.before.before.before.before.before.before.before.before.before.before.before.before in
-    advance-end a.args.stream a.args.got a.args.bytes.now a.args.held.now a.args.output.now a.requires c.before.before.before.before.if1.true c.before.before.finish.ensures
+    advance_end a.args.stream a.args.got a.args.bytes.now a.args.held.now a.args.output.now a.requires c.before.before.before.before.if1.true c.before.before.finish.ensures
 
 returns-2 : tie.Need-returns-2
 returns-2 c =
     let a = c.before.before.before.before.before.before.before.before.before.before.before.before.before.before.before in
-    advance-cut a.args.stream a.args.got a.args.bytes.now a.args.held.now a.args.output.now a.requires (says c.before.before.before.before.before.before.before.before.before _ c.before.before.before.before.before.before.before.missing.given.1) c.before.before.before.before.if2.true c.before.before.before.before.before.if1.false c.before.before.cut2.ensures
+    advance_cut a.args.stream a.args.got a.args.bytes.now a.args.held.now a.args.output.now a.requires (says c.before.before.before.before.before.before.before.before.before _ c.before.before.before.before.before.before.before.missing.given.1) c.before.before.before.before.if2.true c.before.before.before.before.before.if1.false c.before.before.cut2.ensures
 
 returns-3 : tie.Need-returns-3
 returns-3 c =
     let a = c.before.before.before.before.before.before.before.before.before.before.before.before.before.before.before.before in
-    advance-whole a.args.stream a.args.got a.args.bytes.now a.args.held.now a.args.output.now a.requires (says c.before.before.before.before.before.before.before.before.before.before Whole c.before.before.before.before.before.before.before.before.enum_told.given.1) c.before.before.before.before.respond-to.ensures
+    advance_whole a.args.stream a.args.got a.args.bytes.now a.args.held.now a.args.output.now a.requires (says c.before.before.before.before.before.before.before.before.before.before Whole c.before.before.before.before.before.before.before.before.enum_told.given.1) c.before.before.before.before.respond-to.ensures
 
 returns-4 : tie.Need-returns-4
 returns-4 c =
     let a = c.before.before.before.before.before.before.before.before.before.before.before.before in
-    advance-short a.args.stream a.args.got a.args.bytes.now a.args.held.now a.args.output.now a.requires (says c.before.before.before.before.before.before Short c.before.before.before.before.enum-told2.given.1) c.before.before.cut.ensures
+    advance_short a.args.stream a.args.got a.args.bytes.now a.args.held.now a.args.output.now a.requires (says c.before.before.before.before.before.before Short c.before.before.before.before.enum-told2.given.1) c.before.before.cut.ensures
 
 returns-5 : tie.Need-returns-5
 returns-5 c =
     let a = c.before.before.before.before.before.before.before.before.before.before.before.before in
     let told = c.before.before.before.before.missing.given in
-    advance-more a.args.stream a.args.got a.args.bytes.now a.args.held.now a.args.output.now a.requires (says c.before.before.before.before.before.before _ told.1) (fits c.before.before.before.before.before.before _ told.1) c.before.if2.false
+    advance_more a.args.stream a.args.got a.args.bytes.now a.args.held.now a.args.output.now a.requires (says c.before.before.before.before.before.before _ told.1) (fits c.before.before.before.before.before.before _ told.1) c.before.if2.false
 
 pub advance-spec : {M : Type 1} → statement M
 advance-spec =
     tie.close
     (tie.spec
     (λ c. search rules)
-    (λ c. sym (length-take-le _ _ c.before.before.before.before.before.requires.bytes-room))
+    (λ c. sym (length-take-le _ _ c.before.before.before.before.before.requires.bytes_room))
     (λ c κs. search rules)
     (λ c. search rules)
-    (λ c. sym (length-take-le _ _ c.before.before.before.before.before.before.before.before.before.requires.bytes-room))
+    (λ c. sym (length-take-le _ _ c.before.before.before.before.before.before.before.before.before.requires.bytes_room))
     respond-to-requires
     (λ c. search rules)
     (λ c κs. search rules)

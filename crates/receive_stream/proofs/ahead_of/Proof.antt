@@ -8,7 +8,7 @@ use lib.ListN.{length}
 use Rattle.code.specs.Description.{word}
 use Rattle.receive_record.specs.declared.Header.{Header}
 use Rattle.receive_stream.specs.declared.Ahead.TheVariants.{Missing}
-use Rattle.receive_stream.proofs.Says.{ahead-few, ahead-short, ahead-part, ahead-whole}
+use Rattle.receive_stream.proofs.Says.{ahead_few, ahead_short, ahead_part, ahead_whole}
 use Rattle.receive_stream.proofs.ahead_of.Statement.{statement}
 use Rattle.receive_stream.proofs.ahead_of.Tie as tie
 
@@ -21,22 +21,22 @@ module _ (c : tie.After-read-header) where
   size_is = ap (λ (h : Header). h.length) c.read-header.ensures.0
 
 returns : tie.Need-returns
-returns c = (sym (ahead-few c.before.before.args.bytes.now c.if1.true), omega arith)
+returns c = (sym (ahead_few c.before.before.args.bytes.now c.if1.true), omega arith)
 
 returns-2 : tie.Need-returns-2
-returns-2 c = (sym (ahead-short (bytes c.before) (omega arith) (omega (arith, size_is c.before))), tt)
+returns-2 c = (sym (ahead_short (bytes c.before) (omega arith) (omega (arith, size_is c.before))), tt)
 
 returns-3 : tie.Need-returns-3
 returns-3 c =
     let r = c.before.before in
     let size = size_is r in
-    (ap (λ (n : ℕ). Missing (n - length (bytes r))) size ∙ sym (ahead-part (bytes r) (omega arith) (omega arith) (omega arith)), omega (arith, r.read-header.ensures.1))
+    (ap (λ (n : ℕ). Missing (n - length (bytes r))) size ∙ sym (ahead_part (bytes r) (omega arith) (omega arith) (omega arith)), omega (arith, r.read-header.ensures.1))
 
 returns-4 : tie.Need-returns-4
 returns-4 c =
     let r = c.before.before in
     let size = size_is r in
-    (sym (ahead-whole (bytes r) (omega arith) (omega arith) (omega arith)), tt)
+    (sym (ahead_whole (bytes r) (omega arith) (omega arith) (omega arith)), tt)
 
 pub ahead-of-spec : {M : Type 1} → statement M
 ahead-of-spec =

@@ -5,8 +5,8 @@ use Prim.Native.Nat.{ℕ, ◌-◌}
 use native.Mathlib.Omega.{arith}
 use borrow.Author.Rules.{rules}
 use lib.ListN.{length, take}
-use Rattle.receive_lines.specs.Line.{cutLine, endLine}
-use Rattle.receive_stream.proofs.Output.{put-behind}
+use Rattle.receive_lines.specs.Line.{cut_line, end_line}
+use Rattle.receive_stream.proofs.Output.{put_behind}
 use Rattle.receive_stream.proofs.cut.Statement.{statement}
 use Rattle.receive_stream.proofs.cut.Tie as tie
 
@@ -14,19 +14,19 @@ returns : tie.Need-returns
 returns c =
     let a = c.before.before.before.before.before.before.before.before.before.args in
     let end = c.before.before.finish.ensures in
-    let text = endLine a.stream.count in
+    let text = end_line a.stream.count in
     record {
-      there-is = end.there-is;
-      wanted-is = end.wanted-is;
-      held-is = end.held-is;
-      count-is = end.count-is;
-      turns-is = end.turns-is;
-      waiting-is = end.waiting-is;
+      there_is = end.there_is;
+      wanted_is = end.wanted_is;
+      held_is = end.held_is;
+      count_is = end.count_is;
+      turns_is = end.turns_is;
+      waiting_is = end.waiting_is;
       same_size = search rules;
-      ready-most = end.ready-most;
+      ready_most = end.ready_most;
       lines_are = end.lines_are
-          ∙ ap (λ (x : List ℕ). x ++ text) (put-behind a.output.now a.stream.waiting (length a.output.now - a.stream.waiting) (omega arith) c.before.before.before.before.before.before.put-cut.ensures)
-          ∙ append_assoc (take a.stream.waiting a.output.now) cutLine text;
+          ∙ ap (λ (x : List ℕ). x ++ text) (put_behind a.output.now a.stream.waiting (length a.output.now - a.stream.waiting) (omega arith) c.before.before.before.before.before.before.put-cut.ensures)
+          ∙ append_assoc (take a.stream.waiting a.output.now) cut_line text;
     }
 
 pub cut_spec : {M : Type 1} → statement M

@@ -3,7 +3,7 @@ use Prim.Native.Nat.{◌-◌}
 use native.Mathlib.Omega.{arith}
 use borrow.Author.Rules.{rules}
 use lib.ListN.{length}
-use Rattle.receive_stream.proofs.Output.{put-behind}
+use Rattle.receive_stream.proofs.Output.{put_behind}
 use Rattle.receive_stream.proofs.finish.Statement.{statement}
 use Rattle.receive_stream.proofs.finish.Tie as tie
 
@@ -11,15 +11,15 @@ returns : tie.Need-returns
 returns c =
     let a = c.before.before.before.before.before.before.args in
     record {
-      there-is = search rules;
-      wanted-is = search rules;
-      held-is = search rules;
-      count-is = search rules;
-      turns-is = search rules;
-      waiting-is = search rules;
+      there_is = search rules;
+      wanted_is = search rules;
+      held_is = search rules;
+      count_is = search rules;
+      turns_is = search rules;
+      waiting_is = search rules;
       same_size = search rules;
-      ready-most = search rules;
-      lines_are = put-behind a.output.now a.stream.waiting (length a.output.now - a.stream.waiting) (omega arith) c.before.before.before.put-end.ensures;
+      ready_most = search rules;
+      lines_are = put_behind a.output.now a.stream.waiting (length a.output.now - a.stream.waiting) (omega arith) c.before.before.before.put-end.ensures;
     }
 
 pub finish_spec : {M : Type 1} → statement M

@@ -19,15 +19,15 @@ returns c =
     let ready = c.before.before.Ready-of.ensures in
     let before = a.stream.waiting in
     record {
-      there-is = search rules;
-      wanted-is = search rules;
-      count-is = search rules;
-      turns-is = search rules;
-      held-most = r.held_fits;
-      held-is = ap (λ (z : List ℕ × List ℕ). z.1) r.answer-is;
-      ready-most = search rules;
-      output-room = ready.leaves (search rules);
-      lines_are = ready.splits _ ∙ take_behind a.output.now _ before (length a.output.now - before) _ (omega arith) r.line-fits ∙ ap (λ (z : List ℕ × List ℕ). take before a.output.now ++ z.0) r.answer-is;
+      there_is = search rules;
+      wanted_is = search rules;
+      count_is = search rules;
+      turns_is = search rules;
+      held_most = r.held_fits;
+      held_is = ap (λ (z : List ℕ × List ℕ). z.1) r.answer_is;
+      ready_most = search rules;
+      output_room = ready.leaves (search rules);
+      lines_are = ready.splits _ ∙ take_behind a.output.now _ before (length a.output.now - before) _ (omega arith) r.line_fits ∙ ap (λ (z : List ℕ × List ℕ). take before a.output.now ++ z.0) r.answer_is;
     }
 
 pub respond-to-spec : {M : Type 1} → statement M

@@ -1,6 +1,6 @@
 -- `refusal::is_outside` meets its contract.
 use borrow.Author.Tests.{lt-ltb, le-ltb}
-use Rattle.laws.proofs.Choice.{or-first, or-second}
+use Rattle.laws.proofs.Choice.{or_first, or_second}
 use Rattle.refusal.proofs.is_outside.Statement.{statement}
 use Rattle.refusal.proofs.is_outside.Tie as tie
 
@@ -8,5 +8,5 @@ pub is-outside-spec : {M : Type 1} → statement M
 is-outside-spec =
     tie.close
     (tie.spec
-    (λ c. or-first _ _ (lt-ltb _ _ c.if1.true))
-    (λ c. or-second _ _ (le-ltb _ _ c.if1.false)))
+    (λ c. or_first _ _ (lt-ltb _ _ c.if1.true))
+    (λ c. or_second _ _ (le-ltb _ _ c.if1.false)))

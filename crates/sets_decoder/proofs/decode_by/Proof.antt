@@ -8,11 +8,11 @@ use lib.IntN.{ℤ}
 use Rattle.refusal.specs.declared.Judgement.TheVariants.{Fine}
 use Rattle.refusal.specs.Judge.{judge}
 use Rattle.arrays.proofs.Sizes.{fits}
-use Rattle.channel.specs.Channel.{channelValues}
-use Rattle.flip_trial.specs.Trial.{firstTrial, laterTrial, trialPasses}
+use Rattle.channel.specs.Channel.{channel_values}
+use Rattle.flip_trial.specs.Trial.{first_trial, later_trial, trial_passes}
 use Rattle.flip_run.specs.Trials.{run, answer_of}
-use Rattle.decoder.specs.Decoder.{Decoder, sets, refusalsOf}
-use Rattle.decoder.proofs.Decoder.{fine-answer, refused-answer, spelt-out}
+use Rattle.decoder.specs.Decoder.{Decoder, sets, refusals_of}
+use Rattle.decoder.proofs.Decoder.{fine-answer, refused_answer, spelt_out}
 use Rattle.sets_tried.proofs.Same.{tried-by}
 use Rattle.sets_decoder.proofs.decode_by.Statement.{statement}
 use Rattle.sets_decoder.proofs.decode_by.Tie as tie
@@ -25,7 +25,7 @@ module _ (c : tie.After-enum-told) where
   abbrev p : Decoder
   p = sets s.args.search.w s.args.search.limit
 
-  fine : judge (refusalsOf p s.args.code s.args.channel.now s.args.output.now) ≡ Fine
+  fine : judge (refusals_of p s.args.code s.args.channel.now s.args.output.now) ≡ Fine
   fine = let j = c.before.before in sym (j.judge-call.ensures p j.before.before.judge-search.ensures) ∙ c.enum_told.given.1
 
 returns : tie.Need-returns
@@ -33,9 +33,9 @@ returns c =
     let d = c.before.before in
     let t = d.before.before in
     let x = (s t).args in
-    let v : List ℤ = channelValues x.channel.now in
+    let v : List ℤ = channel_values x.channel.now in
     d.decode-in.ensures
-    ∙ ap (λ (flips : List (List ℕ)). answer_of x.mask.now x.code x.output.now (run (trialPasses x.mask.now x.code) 0 0 (firstTrial x.mask.now x.code v ∷ map (laterTrial x.search.restart x.mask.now x.code v) flips)))
+    ∙ ap (λ (flips : List (List ℕ)). answer_of x.mask.now x.code x.output.now (run (trial_passes x.mask.now x.code) 0 0 (first_trial x.mask.now x.code v ∷ map (later_trial x.search.restart x.mask.now x.code v) flips)))
     (tried-by x.search x.mask.now x.code v)
     ∙ sym (fine-answer (p t) x.search.restart x.mask.now x.code x.channel.now x.output.now (fine t))
 
@@ -44,7 +44,7 @@ returns-2 c =
     let j = c.before.before.before in
     let x = j.before.before.before.before.before.before.args in
     let p : Decoder = sets x.search.w x.search.limit in
-    sym (refused-answer p x.search.restart x.mask.now x.code x.channel.now x.output.now _
+    sym (refused_answer p x.search.restart x.mask.now x.code x.channel.now x.output.now _
     (sym (j.judge-call.ensures p j.before.before.judge-search.ensures) ∙ c.before.x.given.1))
 
 -- what the run asks
@@ -52,24 +52,24 @@ decode-in-requires : tie.Need-decode-in-requires
 decode-in-requires c κs =
     let t = c.before in
     let x = (s t).args in
-    let w = (spelt-out (p t) x.code x.channel.now x.output.now).1 (fine t) in
+    let w = (spelt_out (p t) x.code x.channel.now x.output.now).1 (fine t) in
     record {
       sets = record {
-        frame = record { coded = (s t).requires; channel-size = w.channel-size; in-range = w.in-range };
-        flips-least = w.allowed.0;
-        flips-most = w.allowed.1;
-        limit-least = w.allowed.2;
-        limit-most = w.allowed.3;
+        frame = record { coded = (s t).requires; channel_size = w.channel_size; in_range = w.in_range };
+        flips_least = w.allowed.0;
+        flips_most = w.allowed.1;
+        limit_least = w.allowed.2;
+        limit_most = w.allowed.3;
       };
-      output-size = w.output-size;
+      output_size = w.output_size;
     }
 
 pub decode-by-spec : {M : Type 1} → statement M
 decode-by-spec =
     tie.close
     (tie.spec
-    (λ c κs. let p = c.before.before.before.requires in omega (arith, p.K-most, fits p.n-most))
-    (λ c κs. c.before.before.before.before.before.requires.n-most)
+    (λ c κs. let p = c.before.before.before.requires in omega (arith, p.K_most, fits p.n_most))
+    (λ c κs. c.before.before.before.before.before.requires.n_most)
     (λ c. search rules)
     decode-in-requires
     (λ c. search rules)

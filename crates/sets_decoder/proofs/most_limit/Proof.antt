@@ -5,12 +5,12 @@ use Prim.Native.Nat.{ℕ, ◌+◌}
 use borrow.Author.Rules.{rules}
 use borrow.Author.Tests.{eq-eqb, ne_eqb}
 use Rattle.code.specs.declared.Code.{Code}
-use Rattle.code.specs.Code.{informationCount}
+use Rattle.code.specs.Code.{information_count}
 use Rattle.sets_decoder.proofs.most_limit.Statement.{statement}
 use Rattle.sets_decoder.proofs.most_limit.Tie as tie
 
 abbrev chosen : Code → Bool → ℕ
-chosen code t = cond t (informationCount code + 1) 512
+chosen code t = cond t (information_count code + 1) 512
 
 pub most-limit-spec : {M : Type 1} → statement M
 most-limit-spec =

@@ -4,10 +4,10 @@ use mathlib.Core.List.{List, [], ◌∷◌}
 use Prim.Native.Nat.{ℕ}
 use native.Mathlib.Omega.{arith}
 use borrow.Author.Rules.{rules}
-use Rattle.bits.specs.Mask.{maskBit}
-use Rattle.bits.proofs.Mask.{mask-bit-lt}
-use Rattle.sets_queue.specs.Contracts.{Inserted}
-use Rattle.sets_queue.proofs.Extending.{inserted-none, keys-frozen, keys-one}
+use Rattle.bits.specs.Mask.{mask_bit}
+use Rattle.bits.proofs.Mask.{mask_bit_lt}
+use Rattle.sets_queue.specs.Clauses.{Inserted}
+use Rattle.sets_queue.proofs.Extending.{inserted-none, keys_frozen, keys_one}
 use Rattle.sets_queue.proofs.append.Statement.{statement}
 use Rattle.sets_queue.proofs.append.Tie as tie
 
@@ -16,7 +16,7 @@ returns c =
     let s = c.before.before.before.before in
     let x = s.args in
     subst (λ (new : List ℕ). Inserted x.low x.count x.room x.count new x.keys.now x.keys.now)
-    (sym (keys-frozen x.mask.now x.leaves.now x.stem x.small x.j (sym c.before.mask-bit.ensures ∙ c.if1.true))) (inserted-none s.requires.4)
+    (sym (keys_frozen x.mask.now x.leaves.now x.stem x.small x.j (sym c.before.mask-bit.ensures ∙ c.if1.true))) (inserted-none s.requires.4)
 
 returns-2 : tie.Need-returns-2
 returns-2 c =
@@ -24,9 +24,9 @@ returns-2 c =
     let k = i.before.before in
     let b = k.before.before in
     let x = b.before.before.before.args in
-    let one : maskBit x.mask.now x.j ≡ 1 = omega (arith, k.before.if1.false, b.mask-bit.ensures, mask-bit-lt x.mask.now x.j) in
+    let one : mask_bit x.mask.now x.j ≡ 1 = omega (arith, k.before.if1.false, b.mask-bit.ensures, mask_bit_lt x.mask.now x.j) in
     subst (λ (new : List ℕ). Inserted x.low x.count x.room i.insert.result new x.keys.now i.insert.new.1.1.1.1.0)
-    (ap (λ (key : ℕ). key ∷ []) k.key-with.ensures ∙ sym (keys-one x.mask.now x.leaves.now x.stem x.small x.j one)) i.insert.ensures
+    (ap (λ (key : ℕ). key ∷ []) k.key-with.ensures ∙ sym (keys_one x.mask.now x.leaves.now x.stem x.small x.j one)) i.insert.ensures
 
 pub append-spec : {M : Type 1} → statement M
 append-spec =

@@ -2,9 +2,9 @@
 use mathlib.Core.Path.{◌≡◌, sym, ◌∙◌}
 use native.Mathlib.Omega.{arith}
 use borrow.Author.Rules.{rules}
-use Rattle.bits.specs.Mask.{maskBit}
-use Rattle.bits.proofs.Mask.{mask-bit-lt}
-use Rattle.sets_queue.proofs.Walking.{doubt-frozen, doubt-low, doubt-high}
+use Rattle.bits.specs.Mask.{mask_bit}
+use Rattle.bits.proofs.Mask.{mask_bit_lt}
+use Rattle.sets_queue.proofs.Walking.{doubt-frozen, doubt-low, doubt_high}
 use Rattle.sets_queue.proofs.doubt.Statement.{statement}
 use Rattle.sets_queue.proofs.doubt.Tie as tie
 
@@ -13,8 +13,8 @@ module _ (c : tie.Else1) where
   abbrev s : tie.Start
   s = c.before.before.before
 
-  one : maskBit s.args.mask.now s.args.j ≡ 1
-  one = omega (arith, c.if1.false, c.before.mask-bit.ensures, mask-bit-lt s.args.mask.now s.args.j)
+  one : mask_bit s.args.mask.now s.args.j ≡ 1
+  one = omega (arith, c.if1.false, c.before.mask-bit.ensures, mask_bit_lt s.args.mask.now s.args.j)
 
 returns : tie.Need-returns
 returns c =
@@ -31,7 +31,7 @@ returns-3 : tie.Need-returns-3
 returns-3 c =
     let e = c.before.before in
     let a = (s e).args in
-    sym (doubt-high a.mask.now a.leaves.now a.j (one e) (omega (arith, c.before.magnitude-at.ensures, c.if2.false)))
+    sym (doubt_high a.mask.now a.leaves.now a.j (one e) (omega (arith, c.before.magnitude-at.ensures, c.if2.false)))
 
 pub doubt-spec : {M : Type 1} → statement M
 doubt-spec =

@@ -7,22 +7,22 @@ use borrow.Author.Rules.{rules}
 use lib.IntN.{ℤ}
 use lib.ListN.{length}
 use Rattle.arrays.specs.Claims.{longest}
-use Rattle.decoder.specs.Candidate.{pastLargest, doubtful, extensions}
+use Rattle.decoder.specs.Candidate.{past_largest, doubtful, extensions}
 use Rattle.decoder.proofs.Metric.{doubtful-most}
 use Rattle.sets_queue.specs.declared.Stem.{Stem}
-use Rattle.sets_queue.specs.Contracts.{setKey, StemFits, keysWith, Inserted}
+use Rattle.sets_queue.specs.Clauses.{set_key, StemFits, keys_with, Inserted}
 use Rattle.sets_queue.proofs.Walking.{doubtful-more}
-use Rattle.sets_queue.proofs.Extending.{inserted-none, inserted-more, extension-keys, extensions-none, stem-fits}
+use Rattle.sets_queue.proofs.Extending.{inserted-none, inserted-more, extension_keys, extensions-none, stem-fits}
 use Rattle.sets_queue.proofs.extend.Statement.{statement}
 use Rattle.sets_queue.proofs.extend.Tie as tie
 
 abbrev invariant-loop : tie.invariant-loop
 invariant-loop mask leaves set low count room keys₀ stem small₀ end₀ j₀ keys small end j =
-    (pastLargest set ≤ j)
+    (past_largest set ≤ j)
     × (j ≤ 8 * length mask)
     × (small ≡ doubtful mask leaves j)
     × (length keys ≡ length keys₀)
-    × Inserted low count room end (map setKey (extensions mask leaves set j)) keys₀ keys
+    × Inserted low count room end (map set_key (extensions mask leaves set j)) keys₀ keys
 
 abbrev decreases-loop : tie.decreases-loop
 decreases-loop mask leaves set low count room keys₀ stem small₀ end₀ j₀ keys small end j = 8 * length mask - j
@@ -41,7 +41,7 @@ module _ (c : tie.After-stem-of invariant-loop decreases-loop) where
   abbrev set : List ℕ
   set = s.args.set.now
 
-  from_is : c.stem-of.result.from ≡ pastLargest set
+  from_is : c.stem-of.result.from ≡ past_largest set
   from_is = ap (λ (x : Stem). x.from) c.stem-of.ensures
 
   fits : StemFits c.stem-of.result
@@ -57,7 +57,7 @@ loop-holds c =
       c.doubtful.ensures,
       refl,
       subst (λ (new : List ℕ). Inserted (s t).args.low (s t).args.count (s t).args.room (s t).args.count new (s t).args.keys.now (s t).args.keys.now)
-          (ap (map setKey) (sym none)) (inserted-none (s t).requires.2),
+          (ap (map set_key) (sym none)) (inserted-none (s t).requires.2),
     )
 
 -- one index more is counted
@@ -80,14 +80,14 @@ loop-again c =
     let d = r.before.before in
     let i = (l d).loop.invariant in
     let p = t d in
-    let keys-are = ap (λ (x : Stem). keysWith (mask p) (leaves p) x ((l d).loop.small + d.doubt.result) (l d).loop.j) p.stem-of.ensures in (
+    let keys-are = ap (λ (x : Stem). keys_with (mask p) (leaves p) x ((l d).loop.small + d.doubt.result) (l d).loop.j) p.stem-of.ensures in (
       omega (arith, i.0),
       omega (arith, d.before.loop-test.true),
       more d,
       r.append.auto.1.1.1.1.1.1.1.1.0 ∙ i.3,
       subst (λ (new : List ℕ). Inserted (s p).args.low (s p).args.count (s p).args.room r.append.result new (s p).args.keys.now r.append.new.1.1.1.1.1.1.1.1.0)
-          (ap (λ (xs : List ℕ). map setKey (extensions (mask p) (leaves p) (set p) (l d).loop.j) ++ xs) keys-are
-          ∙ sym (extension-keys (mask p) (leaves p) (set p) (l d).loop.j ((l d).loop.small + d.doubt.result) (s p).pre.1.few i.0 (more d)))
+          (ap (λ (xs : List ℕ). map set_key (extensions (mask p) (leaves p) (set p) (l d).loop.j) ++ xs) keys-are
+          ∙ sym (extension_keys (mask p) (leaves p) (set p) (l d).loop.j ((l d).loop.small + d.doubt.result) (s p).pre.1.few i.0 (more d)))
           (inserted-more i.4 r.append.ensures),
     )
 
@@ -97,7 +97,7 @@ returns c =
     let p = k.before.before in
     let i = k.loop.invariant in
     let e : k.loop.j ≡ 8 * length (mask p) = omega (arith, i.1, c.loop-test.false) in
-    subst (λ (n : ℕ). Inserted (s p).args.low (s p).args.count (s p).args.room k.loop.end (map setKey (extensions (mask p) (leaves p) (set p) n)) (s p).args.keys.now k.loop.keys) e i.4
+    subst (λ (n : ℕ). Inserted (s p).args.low (s p).args.count (s p).args.room k.loop.end (map set_key (extensions (mask p) (leaves p) (set p) n)) (s p).args.keys.now k.loop.keys) e i.4
 
 pub extend-spec : {M : Type 1} → statement M
 extend-spec =

@@ -4,8 +4,8 @@ use mathlib.Core.List.{[], ◌∷◌}
 use Prim.Native.Nat.{ℕ, ◌-◌}
 use borrow.Author.Rules.{rules}
 use lib.ListN.{length}
-use Rattle.sets_queue.specs.Contracts.{digitAt, indicesOf}
-use Rattle.sets_queue.proofs.Keys.{one_index, two-indices, three-indices, stored_one, stored-two, stored-three}
+use Rattle.sets_queue.specs.Clauses.{digit_at, indices_of}
+use Rattle.sets_queue.proofs.Keys.{one_index, two_indices, three_indices, stored_one, stored_two, stored_three}
 use Rattle.sets_queue.proofs.indices_of.Statement.{statement}
 use Rattle.sets_queue.proofs.indices_of.Tie as tie
 
@@ -14,7 +14,7 @@ returns c =
     let d = c.before in
     let f = d.before in
     let s = f.before in
-    let e : indicesOf s.args.key ≡ (f.digit_at.result - 1) ∷ [] =
+    let e : indices_of s.args.key ≡ (f.digit_at.result - 1) ∷ [] =
     one_index s.args.key (sym d.digit-at2.ensures ∙ c.if1.true) ∙ ap (λ (x : ℕ). (x - 1) ∷ []) (sym f.digit_at.ensures) in
     (stored_one _ 0 0 s.args.set.now s.requires.1 ∙ sym e, sym (ap length e))
 
@@ -24,10 +24,10 @@ returns-2 c =
     let d = h.before.before in
     let f = d.before in
     let s = f.before in
-    let e : indicesOf s.args.key ≡ (f.digit_at.result - 1) ∷ (d.digit-at2.result - 1) ∷ [] =
-    two-indices s.args.key (λ q. h.before.if1.false (d.digit-at2.ensures ∙ q)) (sym h.digit-at3.ensures ∙ c.if2.true)
+    let e : indices_of s.args.key ≡ (f.digit_at.result - 1) ∷ (d.digit-at2.result - 1) ∷ [] =
+    two_indices s.args.key (λ q. h.before.if1.false (d.digit-at2.ensures ∙ q)) (sym h.digit-at3.ensures ∙ c.if2.true)
     ∙ ap₂ (λ (x y : ℕ). (x - 1) ∷ (y - 1) ∷ []) (sym f.digit_at.ensures) (sym d.digit-at2.ensures) in
-    (stored-two _ _ 0 s.args.set.now s.requires.1 ∙ sym e, sym (ap length e))
+    (stored_two _ _ 0 s.args.set.now s.requires.1 ∙ sym e, sym (ap length e))
 
 returns-3 : tie.Need-returns-3
 returns-3 c =
@@ -35,11 +35,11 @@ returns-3 c =
     let d = h.before.before in
     let f = d.before in
     let s = f.before in
-    let e : indicesOf s.args.key ≡ (f.digit_at.result - 1) ∷ (d.digit-at2.result - 1) ∷ (h.digit-at3.result - 1) ∷ [] =
-    three-indices s.args.key (λ q. h.before.if1.false (d.digit-at2.ensures ∙ q)) (λ q. c.if2.false (h.digit-at3.ensures ∙ q))
-    ∙ ap₂ (λ (x y : ℕ). (x - 1) ∷ (y - 1) ∷ (digitAt 1 s.args.key - 1) ∷ []) (sym f.digit_at.ensures) (sym d.digit-at2.ensures)
+    let e : indices_of s.args.key ≡ (f.digit_at.result - 1) ∷ (d.digit-at2.result - 1) ∷ (h.digit-at3.result - 1) ∷ [] =
+    three_indices s.args.key (λ q. h.before.if1.false (d.digit-at2.ensures ∙ q)) (λ q. c.if2.false (h.digit-at3.ensures ∙ q))
+    ∙ ap₂ (λ (x y : ℕ). (x - 1) ∷ (y - 1) ∷ (digit_at 1 s.args.key - 1) ∷ []) (sym f.digit_at.ensures) (sym d.digit-at2.ensures)
     ∙ ap (λ (z : ℕ). (f.digit_at.result - 1) ∷ (d.digit-at2.result - 1) ∷ (z - 1) ∷ []) (sym h.digit-at3.ensures) in
-    (stored-three _ _ _ s.args.set.now s.requires.1 ∙ sym e, sym (ap length e))
+    (stored_three _ _ _ s.args.set.now s.requires.1 ∙ sym e, sym (ap length e))
 
 pub indices-of-spec : {M : Type 1} → statement M
 indices-of-spec =

@@ -5,15 +5,15 @@ use Prim.Native.Nat.{ℕ, ◌-◌, ◌<◌, min}
 use native.Mathlib.Omega.{arith}
 use borrow.Author.Rules.{rules}
 use lib.ListN.{set, length-set}
-use Rattle.sets_queue.specs.Contracts.{Shifted, Inserted}
-use Rattle.sets_queue.proofs.Pools.{pool-put, pool-full}
+use Rattle.sets_queue.specs.Clauses.{Shifted, Inserted}
+use Rattle.sets_queue.proofs.Pools.{pool_put, pool_full}
 use Rattle.sets_queue.proofs.insert.Statement.{statement}
 use Rattle.sets_queue.proofs.insert.Tie as tie
 
 returns : tie.Need-returns
 returns c =
     let s = c.before.before.before.before in
-    record { places = s.requires; holds = λ ks pool. pool-full pool c.before.place_of.ensures s.requires c.if1.true }
+    record { places = s.requires; holds = λ ks pool. pool_full pool c.before.place_of.ensures s.requires c.if1.true }
 
 -- there is room for it
 module _ (c : tie.Else1) where
@@ -42,18 +42,18 @@ returns-2 c =
     subst (λ (r : ℕ). Inserted x.low x.count x.room r (x.key ∷ []) x.keys.now (set h.shift.new.1.1.0 (at e) x.key)) (sym c.min2.ensures)
     (record {
       places = record {
-        low-most = omega (arith, (s e).requires.low-most, (s e).requires.count_most, below e, e.before.place_of.ensures.least);
+        low_most = omega (arith, (s e).requires.low_most, (s e).requires.count_most, below e, e.before.place_of.ensures.least);
         count_most = omega arith;
         room_most = omega (arith, length-set h.shift.new.1.1.0 (at e) x.key, shifted.whole, (s e).requires.room_most);
       };
-      holds = λ ks pool. pool-put pool e.before.place_of.ensures (s e).requires (below e) shifted;
+      holds = λ ks pool. pool_put pool e.before.place_of.ensures (s e).requires (below e) shifted;
     })
 
 pub insert-spec : {M : Type 1} → statement M
 insert-spec =
     tie.close
     (tie.spec
-    (λ c κs. let p = c.before.before.requires in (p.low-most, omega (arith, p.count_most, p.room_most)))
+    (λ c κs. let p = c.before.before.requires in (p.low_most, omega (arith, p.count_most, p.room_most)))
     (λ c. search rules)
     returns
     (λ c. omega (arith, below c))

@@ -4,12 +4,12 @@ use native.Mathlib.Nat.{mul-le-mul}
 use native.Mathlib.Omega.{arith}
 use borrow.Author.Rules.{rules}
 use Rattle.arrays.specs.Claims.{longest}
-use Rattle.sets_queue.specs.Contracts.{base}
+use Rattle.sets_queue.specs.Clauses.{base}
 use Rattle.sets_queue.proofs.key_with.Statement.{statement}
 use Rattle.sets_queue.proofs.key_with.Tie as tie
 
 product : (s : tie.Start) → (s.args.j + 1) * s.args.stem.weight ≤ longest * base ^ 2
-product s = let l : s.args.j + 1 ≤ longest = omega (arith, s.requires.0) in mul-le-mul l s.requires.2.weight-most
+product s = let l : s.args.j + 1 ≤ longest = omega (arith, s.requires.0) in mul-le-mul l s.requires.2.weight_most
 
 pub key-with-spec : {M : Type 1} → statement M
 key-with-spec =
@@ -24,9 +24,9 @@ key-with-spec =
     (λ c. search rules)
     (λ c. search rules)
     (λ c. omega (arith, product c.before.before.before))
-    (λ c. let s = c.before.before.before.before in omega (arith, product s, s.requires.2.digits-most))
+    (λ c. let s = c.before.before.before.before in omega (arith, product s, s.requires.2.digits_most))
     (λ c.
     let m = c.before.before.before in
     let s = m.before in
-    omega (arith, product s, m.magnitude-at.ensures, s.requires.1, s.requires.2.sum-most, s.requires.2.digits-most, s.requires.3))
+    omega (arith, product s, m.magnitude-at.ensures, s.requires.1, s.requires.2.sum_most, s.requires.2.digits_most, s.requires.3))
     (λ c. search rules))

@@ -5,8 +5,8 @@ use borrow.Author.Rules.{rules}
 use lib.IntN.{ℤ, pos, nat_abs}
 use lib.ListN.{get_or}
 use mir.Syntax.{w32, w64}
-use Rattle.laws.proofs.Signed.{back, back_is, back-small, cast-nat}
-use Rattle.flip_order.specs.Order.{magnitudeAt}
+use Rattle.laws.proofs.Signed.{back, back_is, back-small, cast_nat}
+use Rattle.flip_order.specs.Order.{magnitude_at}
 use Rattle.sets_queue.proofs.magnitude_at.Statement.{statement}
 use Rattle.sets_queue.proofs.magnitude_at.Tie as tie
 
@@ -14,7 +14,7 @@ use Rattle.sets_queue.proofs.magnitude_at.Tie as tie
 leaf-back : (s : tie.Start) → back w32 (get_or s.args.leaves.now s.args.j (pos 0)) ≡ get_or s.args.leaves.now s.args.j (pos 0)
 leaf-back s = back-small w32 _ s.requires.1
 
-magnitude-back : (c : tie.After-magnitude) → back w32 c.magnitude.result ≡ pos (magnitudeAt c.before.before.args.leaves.now c.before.before.args.j)
+magnitude-back : (c : tie.After-magnitude) → back w32 c.magnitude.result ≡ pos (magnitude_at c.before.before.args.leaves.now c.before.before.args.j)
 magnitude-back c =
     let s = c.before.before in
     back_is w32 c.magnitude.result (record { sfits = c.magnitude.type-inv }) ∙ c.magnitude.ensures ∙ ap (λ (z : ℤ). pos (nat_abs z)) (leaf-back s)
@@ -26,5 +26,5 @@ magnitude-at-spec =
     (λ c. search rules)
     (λ c. search rules)
     (λ c κs. search rules)
-    (λ c. cast-nat w64 _ _ (magnitude-back c) (omega (arith, c.before.before.requires.1)))
+    (λ c. cast_nat w64 _ _ (magnitude-back c) (omega (arith, c.before.before.requires.1)))
     (λ c. ap nat_abs (magnitude-back c)))

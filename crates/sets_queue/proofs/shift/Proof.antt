@@ -2,7 +2,7 @@
 use native.Mathlib.Omega.{arith}
 use borrow.Author.Rules.{rules}
 use Prim.Native.Nat.{◌-◌}
-use Rattle.sets_queue.proofs.Pools.{Shifting, shift_none, shift-more, shift-done}
+use Rattle.sets_queue.proofs.Pools.{Shifting, shift_none, shift_more, shift_done}
 use Rattle.sets_queue.proofs.shift.Statement.{statement}
 use Rattle.sets_queue.proofs.shift.Tie as tie
 
@@ -16,7 +16,7 @@ loop-again : tie.Need-loop-preserved invariant-loop decreases-loop
 loop-again c =
     let l = c.before.before in
     let s = l.before in
-    shift-more l.loop.invariant c.before.loop-test.true (omega (arith, l.loop.invariant.most, s.requires.1))
+    shift_more l.loop.invariant c.before.loop-test.true (omega (arith, l.loop.invariant.most, s.requires.1))
 
 pub shift-spec : {M : Type 1} → statement M
 shift-spec =
@@ -34,4 +34,4 @@ shift-spec =
     (λ c. search rules)
     loop-again
     (λ c. c.before.loop.invariant.whole)
-    (λ c. shift-done c.before.loop.invariant c.loop-test.false))
+    (λ c. shift_done c.before.loop.invariant c.loop-test.false))

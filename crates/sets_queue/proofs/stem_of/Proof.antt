@@ -7,8 +7,8 @@ use borrow.Author.Rules.{rules}
 use lib.IntN.{ℤ}
 use lib.ListN.{length, get_or}
 use Rattle.sets_queue.specs.declared.Stem.{Stem}
-use Rattle.sets_queue.specs.Contracts.{stemWith}
-use Rattle.sets_queue.proofs.Stems.{root, stem-none, stem-one, stem-two}
+use Rattle.sets_queue.specs.Clauses.{stem_with}
+use Rattle.sets_queue.proofs.Stems.{root, stem-none, stem_one, stem_two}
 use Rattle.sets_queue.proofs.stem_of.Statement.{statement}
 use Rattle.sets_queue.proofs.stem_of.Tie as tie
 
@@ -23,7 +23,7 @@ module _ (c : tie.After-stem-with) where
   abbrev set : List ℕ
   set = s.args.set.now
 
-  one : c.stem-with.result ≡ stemWith leaves root (get_or set 0 0)
+  one : c.stem-with.result ≡ stem_with leaves root (get_or set 0 0)
   one = c.stem-with.ensures
 
   some : 0 < length set
@@ -52,7 +52,7 @@ returns-3 : tie.Need-returns-3
 returns-3 c =
     let a = c.before.before.before in
     let two : length (set a) ≡ 2 = omega (arith, some a, c.before.before.if2.false, (s a).requires.few) in
-    c.stem-with2.ensures ∙ ap (λ (x : Stem). stemWith (leaves a) x (get_or (set a) 1 0)) (one a) ∙ sym (stem-two (leaves a) (set a) two)
+    c.stem-with2.ensures ∙ ap (λ (x : Stem). stem_with (leaves a) x (get_or (set a) 1 0)) (one a) ∙ sym (stem_two (leaves a) (set a) two)
 
 pub stem-of-spec : {M : Type 1} → statement M
 stem-of-spec =
@@ -62,7 +62,7 @@ stem-of-spec =
     (λ c. let s = c.before.before in sym (stem-none s.args.leaves.now s.args.set.now c.if1.true))
     (λ c. search rules)
     stem-with-requires
-    (λ c. one c.before ∙ sym (stem-one (leaves c.before) (set c.before) c.if2.true))
+    (λ c. one c.before ∙ sym (stem_one (leaves c.before) (set c.before) c.if2.true))
     (λ c. search rules)
     stem-with-requires-2
     returns-3)

@@ -6,7 +6,7 @@ use native.Mathlib.Omega.{arith}
 use borrow.Author.Rules.{rules}
 use Rattle.arrays.specs.Claims.{longest}
 use Rattle.sets_queue.specs.declared.Stem.{Stem}
-use Rattle.sets_queue.specs.Contracts.{base}
+use Rattle.sets_queue.specs.Clauses.{base}
 use Rattle.sets_queue.proofs.stem_with.Statement.{statement}
 use Rattle.sets_queue.proofs.stem_with.Tie as tie
 

@@ -8,10 +8,10 @@ use lib.ListN.{get_or, take}
 use lib.Seq.{length-take-le, get_or-take}
 use mir.Syntax.{w32}
 use Rattle.laws.specs.Table.{table}
-use Rattle.laws.specs.Contracts.{splice}
-use Rattle.laws.proofs.Table.{table-getD}
+use Rattle.laws.specs.Clauses.{splice}
+use Rattle.laws.proofs.Table.{table-get_or}
 use Rattle.laws.proofs.Signed.{back-small}
-use Rattle.laws.proofs.Filling.{Filling, filling-none, filling-more, filling-done}
+use Rattle.laws.proofs.Filling.{Filling, filling_none, filling_more, filling_done}
 use Rattle.sets_run.proofs.copy_values.Statement.{statement}
 use Rattle.sets_run.proofs.copy_values.Tie as tie
 
@@ -27,7 +27,7 @@ loop-again c =
     let l = c.before.before.loop in
     let here = c.before.loop-test.true in
     let source = s.args.source.now in
-    filling-more l.invariant _ _ here (omega arith)
+    filling_more l.invariant _ _ here (omega arith)
     (back-small w32 (get_or source l.j (pos 0)) (omega (arith, s.requires.2.at l.j here)) ∙ sym (get_or-take s.args.count source l.j (pos 0) here))
 
 returns : tie.Need-returns invariant-loop decreases-loop
@@ -36,9 +36,9 @@ returns c =
     let source = s.args.source.now in
     let count = s.args.count in
     let long = length-take-le count source (omega (arith, s.requires)) in
-    filling-done c.before.loop.invariant (omega arith) (omega (arith, s.requires))
+    filling_done c.before.loop.invariant (omega arith) (omega (arith, s.requires))
     ∙ ap (λ (n : ℕ). splice s.args.target.now 0 (table (λ i. get_or (take count source) i (pos 0)) n)) (sym long)
-    ∙ ap (splice s.args.target.now 0) (table-getD (take count source) (pos 0))
+    ∙ ap (splice s.args.target.now 0) (table-get_or (take count source) (pos 0))
 
 pub copy-values-spec : {M : Type 1} → statement M
 copy-values-spec =
@@ -46,7 +46,7 @@ copy-values-spec =
     (tie.spec
     invariant-loop
     decreases-loop
-    (λ c. filling-none)
+    (λ c. filling_none)
     (λ c. search rules)
     (λ c. omega (arith, c.loop-test.true, c.before.before.requires.0))
     (λ c. search rules)

@@ -8,9 +8,9 @@ use lib.ListN.{length}
 use Rattle.arrays.specs.Claims.{longest}
 use Rattle.arrays.proofs.Sizes.{fits}
 use Rattle.flip_run.specs.Trials.{Verdict}
-use Rattle.flip_run.specs.Contracts.{Ran}
-use Rattle.flip_run.proofs.LoopStep.{ran-answers, ran_bits}
-use Rattle.sets_run.specs.Contracts.{verdictBy}
+use Rattle.flip_run.specs.Clauses.{Ran}
+use Rattle.flip_run.proofs.LoopStep.{ran_answers, ran_bits}
+use Rattle.sets_run.specs.Clauses.{verdict_by}
 use Rattle.sets_run.proofs.decode_in.Statement.{statement}
 use Rattle.sets_run.proofs.decode_in.Tie as tie
 
@@ -27,7 +27,7 @@ module _ (c : tie.After-run-trials) where
   message = c.run-trials.new.1.1.1.1.1.1.1.1.0
 
   abbrev verdict : Verdict
-  verdict = verdictBy s.args.search s.args.mask.now s.args.code s.args.channel.now
+  verdict = verdict_by s.args.search s.args.mask.now s.args.code s.args.channel.now
 
   same-room : length message ≡ longest
   same-room = c.run-trials.ensures.1
@@ -40,14 +40,14 @@ answer-requires c κs =
     let r = c.before.before in
     let x = (s r).args in
     let p = (s r).requires in
-    (omega (arith, same-room r, p.sets.frame.coded.K-most, fits p.sets.frame.coded.n-most), ran_bits x.mask.now x.code (verdict r) r.run-trials.result (message r) (ran r), p.output-size)
+    (omega (arith, same-room r, p.sets.frame.coded.K_most, fits p.sets.frame.coded.n_most), ran_bits x.mask.now x.code (verdict r) r.run-trials.result (message r) (ran r), p.output_size)
 
 returns : tie.Need-returns
 returns c =
     let a = c.before.before in
     let r = a.before.before.before in
     let x = (s r).args in
-    a.answer.ensures ∙ ran-answers x.mask.now x.code x.output.now (verdict r) r.run-trials.result (message r) (ran r)
+    a.answer.ensures ∙ ran_answers x.mask.now x.code x.output.now (verdict r) r.run-trials.result (message r) (ran r)
 
 pub decode-in-spec : {M : Type 1} → statement M
 decode-in-spec =

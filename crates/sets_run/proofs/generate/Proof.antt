@@ -8,9 +8,9 @@ use borrow.Author.Tests.{lt-ltb, le-ltb}
 use lib.IntN.{ℤ, nat_abs}
 use lib.ListN.{length}
 use Rattle.sets_tried.proofs.Members.{past-most}
-use Rattle.sets_queue.specs.Contracts.{Small}
+use Rattle.sets_queue.specs.Clauses.{Small}
 use Rattle.sets_queue.proofs.Extending.{inserted-none}
-use Rattle.sets_run.specs.Contracts.{leavesFrom, HeldLeaves}
+use Rattle.sets_run.specs.Clauses.{leaves_from, HeldLeaves}
 use Rattle.sets_run.proofs.Leaves.{leaf-before}
 use Rattle.sets_run.proofs.generate.Statement.{statement}
 use Rattle.sets_run.proofs.generate.Tie as tie
@@ -41,15 +41,15 @@ module _ (c : tie.Else1) where
   there = s.pre.2.held more
 
   room : s.args.q ≤ length values
-  room = omega (arith, there.q-most, there.values-there)
+  room = omega (arith, there.q_most, there.values_there)
 
 copy-values-requires : tie.Need-copy-values-requires
 copy-values-requires c κs =
     let r = c.before in
     let q = (s r).args.q in (
       room r,
-      omega (arith, (there r).q-most, (there r).leaves-there),
-      record { at = λ j l. omega (arith, ap nat_abs (leaf-before q (values r) (leaves r) (room r) j l), (there r).small.at j (omega (arith, (there r).q-most))) },
+      omega (arith, (there r).q_most, (there r).leaves_there),
+      record { at = λ j l. omega (arith, ap nat_abs (leaf-before q (values r) (leaves r) (room r) j l), (there r).small.at j (omega (arith, (there r).q_most))) },
     )
 
 -- the leaf values are in place
@@ -57,7 +57,7 @@ module _ (c : tie.After-copy-values) where
   abbrev r : tie.Else1
   r = c.before.before
 
-  held : c.copy-values.new.1.0 ≡ leavesFrom (s r).args.q (values r) (leaves r)
+  held : c.copy-values.new.1.0 ≡ leaves_from (s r).args.q (values r) (leaves r)
   held = c.copy-values.ensures
 
   small : Small (size r) c.copy-values.new.1.0
@@ -70,8 +70,8 @@ extend-requires : tie.Need-extend-requires
 extend-requires c κs =
     let k = c.before.before.before.before in
     let p = (s (r k)).pre in (
-      record { there = omega (arith, same-room k, (there (r k)).leaves-there); fits = p.0; small = small k },
-      record { few = omega (arith, more (r k), p.2.flips-most); below = p.1.below; past = past-most p.1; small = λ a m. (small k).at _ (p.1.below a m) },
+      record { there = omega (arith, same-room k, (there (r k)).leaves_there); fits = p.0; small = small k },
+      record { few = omega (arith, more (r k), p.2.flips_most); below = p.1.below; past = past-most p.1; small = λ a m. (small k).at _ (p.1.below a m) },
       p.3,
     )
 
@@ -89,7 +89,7 @@ generate-spec =
     returns
     copy-values-requires
     (λ c. search rules)
-    (λ c. let k = c.before.before in omega (arith, (s (r k)).pre.2.limit-least))
+    (λ c. let k = c.before.before in omega (arith, (s (r k)).pre.2.limit_least))
     extend-requires
     (λ c. search rules)
     (λ c. search rules)

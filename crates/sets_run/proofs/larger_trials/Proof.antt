@@ -2,8 +2,8 @@
 use mathlib.Core.Path.{refl}
 use native.Mathlib.Omega.{arith}
 use borrow.Author.Rules.{rules}
-use Rattle.decoder.proofs.Limit.{limit-larger}
-use Rattle.sets_run.proofs.First.{set-none, walk_first, first-pool}
+use Rattle.decoder.proofs.Limit.{limit_larger}
+use Rattle.sets_run.proofs.First.{set-none, walk_first, first_pool}
 use Rattle.sets_run.proofs.larger_trials.Statement.{statement}
 use Rattle.sets_run.proofs.larger_trials.Tie as tie
 
@@ -13,14 +13,14 @@ extend-requires c κs =
     let on = s.requires.0 in (
       walk_first on s.requires.1.leaves,
       set-none _ _,
-      record { low-most = omega arith; count_most = omega arith; room_most = omega (arith, limit-larger s.args.search.w s.args.code s.requires.2, on.limit-most) },
+      record { low_most = omega arith; count_most = omega arith; room_most = omega (arith, limit_larger s.args.search.w s.args.code s.requires.2, on.limit_most) },
     )
 
 set-trials-requires : tie.Need-set-trials-requires
 set-trials-requires c κs =
     let e = c.before.before.before.before.before.before.before in
     let p = e.before.before.before.before.before.before.before.requires in
-    (p.0, p.1.later, (λ _. p.1.leaves), first-pool p.0 p.1.leaves e.extend.ensures, record { work = p.1.whole.work; bits = p.1.whole.bits; sums = p.1.whole.sums; leaves = refl })
+    (p.0, p.1.later, (λ _. p.1.leaves), first_pool p.0 p.1.leaves e.extend.ensures, record { work = p.1.whole.work; bits = p.1.whole.bits; sums = p.1.whole.sums; leaves = refl })
 
 pub larger-trials-spec : {M : Type 1} → statement M
 larger-trials-spec =

@@ -3,10 +3,10 @@ use mathlib.Core.Path.{sym, ap, ◌∙◌, subst}
 use Prim.Native.Nat.{ℕ}
 use native.Mathlib.Omega.{arith}
 use borrow.Author.Rules.{rules}
-use Rattle.channel.specs.Channel.{channelValues}
+use Rattle.channel.specs.Channel.{channel_values}
 use Rattle.flip_run.specs.declared.Ended.TheVariants.{Failed}
 use Rattle.flip_run.specs.Trials.{Verdict}
-use Rattle.flip_run.specs.Contracts.{BeginPost, Ran}
+use Rattle.flip_run.specs.Clauses.{BeginPost, Ran}
 use Rattle.sets_run.proofs.First.{none_allowed}
 use Rattle.sets_run.proofs.run_trials.Statement.{statement}
 use Rattle.sets_run.proofs.run_trials.Tie as tie
@@ -24,7 +24,7 @@ returns c =
     let made = t.trials.given.0 in
     let e = subst (BeginPost _ _ _ _ _ _) t.trials.given.1 b.begin.ensures in (
       subst (λ (w : Verdict). Ran x.mask.now x.code w (Failed made.0 made.1.0) b.begin.new.1.1.1.1.1.1.1.0)
-          (sym (e.1.later.goes_on _ ∙ none_allowed x.search x.mask.now x.code (channelValues x.channel.now) made.1.0 c.if1.true))
+          (sym (e.1.later.goes_on _ ∙ none_allowed x.search x.mask.now x.code (channel_values x.channel.now) made.1.0 c.if1.true))
           (ap (λ (m : ℕ). Failed m made.1.0) e.0),
       e.1.whole.sums,
     )
@@ -45,7 +45,7 @@ larger-trials-requires c κs =
     let b = t.before.before in
     let p = b.before.before.before.before.before.before.before.before.requires in
     let e = subst (BeginPost _ _ _ _ _ _) t.trials.given.1 b.begin.ensures in
-    (p.0, e.1, omega (arith, f.if2.false, p.0.flips-least))
+    (p.0, e.1, omega (arith, f.if2.false, p.0.flips_least))
 
 returns-3 : tie.Need-returns-3
 returns-3 c =

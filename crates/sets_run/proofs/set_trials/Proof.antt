@@ -8,34 +8,34 @@ use borrow.Author.Rules.{rules}
 use lib.IntN.{ℤ}
 use lib.ListN.{length, get_or, take, length-take}
 use lib.Seq.{get_or-take}
-use Rattle.arrays.specs.Claims.{mostSteps, longest}
-use Rattle.arrays.proofs.Sizes.{fits, steps-fit}
-use Rattle.code.specs.Code.{codeLength}
-use Rattle.channel.specs.Channel.{channelValues}
+use Rattle.arrays.specs.Claims.{most_steps, longest}
+use Rattle.arrays.proofs.Sizes.{fits, steps_fit}
+use Rattle.code.specs.Code.{code_length}
+use Rattle.channel.specs.Channel.{channel_values}
 use Rattle.pass_tree.specs.declared.Work.{Work}
 use Rattle.pass_tree.specs.Node.{Out}
-use Rattle.pass_ends.specs.Contracts.{Arrays, arrays, Whole}
-use Rattle.flip_trial.specs.Trial.{restartAt, laterTrial, trialPasses}
+use Rattle.pass_ends.specs.Clauses.{Arrays, arrays, Whole}
+use Rattle.flip_trial.specs.Trial.{restart_at, later_trial, trial_passes}
 use Rattle.flip_trial.specs.Flips.{Flips}
-use Rattle.flip_trial.specs.Contracts.{PlainRules, TrialPost}
-use Rattle.flip_trial.proofs.Bounds.{later-bits, later-steps}
-use Rattle.flip_trial.proofs.Passes.{q-is, later-pre, later-made, plain-after}
+use Rattle.flip_trial.specs.Clauses.{PlainRules, TrialPost}
+use Rattle.flip_trial.proofs.Bounds.{later-bits, later_steps}
+use Rattle.flip_trial.proofs.Passes.{q_is, later_pre, later_made, plain_after}
 use Rattle.flip_run.specs.declared.Ended.TheVariants.{Passed, Failed}
 use Rattle.flip_run.specs.Trials.{Verdict}
-use Rattle.flip_run.specs.Contracts.{Ran}
-use Rattle.flip_run.proofs.LoopStep.{trial_on, ran-passed}
+use Rattle.flip_run.specs.Clauses.{Ran}
+use Rattle.flip_run.proofs.LoopStep.{trial_on, ran_passed}
 use Rattle.decoder.specs.Candidate.{Candidate}
-use Rattle.decoder.proofs.Limit.{limit-fits}
-use Rattle.sets_queue.specs.Contracts.{setKey, Inserted}
-use Rattle.sets_run.specs.Contracts.{resumedAt}
-use Rattle.sets_run.proofs.Searching.{Searching, search-starts, search-ends, search-next, next-some, next-indices, next-places, next-flips, search-passes, search-goes-on}
-use Rattle.sets_run.proofs.Held.{leaves-pre, generated-is}
+use Rattle.decoder.proofs.Limit.{limit_fits}
+use Rattle.sets_queue.specs.Clauses.{set_key, Inserted}
+use Rattle.sets_run.specs.Clauses.{resumed_at}
+use Rattle.sets_run.proofs.Searching.{Searching, search_starts, search_ends, search_next, next_some, next_indices, next_places, next_flips, search_passes, search_goes_on}
+use Rattle.sets_run.proofs.Held.{leaves_pre, generated-is}
 use Rattle.sets_run.proofs.set_trials.Statement.{statement}
 use Rattle.sets_run.proofs.set_trials.Tie as tie
 
 abbrev invariant-loop : tie.invariant-loop
 invariant-loop search mask code channel first values rules₀ work₀ sums₀ leaves₀ keys₀ restart bits₀ end₀ at₀ steps₀ rules work sums leaves keys bits end at steps =
-    ((untried : List Candidate) × Searching search mask code (channelValues channel) steps₀ at end steps keys untried)
+    ((untried : List Candidate) × Searching search mask code (channel_values channel) steps₀ at end steps keys untried)
     × PlainRules longest mask code rules
     × Whole longest (arrays work bits sums leaves)
     × (length keys ≡ length keys₀)
@@ -47,7 +47,7 @@ decreases-loop search mask code channel first values rules₀ work₀ sums₀ le
 loop-holds : tie.Need-loop-init invariant-loop decreases-loop
 loop-holds c =
     let p = c.before.before.before.requires in
-    ((_, search-starts (steps-fit p.0.frame.coded.n-most p.1.start-most) p.3), p.1.plain, record { work = p.4.work; bits = refl; sums = p.4.sums; leaves = p.4.leaves }, refl)
+    ((_, search_starts (steps_fit p.0.frame.coded.n_most p.1.start_most) p.3), p.1.plain, record { work = p.4.work; bits = refl; sums = p.4.sums; leaves = p.4.leaves }, refl)
 
 -- at the loop's head
 module _ (c : tie.At-loop invariant-loop decreases-loop) where
@@ -58,13 +58,13 @@ module _ (c : tie.At-loop invariant-loop decreases-loop) where
   mask = s.args.mask.now
 
   abbrev v : List ℤ
-  v = channelValues s.args.channel.now
+  v = channel_values s.args.channel.now
 
   abbrev later : List ℕ → Out
-  later is = laterTrial s.args.search.restart mask s.args.code v is
+  later is = later_trial s.args.search.restart mask s.args.code v is
 
-  size_fits : codeLength s.args.code ≤ longest
-  size_fits = fits s.pre.0.frame.coded.n-most
+  size_fits : code_length s.args.code ≤ longest
+  size_fits = fits s.pre.0.frame.coded.n_most
 
   going : Searching s.args.search mask s.args.code v s.args.started.steps c.loop.at c.loop.end c.loop.steps c.loop.keys c.loop.invariant.0.0
   going = c.loop.invariant.0.1
@@ -72,7 +72,7 @@ module _ (c : tie.At-loop invariant-loop decreases-loop) where
   at_most : c.loop.at ≤ longest
   at_most =
       let on = s.pre.0 in
-      omega (arith, going.places.low-most, going.places.count_most, on.limit-most, limit-fits s.args.search.w s.args.code (omega (arith, on.frame.coded.K-most, size_fits)))
+      omega (arith, going.places.low_most, going.places.count_most, on.limit_most, limit_fits s.args.search.w s.args.code (omega (arith, on.frame.coded.K_most, size_fits)))
 
 -- the next set
 module _ (c : tie.In-loop invariant-loop decreases-loop) where
@@ -80,12 +80,12 @@ module _ (c : tie.In-loop invariant-loop decreases-loop) where
   l = c.before
 
   next : (x : Candidate) × (xs : List Candidate) × Searching (s l).args.search (mask l) (s l).args.code (v l) (s l).args.started.steps l.loop.at l.loop.end l.loop.steps l.loop.keys (x ∷ xs)
-  next = search-next (going l) c.loop-test.true
+  next = search_next (going l) c.loop-test.true
 
 indices-of-requires : tie.Need-indices-of-requires invariant-loop decreases-loop
 indices-of-requires c κs =
     let i = c.before.before in
-    (next-some (s (l i)).pre.0 (next i).2, refl)
+    (next_some (s (l i)).pre.0 (next i).2, refl)
 
 -- its indices
 module _ (c : tie.After-indices-of invariant-loop decreases-loop) where
@@ -102,10 +102,10 @@ module _ (c : tie.After-indices-of invariant-loop decreases-loop) where
   size_is = c.indices-of.ensures.1 ∙ ap length (sym c.indices-of.ensures.0)
 
   set_is : set ≡ (next i).0.flips
-  set_is = c.indices-of.ensures.0 ∙ next-indices (s h).pre.0 (next i).2
+  set_is = c.indices-of.ensures.0 ∙ next_indices (s h).pre.0 (next i).2
 
-  set-flips : Flips (mask h) (codeLength (s h).args.code) set
-  set-flips = (next-flips (s h).pre.0 (next i).2 set_is).flips
+  set-flips : Flips (mask h) (code_length (s h).args.code) set
+  set-flips = (next_flips (s h).pre.0 (next i).2 set_is).flips
 
   room : c.indices-of.result ≤ length c.indices-of.new.1.0
   room = omega (arith, size_is, length-take c.indices-of.result c.indices-of.new.1.0)
@@ -127,15 +127,15 @@ module _ (c : tie.After-restart-index invariant-loop decreases-loop) where
   abbrev m : tie.At-loop invariant-loop decreases-loop
   m = h j
 
-  resumes : c.restart-index.result ≡ restartAt (s m).args.search.restart (mask m) (8 * length (mask m)) (get_or (set j) 0 0)
-  resumes = c.restart-index.ensures ∙ ap (restartAt (s m).args.search.restart (mask m) (8 * length (mask m))) (low-is j)
+  resumes : c.restart-index.result ≡ restart_at (s m).args.search.restart (mask m) (8 * length (mask m)) (get_or (set j) 0 0)
+  resumes = c.restart-index.ensures ∙ ap (restart_at (s m).args.search.restart (mask m) (8 * length (mask m))) (low-is j)
 
 later-trial-requires : tie.Need-later-trial-requires invariant-loop decreases-loop
 later-trial-requires c κs =
     let r = c.before.before.before.before.before.before in
     let p = (s (m r)).pre in
     let inv = (m r).loop.invariant in
-    (trial_on p.0.frame inv.1.whole inv.2, later-pre inv.1 p.1.first-bits (set-flips (j r)) (s (m r)).args.search.restart p.0.frame.coded.mask_size (resumes r))
+    (trial_on p.0.frame inv.1.whole inv.2, later_pre inv.1 p.1.first_bits (set-flips (j r)) (s (m r)).args.search.restart p.0.frame.coded.mask_size (resumes r))
 
 -- its trial
 module _ (c : tie.After-later-trial invariant-loop decreases-loop) where
@@ -152,19 +152,19 @@ module _ (c : tie.After-later-trial invariant-loop decreases-loop) where
   o = later a is
 
   abbrev q : ℕ
-  q = resumedAt (s a).args.search (mask a) (s a).args.code is
+  q = resumed_at (s a).args.search (mask a) (s a).args.code is
 
   abbrev after : Arrays
   after = let last = c.later-trial.new.1.1.1.1.1.1 in arrays last.0 last.1.0 last.1.1.0 last.1.1.1.0
 
   made-is : TrialPost longest (s a).args.code q o after c.later-trial.result
-  made-is = later-made a.loop.inv.1 (s a).pre.1.first-bits (set-flips (j r)) (s a).args.search.restart (s a).pre.0.frame.coded.mask_size (resumes r) c.later-trial.ensures.0
+  made-is = later_made a.loop.inv.1 (s a).pre.1.first_bits (set-flips (j r)) (s a).args.search.restart (s a).pre.0.frame.coded.mask_size (resumes r) c.later-trial.ensures.0
 
   took : c.later-trial.result.steps ≡ o.work.steps
   took = ap (λ (w : Work). w.steps) made-is.work
 
-  few : c.later-trial.result.steps ≤ mostSteps
-  few = steps-fit (s a).pre.0.frame.coded.n-most (omega (arith, took, later-steps (mask a) (s a).args.code (v a) is q))
+  few : c.later-trial.result.steps ≤ most_steps
+  few = steps_fit (s a).pre.0.frame.coded.n_most (omega (arith, took, later_steps (mask a) (s a).args.code (v a) is q))
 
 trial-passes-requires : tie.Need-trial-passes-requires invariant-loop decreases-loop
 trial-passes-requires c κs =
@@ -177,8 +177,8 @@ module _ (c : tie.After-trial-passes invariant-loop decreases-loop) where
   abbrev k : tie.After-later-trial invariant-loop decreases-loop
   k = c.before.before.before.before
 
-  ok-is : c.trial-passes.result ≡ trialPasses (mask (a k)) (s (a k)).args.code (o k).bits
-  ok-is = c.trial-passes.ensures.0 ∙ ap (trialPasses (mask (a k)) (s (a k)).args.code) (made-is k).bits
+  ok-is : c.trial-passes.result ≡ trial_passes (mask (a k)) (s (a k)).args.code (o k).bits
+  ok-is = c.trial-passes.ensures.0 ∙ ap (trial_passes (mask (a k)) (s (a k)).args.code) (made-is k).bits
 
   -- the message stands in the place of the sums
   same-room : length c.trial-passes.new.1.1.1.0 ≡ longest
@@ -191,18 +191,18 @@ returns c =
     let b = a t in
     let on = (s b).pre in (
       subst (λ (w : Verdict). Ran (mask b) (s b).args.code w (Passed (b.loop.at + 1 + 1) (b.loop.steps + t.later-trial.result.steps)) p.trial-passes.new.1.1.1.0)
-          (sym (on.1.goes_on _ ∙ search-passes on.0 (next (i (j (r t)))).2 (set_is (j (r t))) (took t) (sym (ok-is p) ∙ c.if1.true)))
-          (ran-passed on.0.frame.coded _ _ (made-is t).bits p.trial-passes.ensures.1 (later-bits (mask b) (s b).args.code (v b) (is t) (q t))),
+          (sym (on.1.goes_on _ ∙ search_passes on.0 (next (i (j (r t)))).2 (set_is (j (r t))) (took t) (sym (ok-is p) ∙ c.if1.true)))
+          (ran_passed on.0.frame.coded _ _ (made-is t).bits p.trial-passes.ensures.1 (later-bits (mask b) (s b).args.code (v b) (is t) (q t))),
       same-room p,
     )
 
 -- what its failed trial generates
 module _ (c : tie.After-later-trial invariant-loop decreases-loop) where
-  abbrev coded-size : 8 * length (mask (a c)) ≡ codeLength (s (a c)).args.code
+  abbrev coded-size : 8 * length (mask (a c)) ≡ code_length (s (a c)).args.code
   coded-size = (s (a c)).pre.0.frame.coded.mask_size
 
   resumes-at : (r c).restart-index.result ≡ q c
-  resumes-at = q-is (a c).loop.invariant.1 (s (a c)).pre.1.first-bits (set-flips (j (r c))) (s (a c)).args.search.restart coded-size (resumes (r c))
+  resumes-at = q_is (a c).loop.invariant.1 (s (a c)).pre.1.first_bits (set-flips (j (r c))) (s (a c)).args.search.restart coded-size (resumes (r c))
 
 generate-requires : tie.Need-generate-requires invariant-loop decreases-loop
 generate-requires c κs =
@@ -210,8 +210,8 @@ generate-requires c κs =
     let p = (s (a t)).pre in (
       omega (arith, coded-size t, size_fits (a t)),
       subst (λ (n : ℕ). Flips (mask (a t)) n (is t)) (sym (coded-size t)) (set-flips (j (r t))),
-      leaves-pre p.0 (set-flips (j (r t))) p.2 (made-is t) (coded-size t) (resumes-at t),
-      next-places p.0 (next (i (j (r t)))).2,
+      leaves_pre p.0 (set-flips (j (r t))) p.2 (made-is t) (coded-size t) (resumes-at t),
+      next_places p.0 (next (i (j (r t)))).2,
     )
 
 loop-again : tie.Need-loop-preserved invariant-loop decreases-loop
@@ -225,11 +225,11 @@ loop-again c =
     let whole = (made-is t).whole in (
       (
         _,
-        search-goes-on on.0 (next (i (j (r t)))).2 (set_is (j (r t))) (took t) (sym (ok-is p) ∙ e.if1.false) (few t)
-            (subst (λ (new : List Candidate). Inserted (b.loop.at + 1) b.loop.end ((s b).args.search.limit - 1) w.generate.result (map setKey new) b.loop.keys w.generate.new.1.1.1.1.1.1.1.1.0)
+        search_goes_on on.0 (next (i (j (r t)))).2 (set_is (j (r t))) (took t) (sym (ok-is p) ∙ e.if1.false) (few t)
+            (subst (λ (new : List Candidate). Inserted (b.loop.at + 1) b.loop.end ((s b).args.search.limit - 1) w.generate.result (map set_key new) b.loop.keys w.generate.new.1.1.1.1.1.1.1.1.0)
             (generated-is on.0 (set-flips (j (r t))) on.2 (made-is t) (coded-size t) (resumes-at t)) w.generate.ensures),
       ),
-      plain-after b.loop.inv.1 on.1.first-bits (set-flips (j (r t))) (s b).args.search.restart (coded-size t) (resumes (r t)) t.later-trial.ensures.1 (size_fits b),
+      plain_after b.loop.inv.1 on.1.first_bits (set-flips (j (r t))) (s b).args.search.restart (coded-size t) (resumes (r t)) t.later-trial.ensures.1 (size_fits b),
       record { work = whole.work; bits = whole.bits; sums = same-room p; leaves = w.generate.auto.1.1.1.1.1.0 ∙ whole.leaves },
       w.generate.auto.1.1.1.1.1.1.1.1.0 ∙ b.loop.inv.3,
     )
@@ -238,7 +238,7 @@ returns-2 : tie.Need-returns-2 invariant-loop decreases-loop
 returns-2 c =
     let b = c.before in (
       subst (λ (w : Verdict). Ran (mask b) (s b).args.code w (Failed (b.loop.at + 1) b.loop.steps) b.loop.sums)
-          (sym ((s b).requires.1.goes_on _ ∙ search-ends (going b) c.loop-test.false)) refl,
+          (sym ((s b).requires.1.goes_on _ ∙ search_ends (going b) c.loop-test.false)) refl,
       b.loop.invariant.2.sums,
     )
 

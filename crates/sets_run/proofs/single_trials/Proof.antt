@@ -2,8 +2,8 @@
 use native.Mathlib.Omega.{arith}
 use borrow.Author.Rules.{rules}
 use Rattle.arrays.proofs.Sizes.{fits}
-use Rattle.decoder.proofs.Limit.{limit-fits}
-use Rattle.sets_run.proofs.First.{set-none, walk_first, first-pool}
+use Rattle.decoder.proofs.Limit.{limit_fits}
+use Rattle.sets_run.proofs.First.{set-none, walk_first, first_pool}
 use Rattle.sets_run.proofs.single_trials.Statement.{statement}
 use Rattle.sets_run.proofs.single_trials.Tie as tie
 
@@ -14,14 +14,14 @@ extend-requires c κs =
     let on = s.requires.0 in (
       walk_first on s.requires.1.leaves,
       set-none _ _,
-      record { low-most = omega arith; count_most = omega arith; room_most = omega (arith, limit-fits x.search.w x.code (omega (arith, on.frame.coded.K-most, fits on.frame.coded.n-most)), on.limit-most) },
+      record { low_most = omega arith; count_most = omega arith; room_most = omega (arith, limit_fits x.search.w x.code (omega (arith, on.frame.coded.K_most, fits on.frame.coded.n_most)), on.limit_most) },
     )
 
 set-trials-requires : tie.Need-set-trials-requires
 set-trials-requires c κs =
     let e = c.before.before.before.before.before.before.before in
     let p = e.before.before.before.before.before.before.before.before.requires in
-    (p.0, p.1.later, (λ l. absurd (omega (arith, l, p.2))), first-pool p.0 p.1.leaves e.extend.ensures, p.1.whole)
+    (p.0, p.1.later, (λ l. absurd (omega (arith, l, p.2))), first_pool p.0 p.1.leaves e.extend.ensures, p.1.whole)
 
 pub single-trials-spec : {M : Type 1} → statement M
 single-trials-spec =

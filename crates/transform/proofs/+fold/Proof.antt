@@ -5,7 +5,7 @@ use native.Mathlib.Omega.{arith}
 use borrow.Author.Rules.{rules}
 use borrow.Fn.Kinds.{In}
 use borrow.Fn.PlainCycle.{Measures, is, falls, and}
-use Rattle.transform.proofs.Halves.{single, halving, halving-pair, halves, left-bytes, right-next, both_halves, combine-next, combined}
+use Rattle.transform.proofs.Halves.{single, halving, halving_pair, halves, left-bytes, right-next, both_halves, combine_next, combined}
 use Rattle.transform.proofs.fold.Reads as fold
 use Rattle.transform.proofs.fold.Kinds as fold-kinds
 use Rattle.transform.proofs.+fold.Lts-fold as fold-lts
@@ -33,13 +33,13 @@ module _ (t : ℕ) where
   xor-halves-requires : fold-lts.Need-xor-halves-requires (Q t) (fold_at t) fold.Post
   xor-halves-requires c κs =
       let s = c.before.before.before in
-      halves (halving-pair c.before.if2.true s.requires.1.0) s.requires.1.1
+      halves (halving_pair c.before.if2.true s.requires.1.0) s.requires.1.1
 
   returns-2 : fold-lts.Need-returns-2 (Q t) (fold_at t) fold.Post
   returns-2 c =
       let s = c.before.before.before.before in
       let p = s.requires.1.1 in
-      let d = halving-pair c.before.before.if2.true s.requires.1.0 in
+      let d = halving_pair c.before.before.if2.true s.requires.1.0 in
       combined d p (both_halves d p (single refl (left-bytes d p)) (single refl (right-next d p (single refl (left-bytes d p))))) c.xor-halves.ensures
 
   fold-requires : fold-lts.Need-fold-requires (Q t) (fold_at t) fold.Post
@@ -59,7 +59,7 @@ module _ (t : ℕ) where
       let s = c.before.before.before.before.before.before.before in
       let p = s.requires.1.1 in
       let d = halving c.before.before.before.before.before.before.if1.false s.requires.1.0 in
-      combine-next d p (both_halves d p c.before.before.before.fold.ensures c.before.fold2.ensures)
+      combine_next d p (both_halves d p c.before.before.before.fold.ensures c.before.fold2.ensures)
 
   returns-3 : fold-lts.Need-returns-3 (Q t) (fold_at t) fold.Post
   returns-3 c =

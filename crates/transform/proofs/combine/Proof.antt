@@ -1,8 +1,8 @@
 -- `transform::combine` meets its contract: of bits, the exclusive-or is theirs.
 use mathlib.Core.Path.{ap, ◌∙◌}
-use Rattle.laws.specs.Contracts.{splice}
+use Rattle.laws.specs.Clauses.{splice}
 use Rattle.transform.proofs.BitsAt.{left-half, right-half}
-use Rattle.transform.proofs.Folded.{xorBytes-bits}
+use Rattle.transform.proofs.Folded.{xor_bytes-bits}
 use Rattle.transform.proofs.combine.Statement.{statement}
 use Rattle.transform.proofs.combine.Tie as tie
 
@@ -13,7 +13,7 @@ returns : tie.Need-returns
 returns c =
     let s = c.before.before in
     c.xor-halves.ensures
-    ∙ ap (splice s.args.bits.now s.args.base) (xorBytes-bits s.args.h _ _ (left-half s.requires).bits (right-half s.requires).bits)
+    ∙ ap (splice s.args.bits.now s.args.base) (xor_bytes-bits s.args.h _ _ (left-half s.requires).bits (right-half s.requires).bits)
 
 pub combine-spec : {M : Type 1} → statement M
 combine-spec = tie.close (tie.spec xor-halves-requires returns)

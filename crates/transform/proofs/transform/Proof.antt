@@ -1,7 +1,7 @@
 -- `transform::transform` meets its contract, by the recursive form of the transform.
 use mathlib.Core.Path.{ap, ◌∙◌}
 use native.Mathlib.Omega.{arith}
-use Rattle.laws.specs.Contracts.{splice}
+use Rattle.laws.specs.Clauses.{splice}
 use Rattle.laws.proofs.Segment.{length-segment}
 use Rattle.transform.proofs.Folded.{folded-bits}
 use Rattle.transform.proofs.transform.Statement.{statement}

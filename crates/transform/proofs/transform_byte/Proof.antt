@@ -8,7 +8,7 @@ use lib.Bits.{bit_xor, bit_and}
 use lib.Dec.{eqb, ltb}
 use Rattle.bits.specs.Bit.{number}
 use Rattle.transform.specs.Transform.{covers, parity}
-use Rattle.transform.specs.Contracts.{transformedByte}
+use Rattle.transform.specs.Clauses.{transformed_byte}
 use Rattle.transform.proofs.transform_byte.Statement.{statement}
 use Rattle.transform.proofs.transform_byte.Tie as tie
 
@@ -34,12 +34,12 @@ layer x up left = bit_xor x (bit_and (x * up % 256) left)
 abbrev computed : ℕ → ℕ
 computed x = layer (layer (layer x 2 170) 4 204) 16 240
 
-all-bytes : each (λ x. eqb (computed x) (transformedByte x)) 256 ≡ true
+all-bytes : each (λ x. eqb (computed x) (transformed_byte x)) 256 ≡ true
 unfolding number parity covers
 all-bytes = refl
 
 returns : tie.Need-returns
-returns c = eqb-true _ _ (each_at (λ x. eqb (computed x) (transformedByte x)) 256 c.args.byte all-bytes c.ranges.byte.fits)
+returns c = eqb-true _ _ (each_at (λ x. eqb (computed x) (transformed_byte x)) 256 c.args.byte all-bytes c.ranges.byte.fits)
 
 pub transform-byte-spec : {M : Type 1} → statement M
 transform-byte-spec = tie.close (tie.spec returns)

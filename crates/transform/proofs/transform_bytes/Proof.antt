@@ -4,13 +4,13 @@ use Prim.Native.Nat.{◌-◌}
 use native.Mathlib.Omega.{arith}
 use borrow.Author.Rules.{rules}
 use lib.ListN.{get_or}
-use Rattle.laws.proofs.Filling.{Filling, filling-none, filling-more, filling-past, filling-done}
-use Rattle.transform.specs.Contracts.{transformedByte}
+use Rattle.laws.proofs.Filling.{Filling, filling_none, filling_more, filling_past, filling_done}
+use Rattle.transform.specs.Clauses.{transformed_byte}
 use Rattle.transform.proofs.transform_bytes.Statement.{statement}
 use Rattle.transform.proofs.transform_bytes.Tie as tie
 
 abbrev invariant-loop : tie.invariant-loop
-invariant-loop size bytes₀ m₀ bytes m = Filling (λ i. transformedByte (get_or bytes₀ i 0)) 0 size bytes₀ bytes m
+invariant-loop size bytes₀ m₀ bytes m = Filling (λ i. transformed_byte (get_or bytes₀ i 0)) 0 size bytes₀ bytes m
 
 abbrev decreases-loop : tie.decreases-loop
 decreases-loop size bytes₀ m₀ bytes m = size - m
@@ -18,10 +18,10 @@ decreases-loop size bytes₀ m₀ bytes m = size - m
 loop-again : tie.Need-loop-preserved invariant-loop decreases-loop
 loop-again c =
     let l = c.before.before.before.loop in
-    filling-more l.invariant l.m _ (omega arith) (omega arith) (c.transform-byte.ensures ∙ ap transformedByte (filling-past l.invariant l.m 0 (omega arith)))
+    filling_more l.invariant l.m _ (omega arith) (omega arith) (c.transform-byte.ensures ∙ ap transformed_byte (filling_past l.invariant l.m 0 (omega arith)))
 
 returns : tie.Need-returns invariant-loop decreases-loop
-returns c = filling-done c.before.loop.invariant (omega arith) (omega (arith, c.before.before.requires.whole, c.before.before.requires.fits))
+returns c = filling_done c.before.loop.invariant (omega arith) (omega (arith, c.before.before.requires.whole, c.before.before.requires.fits))
 
 pub transform-bytes-spec : {M : Type 1} → statement M
 transform-bytes-spec =
@@ -29,7 +29,7 @@ transform-bytes-spec =
     (tie.spec
     invariant-loop
     decreases-loop
-    (λ c. filling-none)
+    (λ c. filling_none)
     (λ c. search rules)
     (λ c κs. search rules)
     (λ c. search rules)

@@ -6,19 +6,19 @@ use native.Mathlib.Omega.{arith}
 use borrow.Author.Rules.{rules}
 use lib.Bits.{bit_xor}
 use lib.ListN.{get_or}
-use Rattle.laws.specs.Contracts.{segment}
-use Rattle.laws.proofs.Segment.{getD-segment}
-use Rattle.laws.proofs.Filling.{Filling, filling-none, filling-more, filling-past, filling-done}
-use Rattle.transform.specs.Contracts.{xorBytes}
+use Rattle.laws.specs.Clauses.{segment}
+use Rattle.laws.proofs.Segment.{get_or-segment}
+use Rattle.laws.proofs.Filling.{Filling, filling_none, filling_more, filling_past, filling_done}
+use Rattle.transform.specs.Clauses.{xor_bytes}
 use Rattle.transform.proofs.xor_halves.Statement.{statement}
 use Rattle.transform.proofs.xor_halves.Tie as tie
 
 -- entry j of the exclusive-or of the halves
-abbrev xorAt : List ℕ → ℕ → ℕ → ℕ → ℕ
-xorAt bytes base h j = bit_xor (get_or (segment bytes base h) j 0) (get_or (segment bytes (base + h) h) j 0)
+abbrev xor_at : List ℕ → ℕ → ℕ → ℕ → ℕ
+xor_at bytes base h j = bit_xor (get_or (segment bytes base h) j 0) (get_or (segment bytes (base + h) h) j 0)
 
 abbrev invariant-loop : tie.invariant-loop
-invariant-loop bytes₀ base h j₀ bytes j = Filling (xorAt bytes₀ base h) base h bytes₀ bytes j
+invariant-loop bytes₀ base h j₀ bytes j = Filling (xor_at bytes₀ base h) base h bytes₀ bytes j
 
 abbrev decreases-loop : tie.decreases-loop
 decreases-loop bytes₀ base h j₀ bytes j = h - j
@@ -32,13 +32,13 @@ loop-again c =
     let h = s.args.h in
     let j = l.j in
     let old : (at : ℕ) → base + j ≤ at + j → get_or l.bytes (at + j) 0 ≡ get_or (segment w at h) j 0 =
-    λ at k. filling-past l.invariant (at + j) 0 k ∙ sym (getD-segment w at h j 0 (omega arith)) in
-    filling-more l.invariant (base + j) _ (omega arith) (omega arith)
+    λ at k. filling_past l.invariant (at + j) 0 k ∙ sym (get_or-segment w at h j 0 (omega arith)) in
+    filling_more l.invariant (base + j) _ (omega arith) (omega arith)
     (ap₂ bit_xor (old base (omega arith)) (old (base + h) (omega arith)))
 
 returns : tie.Need-returns invariant-loop decreases-loop
-unfolding xorBytes
-returns c = filling-done c.before.loop.invariant (omega arith) (omega (arith, c.before.before.requires.whole, c.before.before.requires.fits))
+unfolding xor_bytes
+returns c = filling_done c.before.loop.invariant (omega arith) (omega (arith, c.before.before.requires.whole, c.before.before.requires.fits))
 
 pub xor-halves-spec : {M : Type 1} → statement M
 xor-halves-spec =
@@ -46,7 +46,7 @@ xor-halves-spec =
     (tie.spec
     invariant-loop
     decreases-loop
-    (λ c. filling-none)
+    (λ c. filling_none)
     (λ c. search rules)
     (λ c. search rules)
     (λ c. search rules)

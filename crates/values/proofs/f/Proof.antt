@@ -9,7 +9,7 @@ use lib.Dec.{eqb}
 use lib.IntN.{ℤ, pos, neg_ℤ, nat_abs}
 use mir.Syntax.{w32}
 use mir.Val.{SFits}
-use Rattle.laws.proofs.Signed.{back, back_is, back-small, sfits, neg-fits, neg_is}
+use Rattle.laws.proofs.Signed.{back, back_is, back-small, sfits, neg_fits, neg_is}
 use Rattle.values.specs.Values.{f, hard}
 use Rattle.values.proofs.f.Statement.{statement}
 use Rattle.values.proofs.f.Tie as tie
@@ -41,7 +41,7 @@ sub-result c =
     let s = c.before.before.before.before.before.before.args in
     let m = least c.before.before.before in
     let k : ℕ = min (nat_abs s.a) (nat_abs s.b) in
-    rw m.0 (neg-fits w32 (pos k) (sfits w32 (pos k) m.1) m.1)
+    rw m.0 (neg_fits w32 (pos k) (sfits w32 (pos k) m.1) m.1)
 
 test : (c : tie.After-hard2) →
     let s = c.before.before.before.before.before.args in

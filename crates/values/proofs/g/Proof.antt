@@ -5,7 +5,7 @@ use native.Mathlib.Omega.{arith}
 use borrow.Author.Tests.{eq-eqb, ne_eqb}
 use lib.IntN.{◌+ℤ◌, ◌-ℤ◌}
 use mir.Syntax.{w32}
-use Rattle.laws.proofs.Signed.{add-fits, add_is, minus-fits, minus_is}
+use Rattle.laws.proofs.Signed.{add-fits, add_is, minus_fits, minus_is}
 use Rattle.values.specs.Values.{g}
 use Rattle.values.proofs.g.Statement.{statement}
 use Rattle.values.proofs.g.Tie as tie
@@ -33,6 +33,6 @@ g-spec =
     tie.close
     (tie.spec
     (λ c. add-fits w32 _ _ c.before.ranges.a c.before.ranges.b (omega arith))
-    (λ c. minus-fits w32 _ _ c.before.ranges.b c.before.ranges.a (omega arith))
+    (λ c. minus_fits w32 _ _ c.before.ranges.b c.before.ranges.a (omega arith))
     returns
     returns-2)

@@ -1,7 +1,7 @@
 -- `values::hard` meets its contract.
 use mathlib.Core.Path.{sym}
 use mir.Syntax.{w32}
-use Rattle.values.proofs.Signs.{below-zero, not-below-zero}
+use Rattle.values.proofs.Signs.{below-zero, not_below_zero}
 use Rattle.values.proofs.hard.Statement.{statement}
 use Rattle.values.proofs.hard.Tie as tie
 
@@ -10,4 +10,4 @@ hard-spec =
     tie.close
     (tie.spec
     (λ c. sym (below-zero w32 _ c.before.ranges.a c.if1.true))
-    (λ c. sym (not-below-zero w32 _ c.before.ranges.a c.if1.false)))
+    (λ c. sym (not_below_zero w32 _ c.before.ranges.a c.if1.false)))

@@ -2,8 +2,8 @@
 use mathlib.Core.Path.{◌∙◌}
 use native.Mathlib.Omega.{arith}
 use mir.Syntax.{w32}
-use Rattle.laws.proofs.Signed.{back_is, neg-fits, neg_is}
-use Rattle.values.proofs.Signs.{below-zero, not-below-zero, neg-abs, is-abs}
+use Rattle.laws.proofs.Signed.{back_is, neg_fits, neg_is}
+use Rattle.values.proofs.Signs.{below-zero, not_below_zero, neg_abs, is_abs}
 use Rattle.values.proofs.magnitude.Statement.{statement}
 use Rattle.values.proofs.magnitude.Tie as tie
 
@@ -11,13 +11,13 @@ returns : tie.Need-returns
 returns c =
     let a = c.before.args.a in
     let fa = c.before.ranges.a in
-    neg_is w32 a fa (omega arith) ∙ neg-abs a (below-zero w32 a fa c.if1.true)
+    neg_is w32 a fa (omega arith) ∙ neg_abs a (below-zero w32 a fa c.if1.true)
 
 returns-2 : tie.Need-returns-2
 returns-2 c =
     let a = c.before.args.a in
     let fa = c.before.ranges.a in
-    back_is w32 a fa ∙ is-abs a (not-below-zero w32 a fa c.if1.false)
+    back_is w32 a fa ∙ is_abs a (not_below_zero w32 a fa c.if1.false)
 
 pub magnitude-spec : {M : Type 1} → statement M
-magnitude-spec = tie.close (tie.spec (λ c. neg-fits w32 _ c.before.ranges.a (omega arith)) returns returns-2)
+magnitude-spec = tie.close (tie.spec (λ c. neg_fits w32 _ c.before.ranges.a (omega arith)) returns returns-2)

@@ -7,12 +7,12 @@ use lib.Dec.{ltb}
 use lib.IntN.{pos, nat_abs}
 use lib.Signed.{lt_z}
 use mir.Syntax.{w32}
-use Rattle.laws.proofs.Signed.{back, back_is, less-is}
+use Rattle.laws.proofs.Signed.{back, back_is, less_is}
 use Rattle.values.proofs.smaller.Statement.{statement}
 use Rattle.values.proofs.smaller.Tie as tie
 
 test : (s : tie.Start) → lt_z (back w32 s.args.x) (back w32 s.args.y) ≡ ltb (nat_abs s.args.x) (nat_abs s.args.y)
-test s = less-is w32 _ _ s.ranges.x s.ranges.y ∙ ap₂ lt_z s.requires.0 s.requires.1
+test s = less_is w32 _ _ s.ranges.x s.ranges.y ∙ ap₂ lt_z s.requires.0 s.requires.1
 
 returns : tie.Need-returns
 returns c =

@@ -1,12 +1,12 @@
 -- What only contracts below the public operations cite. Nothing here need be believed.
 use Rattle.std.specs.Prelude.{◌≡◌, ◌&&◌, cond, List, [], ◌∷◌, ℕ, zero, suc, ◌+◌, ◌-◌, ◌*◌, ◌^◌, ◌/◌, ◌%◌, ◌<◌, ◌≤◌, min, leb, ltb, eqb, ℤ, length, get_or, take}
-use Rattle.laws.specs.Insert.{insertBy}
+use Rattle.laws.specs.Insert.{insert_by}
 use Rattle.arrays.specs.Claims.{longest}
-use Rattle.bits.specs.Mask.{maskBit}
-use Rattle.flip_order.specs.Order.{magnitudeAt}
+use Rattle.bits.specs.Mask.{mask_bit}
+use Rattle.flip_order.specs.Order.{magnitude_at}
 use Rattle.flip_order.specs.Claims.{Pairwise}
-use Rattle.flip_order.specs.Contracts.{mostMagnitude}
-use Rattle.decoder.specs.Candidate.{Candidate, pastLargest, magnitudes}
+use Rattle.flip_order.specs.Clauses.{most_magnitude}
+use Rattle.decoder.specs.Candidate.{Candidate, past_largest, magnitudes}
 use Rattle.sets_queue.specs.declared.Stem.{Stem}
 
 -- ---- a set as one number
@@ -22,19 +22,19 @@ digits (suc p) [] = 0
 digits (suc p) (i ∷ is) = suc i * base ^ p + digits p is
 
 -- the number of a set: its metric, then three digits
-abbrev pub setKey : Candidate → ℕ
-setKey x = x.metric * base ^ 3 + digits 3 x.flips
+abbrev pub set_key : Candidate → ℕ
+set_key x = x.metric * base ^ 3 + digits 3 x.flips
 
 -- the digit of a key that has this weight
-abbrev pub digitAt : ℕ → ℕ → ℕ
-digitAt weight key = key / weight % base
+abbrev pub digit_at : ℕ → ℕ → ℕ
+digit_at weight key = key / weight % base
 
 -- the indices of a key whose first digit is not 0
-abbrev pub indicesOf : ℕ → List ℕ
-indicesOf key =
-    (digitAt (base ^ 2) key - 1)
-    ∷ cond (eqb (digitAt base key) 0) []
-    ((digitAt base key - 1) ∷ cond (eqb (digitAt 1 key) 0) [] ((digitAt 1 key - 1) ∷ []))
+abbrev pub indices_of : ℕ → List ℕ
+indices_of key =
+    (digit_at (base ^ 2) key - 1)
+    ∷ cond (eqb (digit_at base key) 0) []
+    ((digit_at base key - 1) ∷ cond (eqb (digit_at 1 key) 0) [] ((digit_at 1 key - 1) ∷ []))
 
 -- at most `most` indices, each of which has a digit
 pub record Digits (most : ℕ) (is : List ℕ) : Type 0 where
@@ -44,9 +44,9 @@ pub record Digits (most : ℕ) (is : List ℕ) : Type 0 where
 -- ---- keys in order
 
 -- each of some keys in its place among keys that are in order: after every insertion only the first m are kept
-unfoldable pub insertKeys : ℕ → List ℕ → List ℕ → List ℕ
-insertKeys m [] ks = ks
-insertKeys m (key ∷ keys) ks = insertKeys m keys (take m (insertBy ltb key ks))
+unfoldable pub insert_keys : ℕ → List ℕ → List ℕ → List ℕ
+insert_keys m [] ks = ks
+insert_keys m (key ∷ keys) ks = insert_keys m keys (take m (insert_by ltb key ks))
 
 -- the queue from `low` to `count` of an array is ks, in order
 pub record Pool (keys : List ℕ) (low count : ℕ) (ks : List ℕ) : Type 0 where
@@ -71,7 +71,7 @@ pub record Shifted (at end : ℕ) (keys keys' : List ℕ) : Type 0 where
 
 -- the leaf values of the first n indices are so small that metrics fit
 pub record Small (n : ℕ) (leaves : List ℤ) : Type 0 where
-  pub at : (j : ℕ) → j < n → magnitudeAt leaves j ≤ mostMagnitude
+  pub at : (j : ℕ) → j < n → magnitude_at leaves j ≤ most_magnitude
 
 -- as many indices as have a leaf value and a digit
 abbrev pub indexed : List ℤ → ℕ
@@ -87,43 +87,43 @@ pub record WalkPre (mask : List ℕ) (leaves : List ℤ) : Type 0 where
 pub record SetPre (n : ℕ) (leaves : List ℤ) (is : List ℕ) : Type 0 where
   pub few : length is ≤ 2
   pub below : (a : ℕ) → a < length is → get_or is a 0 < n
-  pub past : pastLargest is ≤ n
-  pub small : (a : ℕ) → a < length is → magnitudeAt leaves (get_or is a 0) ≤ mostMagnitude
+  pub past : past_largest is ≤ n
+  pub small : (a : ℕ) → a < length is → magnitude_at leaves (get_or is a 0) ≤ most_magnitude
 
 -- the places of a queue: it is from `low` to `count`, and may grow to `room`
 pub record PoolPre (low count room : ℕ) (keys : List ℕ) : Type 0 where
-  pub low-most : low ≤ count
+  pub low_most : low ≤ count
   pub count_most : count ≤ room
   pub room_most : room ≤ length keys
 
 -- the stem of the set `is`
-abbrev pub stemOf : List ℤ → List ℕ → Stem
-stemOf leaves is = record { sum = magnitudes leaves is; digits = digits 3 is; weight = base ^ (2 - length is); from = pastLargest is }
+abbrev pub stem_of : List ℤ → List ℕ → Stem
+stem_of leaves is = record { sum = magnitudes leaves is; digits = digits 3 is; weight = base ^ (2 - length is); from = past_largest is }
 
 -- a stem with one more index
-abbrev pub stemWith : List ℤ → Stem → ℕ → Stem
-stemWith leaves s i =
-    record { sum = s.sum + magnitudeAt leaves i; digits = s.digits + (i + 1) * s.weight; weight = s.weight / base; from = i + 1 }
+abbrev pub stem_with : List ℤ → Stem → ℕ → Stem
+stem_with leaves s i =
+    record { sum = s.sum + magnitude_at leaves i; digits = s.digits + (i + 1) * s.weight; weight = s.weight / base; from = i + 1 }
 
 -- a stem whose keys fit a machine word
 pub record StemFits (s : Stem) : Type 0 where
-  pub sum-most : s.sum ≤ 2 * mostMagnitude
-  pub digits-most : s.digits ≤ base ^ 3
-  pub weight-most : s.weight ≤ base ^ 2
+  pub sum_most : s.sum ≤ 2 * most_magnitude
+  pub digits_most : s.digits ≤ base ^ 3
+  pub weight_most : s.weight ≤ base ^ 2
 
 -- 1 if an index is doubtful, otherwise 0
 abbrev pub doubt : List ℕ → List ℤ → ℕ → ℕ
-doubt mask leaves j = cond (eqb (maskBit mask j) 1 && leb (magnitudeAt leaves j) 20) 1 0
+doubt mask leaves j = cond (eqb (mask_bit mask j) 1 && leb (magnitude_at leaves j) 20) 1 0
 
 -- the key of the set that appends j to a stem, if `small` indices up to and including j are doubtful
-abbrev pub keyWith : List ℤ → Stem → ℕ → ℕ → ℕ
-keyWith leaves s small j = (s.sum + magnitudeAt leaves j + 6 * small) * base ^ 3 + (s.digits + (j + 1) * s.weight)
+abbrev pub key_with : List ℤ → Stem → ℕ → ℕ → ℕ
+key_with leaves s small j = (s.sum + magnitude_at leaves j + 6 * small) * base ^ 3 + (s.digits + (j + 1) * s.weight)
 
 -- the keys of the sets that append j to a stem: none if j is frozen, otherwise one
-abbrev pub keysWith : List ℕ → List ℤ → Stem → ℕ → ℕ → List ℕ
-keysWith mask leaves s small j = cond (eqb (maskBit mask j) 1) (keyWith leaves s small j ∷ []) []
+abbrev pub keys_with : List ℕ → List ℤ → Stem → ℕ → ℕ → List ℕ
+keys_with mask leaves s small j = cond (eqb (mask_bit mask j) 1) (key_with leaves s small j ∷ []) []
 
 -- what an insertion of new keys makes of a queue, whatever it holds
 pub record Inserted (low count room r : ℕ) (new keys keys' : List ℕ) : Type 0 where
   pub places : PoolPre low r room keys'
-  pub holds : (ks : List ℕ) → Pool keys low count ks → Pool keys' low r (insertKeys (room - low) new ks)
+  pub holds : (ks : List ℕ) → Pool keys low count ks → Pool keys' low r (insert_keys (room - low) new ks)

@@ -1,51 +1,51 @@
 -- What only contracts below the public operations cite. Nothing here need be believed.
 use Rattle.std.specs.Prelude.{◌≡◌, List, [], ◌∷◌, map, ℕ, ◌+◌, ◌-◌, ◌*◌, ◌≤◌, ℤ, length, take}
 use Rattle.bits.specs.Claims.{Bits}
-use Rattle.bits.specs.Packing.{packed, bytesFor}
+use Rattle.bits.specs.Packing.{packed, bytes_for}
 use Rattle.code.specs.declared.Code.{Code}
-use Rattle.code.specs.Code.{codeLength, informationCount}
+use Rattle.code.specs.Code.{code_length, information_count}
 use Rattle.code.specs.Claims.{Coded}
-use Rattle.channel.specs.Channel.{channelValues, firstOutside}
+use Rattle.channel.specs.Channel.{channel_values, first_outside}
 use Rattle.pass_tree.specs.Node.{Out}
-use Rattle.pass_ends.specs.Contracts.{Arrays, Whole}
-use Rattle.flip_order.specs.Contracts.{Keyed}
-use Rattle.flip_trial.specs.Trial.{firstTrial, laterTrial, trialPasses, messageIn}
-use Rattle.flip_trial.specs.Contracts.{PlainRules, FirstBits, FirstLeaves}
+use Rattle.pass_ends.specs.Clauses.{Arrays, Whole}
+use Rattle.flip_order.specs.Clauses.{Keyed}
+use Rattle.flip_trial.specs.Trial.{first_trial, later_trial, trial_passes, message_in}
+use Rattle.flip_trial.specs.Clauses.{PlainRules, FirstBits, FirstLeaves}
 use Rattle.flip_run.specs.declared.Terms.{Terms}
 use Rattle.flip_run.specs.declared.Decoded.{Decoded}
 use Rattle.flip_run.specs.declared.Decoded.TheVariants as Decoded
 use Rattle.flip_run.specs.declared.Ended.{Ended}
 use Rattle.flip_run.specs.declared.Ended.TheVariants.{Passed, Failed}
-use Rattle.flip_run.specs.Trials.{flipOrder, Verdict, passed, failed, run, answer_of}
+use Rattle.flip_run.specs.Trials.{flip_order, Verdict, passed, failed, run, answer_of}
 
 -- a code, and channel values for it, each within its range
 pub record FramePre (mask : List ℕ) (c : Code) (channel : List ℕ) : Type 0 where
   pub coded : Coded mask c
-  pub channel-size : length channel ≡ codeLength c
-  pub in-range : firstOutside channel ≡ length channel
+  pub channel_size : length channel ≡ code_length c
+  pub in_range : first_outside channel ≡ length channel
 
 -- a trial limit that is allowed
 pub record LimitPre (limit : ℕ) (c : Code) : Type 0 where
   pub least : 1 ≤ limit
-  pub most : limit ≤ informationCount c + 1
+  pub most : limit ≤ information_count c + 1
 
 -- what holds past all refusals before 16
 pub record RunPre (terms : Terms) (mask : List ℕ) (c : Code) (channel output : List ℕ) : Type 0 where
   pub frame : FramePre mask c channel
   pub limits : LimitPre terms.limit c
-  pub output-size : length output ≡ bytesFor c.k
+  pub output_size : length output ≡ bytes_for c.k
 
 -- the trials on these terms; each after the first flips one index
 abbrev pub trials : Terms → List ℕ → Code → List ℤ → List Out
 trials terms mask c v =
-    firstTrial mask c v ∷ map (λ i. laterTrial terms.restart mask c v (i ∷ [])) (take (terms.limit - 1) (flipOrder mask c v))
+    first_trial mask c v ∷ map (λ i. later_trial terms.restart mask c v (i ∷ [])) (take (terms.limit - 1) (flip_order mask c v))
 
 -- once trial 1 failed, in `start` steps: its bits, the rules of a plain pass, and how a run goes on
 pub record LaterTrialsPre (room : ℕ) (mask : List ℕ) (c : Code) (channel : List ℕ) (start : ℕ) (first rules : List ℕ) : Type 0 where
-  pub start-most : start ≤ c.n * codeLength c
-  pub first-bits : FirstBits room mask c channel first
+  pub start_most : start ≤ c.n * code_length c
+  pub first_bits : FirstBits room mask c channel first
   pub plain : PlainRules room mask c rules
-  pub goes_on : (later : List Out) → run (trialPasses mask c) 0 0 (firstTrial mask c (channelValues channel) ∷ later) ≡ run (trialPasses mask c) 1 start later
+  pub goes_on : (later : List Out) → run (trial_passes mask c) 0 0 (first_trial mask c (channel_values channel) ∷ later) ≡ run (trial_passes mask c) 1 start later
 
 -- trial 1 failed, in `start` steps: what later trials need of it, in the arrays where it left its bits and leaf values
 pub record FirstFailed (room : ℕ) (mask : List ℕ) (c : Code) (channel : List ℕ) (start : ℕ) (rules : List ℕ) (a : Arrays) : Type 0 where
@@ -66,7 +66,7 @@ answered k (Failed made steps) message output = (Decoded.Refused16 made steps, o
 -- a run ended with its verdict; if a trial passed, `message` begins with its payload
 abbrev pub Ran : List ℕ → Code → Verdict → Ended → List ℕ → Type 0
 Ran mask c (passed trial steps bits) e message =
-    (e ≡ Passed trial steps) × (take c.k message ≡ take c.k (messageIn mask c bits)) × Bits (take c.k message)
+    (e ≡ Passed trial steps) × (take c.k message ≡ take c.k (message_in mask c bits)) × Bits (take c.k message)
 Ran mask c (failed made steps) e message = e ≡ Failed made steps
 
 -- a run ended with its verdict, and the array of its message has the size that it had
@@ -76,18 +76,18 @@ RunPost room mask c v e message = Ran mask c v e message × (length message ≡ 
 -- how trial 1 ended: it passed, and so a run ended, whatever later trials it has; or it failed
 abbrev pub BeginPost : ℕ → List ℕ → Code → List ℕ → List ℕ → Arrays → Ended → Type 0
 BeginPost room mask c channel rules a (Passed trial steps) =
-    (later : List Out) → RunPost room mask c (run (trialPasses mask c) 0 0 (firstTrial mask c (channelValues channel) ∷ later)) (Passed trial steps) a.sums
+    (later : List Out) → RunPost room mask c (run (trial_passes mask c) 0 0 (first_trial mask c (channel_values channel) ∷ later)) (Passed trial steps) a.sums
 BeginPost room mask c channel rules a (Failed made start) =
     (made ≡ 1) × FirstFailed room mask c channel start rules a
 
 -- the keys of trial 1's leaf values
 abbrev pub FirstKeys : List ℕ → Code → List ℕ → List ℤ → Type 0
-FirstKeys mask c channel keys = Keyed mask (codeLength c) (firstTrial mask c (channelValues channel)).leaves keys
+FirstKeys mask c channel keys = Keyed mask (code_length c) (first_trial mask c (channel_values channel)).leaves keys
 
 -- how the run on these terms ends
-abbrev pub verdictBy : Terms → List ℕ → Code → List ℕ → Verdict
-verdictBy terms mask c channel = run (trialPasses mask c) 0 0 (trials terms mask c (channelValues channel))
+abbrev pub verdict_by : Terms → List ℕ → Code → List ℕ → Verdict
+verdict_by terms mask c channel = run (trial_passes mask c) 0 0 (trials terms mask c (channel_values channel))
 
 -- the answer past all refusals before 16, and the output's final bytes
-abbrev pub answerBy : Terms → List ℕ → Code → List ℕ → List ℕ → Decoded × List ℕ
-answerBy terms mask c channel output = answer_of mask c output (verdictBy terms mask c channel)
+abbrev pub answer_by : Terms → List ℕ → Code → List ℕ → List ℕ → Decoded × List ℕ
+answer_by terms mask c channel output = answer_of mask c output (verdict_by terms mask c channel)

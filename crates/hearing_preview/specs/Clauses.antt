@@ -4,11 +4,11 @@ use Rattle.refusal.specs.declared.Judgement.TheVariants.{Fine}
 use Rattle.refusal.specs.Judge.{judge}
 use Rattle.code.specs.declared.Code.{Code}
 use Rattle.code.specs.declared.Description.TheVariants.{Accepted}
-use Rattle.hearing.specs.Hearing.{addRefusals}
-use Rattle.hearing_state.specs.State.{codeOfState}
-use Rattle.hearing_buffer.specs.Lent.{stateIn}
+use Rattle.hearing.specs.Hearing.{add_refusals}
+use Rattle.hearing_state.specs.State.{code_of_state}
+use Rattle.hearing_buffer.specs.Lent.{state_in}
 
 -- a vector that may be added to the state in a buffer, whose code is c
 pub record MayAdd (c : Code) (b channel : List ℕ) : Type 0 where
-  pub code_is : codeOfState (stateIn b) ≡ Accepted c
-  pub fine : judge (addRefusals c (stateIn b).hearing.count channel) ≡ Fine
+  pub code_is : code_of_state (state_in b) ≡ Accepted c
+  pub fine : judge (add_refusals c (state_in b).hearing.count channel) ≡ Fine

@@ -4,5 +4,5 @@ use Rattle.bits.specs.Bit.{bit}
 use Rattle.values.specs.Values.{Rule, frozen, usual, opposite}
 
 -- the rule that a byte stands for: bit 0 marks an information index, bit 1 the opposite decision
-unfoldable pub ruleOf : ℕ → Rule
-ruleOf code = cond (eqb (bit code 0) 0) frozen (cond (eqb (bit code 1) 0) usual opposite)
+unfoldable pub rule_of : ℕ → Rule
+rule_of code = cond (eqb (bit code 0) 0) frozen (cond (eqb (bit code 1) 0) usual opposite)

@@ -1,14 +1,14 @@
 -- What only contracts below the public operations cite. Nothing here need be believed.
 use Rattle.std.specs.Prelude.{List, ℕ, ◌-◌, ◌+◌, get_or, length, take, ◌≡◌, ℤ}
-use Rattle.laws.specs.Contracts.{splice, segment}
+use Rattle.laws.specs.Clauses.{splice, segment}
 use Rattle.values.specs.Values.{Rule}
-use Rattle.values.specs.Contracts.{ruleOf}
+use Rattle.values.specs.Clauses.{rule_of}
 use Rattle.pass_tree.specs.declared.Work.{Work}
 use Rattle.pass_tree.specs.Node.{Out, node}
 
 -- the rule at index i of an array of rule bytes (`ruleOf` of values)
-abbrev pub ruleAt : List ℕ → ℕ → Rule
-ruleAt rules i = ruleOf (get_or rules i 0)
+abbrev pub rule_at : List ℕ → ℕ → Rule
+rule_at rules i = rule_of (get_or rules i 0)
 
 -- what a node's call leaves: decided bits, sums in place at a node's own indices, and leaf values at the decided indices
 pub record Results : Type 0 where
@@ -35,8 +35,8 @@ pub record Arrays : Type 0 where
 abbrev pub arrays : List ℤ → List ℕ → List ℕ → List ℤ → Arrays
 arrays work bits sums leaves = record { work = work; bits = bits; sums = sums; leaves = leaves }
 
-abbrev pub resultsOf : Arrays → Results
-resultsOf a = results a.bits a.sums a.leaves
+abbrev pub results_of : Arrays → Results
+results_of a = results a.bits a.sums a.leaves
 
 pub record Whole (room : ℕ) (a : Arrays) : Type 0 where
   pub work : length a.work ≡ room
@@ -45,16 +45,16 @@ pub record Whole (room : ℕ) (a : Arrays) : Type 0 where
   pub leaves : length a.leaves ≡ room
 
 -- of the `size` bits from `base` on, those that lie below q
-abbrev pub forcedBits : List ℕ → ℕ → ℕ → ℕ → List ℕ
-forcedBits bits base size q = take (q - base) (segment bits base size)
+abbrev pub forced_bits : List ℕ → ℕ → ℕ → ℕ → List ℕ
+forced_bits bits base size q = take (q - base) (segment bits base size)
 
 -- the rules of the indices from `base` on
-abbrev pub rulesFrom : List ℕ → ℕ → ℕ → Rule
-rulesFrom rules base i = ruleAt rules (base + i)
+abbrev pub rules_from : List ℕ → ℕ → ℕ → Rule
+rules_from rules base i = rule_at rules (base + i)
 
 -- what the definition says of a node of `size` values v, whose indices start at `base`, in a pass whose first q bits are forced
 abbrev pub node_of : ℕ → ℕ → ℕ → ℕ → List ℕ → List ℕ → List ℤ → Out
-node_of layer size base q rules bits v = node layer (forcedBits bits base size q) (rulesFrom rules base) v
+node_of layer size base q rules bits v = node layer (forced_bits bits base size q) (rules_from rules base) v
 
 -- o in its place: bits from `base` on, leaf values from `at` on, and the work
 pub record Stored (o : Out) (base at : ℕ) (r r' : Results) (done : Work) : Type 0 where
@@ -69,4 +69,4 @@ pub record StoredSums (o : Out) (base at : ℕ) (r r' : Results) (done : Work) :
 
 -- a node of `size` indices from `base` on in its place: its leaf values stand after the indices that are forced. If q is `base` none is forced.
 pub record NodeStored (layer size base q : ℕ) (rules : List ℕ) (v : List ℤ) (r r' : Results) (done : Work) : Type 0 where
-  pub laid : StoredSums (node_of layer size base q rules r.bits v) base (base + length (forcedBits r.bits base size q)) r r' done
+  pub laid : StoredSums (node_of layer size base q rules r.bits v) base (base + length (forced_bits r.bits base size q)) r r' done

@@ -1,9 +1,9 @@
 -- What only contracts below the public operations cite. Nothing here need be believed.
 use Rattle.std.specs.Prelude.{List, ℕ, ◌+◌, get_or, take, drop}
-use Rattle.code.specs.Code.{longestDescription}
+use Rattle.code.specs.Code.{longest_description}
 use Rattle.hearing_state.specs.State.{State}
-use Rattle.hearing_state.specs.Contracts.{stateBy}
+use Rattle.hearing_state.specs.Clauses.{state_by}
 
 -- the state that has these bytes, as many as the size of a buffer
-abbrev pub stateAt : List ℕ → State
-stateAt b = stateBy (take longestDescription b) (get_or b longestDescription 0) (drop (1 + longestDescription) b)
+abbrev pub state_at : List ℕ → State
+state_at b = state_by (take longest_description b) (get_or b longest_description 0) (drop (1 + longest_description) b)
