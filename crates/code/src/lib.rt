@@ -1,4 +1,5 @@
 // Code descriptions: records of kinds 1 and 4.
+#![tactic(auto)]
 ghost use Rattle.std.specs.Prelude.{◌≡◌, cond, ◌+◌, ◌<◌, ◌≤◌, ltb, length, take, drop};
 ghost use Rattle.refusal.specs.Judge.{judge};
 ghost use Rattle.code.specs.Description.{word, has_start, is_description, mask_at, mask_of, start_of, is_wide, bad_polynomial, describe};
@@ -10,7 +11,7 @@ use arrays::{BYTES, LARGEST_N};
 use refusal::{Judgement, Refusal};
 
 // The numbers of a code.
-#[derive(Drop)]
+#[derive(Clone, Copy)]
 pub struct Code {
     // Its length is 2^n.
     pub n: u32,
@@ -25,7 +26,7 @@ pub struct Code {
 }
 
 // What a record describes.
-#[derive(Drop)]
+#[derive(Clone, Copy)]
 pub enum Description {
     // A code.
     Accepted(Code),

@@ -1,4 +1,5 @@
 // What every flip decoder tries and answers. The definitions are in specs/.
+#![tactic(auto)]
 ghost use Rattle.std.specs.Prelude.{◌≡◌, ◌≤◌};
 ghost use Rattle.refusal.specs.Judge.{judge};
 ghost use Rattle.arrays.specs.Sizes.{largest_n};
@@ -9,7 +10,7 @@ use flip_trial::Restart;
 use refusal::{Judgement, Refusal};
 
 // How to search for the set of a trial that passes.
-#[derive(Drop)]
+#[derive(Clone, Copy)]
 pub struct Search {
     // At which index later trials resume.
     pub restart: Restart,

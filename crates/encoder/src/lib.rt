@@ -1,4 +1,5 @@
 // The encoder.
+#![tactic(auto)]
 ghost use Rattle.std.specs.Prelude.{◌≡◌, ◌^◌, length};
 ghost use Rattle.refusal.specs.Judge.{differs, judge};
 ghost use Rattle.bits.specs.Packing.{bytes_for, packed, unpacked, unused_bits};
@@ -13,7 +14,7 @@ use code::{Code, Description};
 use refusal::{Judgement, Refusal};
 
 // What encode answers.
-#[derive(Drop)]
+#[derive(Clone, Copy)]
 pub enum Encoded {
     // the codeword is written
     Done,

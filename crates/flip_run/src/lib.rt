@@ -1,4 +1,5 @@
 // The run of trials of flip decoding.
+#![tactic(auto)]
 ghost use Rattle.std.specs.Prelude.{◌≡◌, ◌≤◌, length, take};
 ghost use Rattle.bits.specs.Packing.{bytes_for};
 ghost use Rattle.pass_ends.specs.Clauses.{arrays, Whole};
@@ -10,7 +11,7 @@ use flip_trial::Restart;
 use refusal::Refusal;
 
 // The terms of a run of trials: at which index later trials resume, and how long the run goes on.
-#[derive(Drop)]
+#[derive(Clone, Copy)]
 pub struct Terms {
     // At which index later trials resume.
     pub restart: Restart,
@@ -19,7 +20,7 @@ pub struct Terms {
 }
 
 // What a decoder answers.
-#[derive(Drop)]
+#[derive(Clone, Copy)]
 pub enum Decoded {
     // The number of the trial that passed, and the steps of all trials made.
     Accepted { trial: u32, steps: u32 },
@@ -30,7 +31,7 @@ pub enum Decoded {
 }
 
 // How a run of trials ended.
-#[derive(Drop)]
+#[derive(Clone, Copy)]
 pub enum Ended {
     // The number of the trial that passed, and the steps of all trials made.
     Passed { trial: u32, steps: u32 },

@@ -1,4 +1,5 @@
 // One trial of flip decoding: trial 1, a later trial, and its check.
+#![tactic(auto)]
 ghost use Rattle.std.specs.Prelude.{◌≡◌, ◌+◌, ◌-◌, ◌*◌, ◌≤◌, ◌<◌, length, take, get_or, replicate};
 ghost use Rattle.laws.specs.Clauses.{splice};
 ghost use Rattle.code.specs.Code.{code_length, information_count};
@@ -21,7 +22,7 @@ const OPPOSITE: u8 = 3;
 const USUAL: u8 = 1;
 
 // At which index later trials resume.
-#[derive(Drop)]
+#[derive(Clone, Copy)]
 pub enum Restart {
     // At index 0.
     Root,

@@ -1,4 +1,5 @@
 // A state in a buffer that the caller lends, and the operations on it.
+#![tactic(auto)]
 ghost use Rattle.std.specs.Prelude.{◌≡◌, ◌++◌, ◌-◌, ◌≤◌, length, take, replicate};
 ghost use Rattle.code.specs.Code.{longest_description};
 ghost use Rattle.decoder.specs.Decoder.{single, decoded_as};
@@ -14,7 +15,7 @@ use flip_trial::Restart;
 use refusal::{Judgement, Refusal};
 
 // What a call on a state in a buffer answers.
-#[derive(Drop)]
+#[derive(Clone, Copy)]
 pub enum Kept {
     // The call is done: the state now holds the sums of `count` vectors.
     Done { count: u8 },

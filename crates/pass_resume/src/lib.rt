@@ -1,4 +1,5 @@
 // Resume: one decoding pass whose first bits are given.
+#![tactic(auto)]
 ghost use Rattle.std.specs.Prelude.{◌≡◌, ◌*◌, ◌≤◌, length};
 ghost use Rattle.refusal.specs.Judge.{judge};
 ghost use Rattle.code.specs.Claims.{Coded};
@@ -11,7 +12,7 @@ use pass_tree::Work;
 use refusal::{Judgement, Refusal};
 
 // What resume answers.
-#[derive(Drop)]
+#[derive(Clone, Copy)]
 pub enum Resumed {
     // The pass was made, in this many steps.
     Done { steps: u32 },

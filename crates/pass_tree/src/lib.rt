@@ -1,10 +1,11 @@
 // The work of a node of the tree.
+#![tactic(auto)]
 ghost use Rattle.std.specs.Prelude.{◌≡◌, [], ◌+◌, ◌^◌, ◌<◌};
 ghost use Rattle.pass_tree.specs.Node.{work_of, plus_work};
 ghost use Rattle.pass_tree.specs.Clauses.{counted};
 
 // What a part of a pass did.
-#[derive(Drop)]
+#[derive(Clone, Copy)]
 pub struct Work {
     // one for each value computed
     pub steps: u32,

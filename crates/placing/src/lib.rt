@@ -1,4 +1,5 @@
 // Placing bits by a mask, and taking them out again. Each walks the mask once, counts its looks and keeps the count of ones.
+#![tactic(auto)]
 ghost use Rattle.std.specs.Prelude.{◌≡◌, cond, ◌+◌, ◌*◌, ◌≤◌, ◌<◌, eqb, length, get_or, set};
 ghost use Rattle.laws.specs.Clauses.{splice};
 ghost use Rattle.placing.specs.Place.{taken, placed};
@@ -18,7 +19,7 @@ fn placed_bit(message: &[u8], c: usize, information: u8) -> u8
 }
 
 // A byte of placed bits.
-#[derive(Drop)]
+#[derive(Clone, Copy)]
 struct PlacedByte {
     // The bits of eight indices, packed.
     byte: u8,

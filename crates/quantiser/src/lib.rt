@@ -1,4 +1,5 @@
 // The sample quantiser: samples times a scale, as channel values in quarter units.
+#![tactic(auto)]
 ghost use Rattle.std.specs.Prelude.{◌≡◌};
 ghost use Rattle.refusal.specs.Judge.{judge};
 ghost use Rattle.quantiser.specs.Quantise.{larger, valid_scale, first_nan, quantising_refusals, quantised};
@@ -9,7 +10,7 @@ use quantiser_level::quantise_one;
 use refusal::{Judgement, Refusal};
 
 // What is reported of the products.
-#[derive(Drop)]
+#[derive(Clone, Copy)]
 pub struct Summary {
     // the largest magnitude
     pub peak: f32,
@@ -18,7 +19,7 @@ pub struct Summary {
 }
 
 // What quantise answers.
-#[derive(Drop)]
+#[derive(Clone, Copy)]
 pub enum Quantised {
     // the bytes are written
     Done(Summary),

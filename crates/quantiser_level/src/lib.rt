@@ -1,4 +1,5 @@
 // One sample as a channel value in quarter units.
+#![tactic(auto)]
 ghost use Rattle.std.specs.Prelude.{◌≡◌, not, ◌<◌, min, T};
 ghost use Rattle.std.specs.Float.{binary32};
 ghost use Rattle.std.specs.Float.Ieee.{mul, is_nan};
@@ -6,7 +7,7 @@ ghost use Rattle.channel.specs.Channel.{byte_of};
 ghost use Rattle.quantiser_level.specs.Level.{magnitude, nearest, quarters, level, level_of};
 
 // What becomes of one sample.
-#[derive(Drop)]
+#[derive(Clone, Copy)]
 pub struct Level {
     // its channel value
     pub byte: u8,

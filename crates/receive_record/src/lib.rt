@@ -1,4 +1,5 @@
 // What `receive` does with one record: the line that it prints, and the description that it holds.
+#![tactic(auto)]
 ghost use Rattle.std.specs.Prelude.{◌≡◌, ◌≤◌, ◌<◌, length, take};
 ghost use Rattle.receive_record.specs.Clauses.{RespondPre, RespondPost, header_of};
 ghost use Rattle.receive_record.specs.Respond.{description_response, responded};
@@ -8,7 +9,7 @@ use receive_frame::{put_channel, put_refusal};
 use receive_lines::LINE;
 
 // The start of a record.
-#[derive(Drop)]
+#[derive(Clone, Copy)]
 pub struct Header {
     // the record's length in bytes, header included
     pub length: usize,
@@ -17,7 +18,7 @@ pub struct Header {
 }
 
 // What was done with a record.
-#[derive(Drop)]
+#[derive(Clone, Copy)]
 pub struct Response {
     // the length of its line
     pub line: usize,

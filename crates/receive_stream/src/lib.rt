@@ -1,5 +1,6 @@
 // What `receive` prints for a stream of records: how many bytes it reads next, what they say, and when its output is written. The program only
 // reads and writes.
+#![tactic(auto)]
 ghost use Rattle.std.specs.Prelude.{◌≡◌, ◌++◌, ◌+◌, ◌≤◌, ◌<◌, length};
 ghost use Rattle.receive_lines.specs.Line.{cut_line, end_line};
 ghost use Rattle.receive_stream.specs.Clauses.{room, most_turns, starting, ahead_of, Fits};
@@ -15,7 +16,7 @@ const HEADER: usize = 4;
 const ROOM: usize = 2 * LINE;
 
 // The state of a stream between two reads. The current record, the held description and the output have a buffer each.
-#[derive(Drop)]
+#[derive(Clone, Copy)]
 pub struct Stream {
     // bytes of the current record read so far
     pub there: usize,
@@ -34,7 +35,7 @@ pub struct Stream {
 }
 
 // What is known of a record from the bytes read so far.
-#[derive(Drop)]
+#[derive(Clone, Copy)]
 enum Ahead {
     // it is complete
     Whole,

@@ -1,9 +1,10 @@
 // Refusals as data.
+#![tactic(auto)]
 ghost use Rattle.std.specs.Prelude.{◌≡◌};
 ghost use Rattle.refusal.specs.Judge.{outside, number_of};
 
 // A refusal of a call.
-#[derive(Drop)]
+#[derive(Clone, Copy)]
 pub enum Refusal {
     // Its number alone.
     Alone(u8),
@@ -24,7 +25,7 @@ impl Refusal {
 }
 
 // What the tests of a call say.
-#[derive(Drop)]
+#[derive(Clone, Copy)]
 pub enum Judgement {
     // No refusal applies.
     Fine,

@@ -1,4 +1,5 @@
 // The untried sets of a search, in order, each as one number.
+#![tactic(auto)]
 ghost use Rattle.std.specs.Prelude.{◌≡◌, [], ◌∷◌, map, ◌*◌, ◌^◌, ◌≤◌, ◌<◌, length, take};
 ghost use Rattle.flip_order.specs.Order.{magnitude_at};
 ghost use Rattle.flip_order.specs.Clauses.{most_magnitude};
@@ -15,7 +16,7 @@ const BASE: u64 = 2 * SIZE as u64;
 pub const FLIPS: usize = 3;
 
 // A set to which one more index will be appended.
-#[derive(Drop)]
+#[derive(Clone, Copy)]
 pub struct Stem {
     // The sum of its leaf magnitudes.
     pub sum: u64,

@@ -1,4 +1,5 @@
 // The run of trials of decoding by sets.
+#![tactic(auto)]
 ghost use Rattle.std.specs.Prelude.{◌≡◌, map, ◌-◌, ◌*◌, ◌≤◌, ◌<◌, length, take};
 ghost use Rattle.laws.specs.Clauses.{splice};
 ghost use Rattle.pass_ends.specs.Clauses.{arrays, Whole};
@@ -17,7 +18,7 @@ use sets_queue::FLIPS;
 const KEYS: usize = 511;
 
 // What trial 1 leaves to the later trials.
-#[derive(Drop)]
+#[derive(Clone, Copy)]
 struct Started {
     // Its steps.
     pub steps: u32,

@@ -1,10 +1,11 @@
 // A walk along a mask. Its counts are private: only `start` and `look` make a walk, so that n looks are reported by n calls of `look` alone.
+#![tactic(auto)]
 ghost use Rattle.std.specs.Prelude.{◌≡◌, ◌*◌, ◌^◌, ◌≤◌, ◌<◌, length};
 ghost use Rattle.bits.specs.Mask.{mask_bit};
 ghost use Rattle.walk.specs.Walked.{at_start, looked};
 
 // What a walk has counted.
-#[derive(Drop)]
+#[derive(Clone, Copy)]
 pub struct Walk {
     // How many bits of the mask were looked at: those at 0, 1, 2 and so on.
     looks: usize,
@@ -13,7 +14,7 @@ pub struct Walk {
 }
 
 // What a look sees.
-#[derive(Drop)]
+#[derive(Clone, Copy)]
 pub struct Look {
     // The bit of the mask.
     pub bit: u8,
