@@ -15,10 +15,10 @@ use Rattle.arrays.specs.Padded.{all_zero}
 use Rattle.arrays.proofs.is_zero_from.Statement.{statement}
 use Rattle.arrays.proofs.is_zero_from.Tie as tie
 
-abbrev invariant-loop : tie.invariant-loop
+abbrev invariant-loop : tie.invariant-loop-i
 invariant-loop bytes start any₀ i₀ any i = (i ≤ length bytes) × ((eqb any 0 && all_zero (drop i bytes)) ≡ all_zero (drop start bytes))
 
-abbrev decreases-loop : tie.decreases-loop
+abbrev decreases-loop : tie.decreases-loop-i
 decreases-loop bytes start any₀ i₀ any i = length bytes - i
 
 -- two bytes together have a bit exactly if one of them has
@@ -50,20 +50,20 @@ unfolding all_zero
 last true bytes i l = sym (ap all_zero (drop_of_length-le bytes l))
 last false bytes i l = refl
 
-loop-holds : tie.Need-loop-init invariant-loop decreases-loop
+loop-holds : tie.Need-loop-i-init invariant-loop decreases-loop
 loop-holds c = (c.requires, refl)
 
-loop-again : tie.Need-loop-preserved invariant-loop decreases-loop
+loop-again : tie.Need-loop-i-preserved invariant-loop decreases-loop
 loop-again c =
-    let l = c.before.before.loop in
+    let l = c.before.before.loop-i in
     (omega arith, next l.any c.before.before.before.args.bytes.now l.i (omega arith) ∙ l.invariant.1)
 
 returns : tie.Need-returns invariant-loop decreases-loop
 returns c =
-    let l = c.before.loop in
+    let l = c.before.loop-i in
     last (eqb l.any 0) c.before.before.args.bytes.now l.i (omega arith) ∙ l.invariant.1
 
-pub is-zero-from-spec : {M : Type 1} → statement M
-is-zero-from-spec =
+pub is_zero_from_spec : {M : Type 1} → statement M
+is_zero_from_spec =
     tie.close
     (tie.spec invariant-loop decreases-loop loop-holds (λ c. search rules) (λ c. search rules) (λ c. search rules) loop-again returns)

@@ -4,5 +4,5 @@ use lib.Bits.{and_mask}
 use Rattle.bits.proofs.bit_of.Statement.{statement}
 use Rattle.bits.proofs.bit_of.Tie as tie
 
-pub bit-of-spec : {M : Type 1} → statement M
-bit-of-spec = tie.close (tie.spec (λ c. search rules) (λ c. search rules) (λ c. and_mask _ 1))
+pub bit_of_spec : {M : Type 1} → statement M
+bit_of_spec = tie.close (tie.spec (λ c. search rules) (λ c. search rules) (λ c. and_mask _ 1))

@@ -10,29 +10,29 @@ use Rattle.bits.proofs.Mask.{ones_next, ones_le}
 use Rattle.bits.proofs.ones.Statement.{statement}
 use Rattle.bits.proofs.ones.Tie as tie
 
-abbrev invariant-loop : tie.invariant-loop
+abbrev invariant-loop : tie.invariant-loop-m
 invariant-loop mask count₀ m₀ count m = (m ≤ length mask) × (count ≡ ones_below mask (8 * m))
 
-abbrev decreases-loop : tie.decreases-loop
+abbrev decreases-loop : tie.decreases-loop-m
 decreases-loop mask count₀ m₀ count m = length mask - m
 
-loop-holds : tie.Need-loop-init invariant-loop decreases-loop
+loop-holds : tie.Need-loop-m-init invariant-loop decreases-loop
 unfolding ones_below
 loop-holds c = (search rules, refl)
 
 -- the byte that a turn reads
-byte : (c : tie.After-shared-slice-known invariant-loop decreases-loop) → get_or c.before.before.before.args.mask.now c.before.before.loop.m 0 < 256
-byte c = omega (arith, c.shared-slice-known.given c.before.before.loop.m)
+byte : (c : tie.After-shared_slice_known-1 invariant-loop decreases-loop) → get_or c.before.before.before.args.mask.now c.before.before.loop-m.m 0 < 256
+byte c = omega (arith, c.shared_slice_known-1.given c.before.before.loop-m.m)
 
-add-count : tie.Need-overflow-add-count invariant-loop decreases-loop
+add-count : tie.Need-overflow_add-count invariant-loop decreases-loop
 add-count c =
-    omega (arith, count.ones-le 8 _ (byte c), ones_le c.before.before.before.args.mask.now (8 * c.before.before.loop.m))
+    omega (arith, count.ones-le 8 _ (byte c), ones_le c.before.before.before.args.mask.now (8 * c.before.before.loop-m.m))
 
 returns : tie.Need-returns invariant-loop decreases-loop
-returns c = let e : c.before.loop.m ≡ length c.before.before.args.mask.now = omega arith in cc
+returns c = let e : c.before.loop-m.m ≡ length c.before.before.args.mask.now = omega arith in cc
 
-pub ones-spec : {M : Type 1} → statement M
-ones-spec =
+pub ones_spec : {M : Type 1} → statement M
+ones_spec =
     tie.close
     (tie.spec
     invariant-loop

@@ -10,25 +10,25 @@ use Rattle.bits.specs.Packing.{packed_byte, packed}
 use Rattle.bits.proofs.pack.Statement.{statement}
 use Rattle.bits.proofs.pack.Tie as tie
 
-abbrev invariant-loop : tie.invariant-loop
+abbrev invariant-loop : tie.invariant-loop-m
 invariant-loop bits bytes₀ m₀ bytes m = Filling (packed_byte bits) 0 (length bytes₀) bytes₀ bytes m
 
-abbrev decreases-loop : tie.decreases-loop
+abbrev decreases-loop : tie.decreases-loop-m
 decreases-loop bits bytes₀ m₀ bytes m = length bytes₀ - m
 
-loop-again : tie.Need-loop-preserved invariant-loop decreases-loop
+loop-again : tie.Need-loop-m-preserved invariant-loop decreases-loop
 loop-again c =
-    let l = c.before.before.loop in
+    let l = c.before.before.loop-m in
     filling_more l.invariant l.m c.packed_byte.result (omega arith) (omega arith) c.packed_byte.ensures
 
 returns : tie.Need-returns invariant-loop decreases-loop
 unfolding packed
 returns c =
     let s = c.before.before.before.before in
-    filling_whole c.before.loop.invariant (omega arith) ∙ ap (table (packed_byte s.args.bits.now)) s.requires.1
+    filling_whole c.before.loop-m.invariant (omega arith) ∙ ap (table (packed_byte s.args.bits.now)) s.requires.1
 
-pub pack-spec : {M : Type 1} → statement M
-pack-spec =
+pub pack_spec : {M : Type 1} → statement M
+pack_spec =
     tie.close
     (tie.spec
     invariant-loop

@@ -16,42 +16,42 @@ use Rattle.bits.proofs.packed_byte.Tie as tie
 abbrev bit_at : List ℕ → ℕ → ℕ → ℕ
 bit_at bits m b = get_or bits (8 * m + b) 0
 
-abbrev invariant-loop : tie.invariant-loop
+abbrev invariant-loop : tie.invariant-loop-b
 invariant-loop bits m byte₀ b₀ byte b = (b ≤ 8) × (byte ≡ number (bit_at bits m) b)
 
-abbrev decreases-loop : tie.decreases-loop
+abbrev decreases-loop : tie.decreases-loop-b
 decreases-loop bits m byte₀ b₀ byte b = 8 - b
 
-loop-holds : tie.Need-loop-init invariant-loop decreases-loop
+loop-holds : tie.Need-loop-b-init invariant-loop decreases-loop
 unfolding number
 loop-holds c = (search rules, refl)
 
 -- fewer than eight bits leave room for one more
-room : (c : tie.In-loop invariant-loop decreases-loop) → c.before.loop.byte < 128
+room : (c : tie.In-loop-b invariant-loop decreases-loop) → c.before.loop-b.byte < 128
 room c =
     let s = c.before.before.before in
-    let l = c.before.loop in
+    let l = c.before.loop-b in
     let f = bit_at s.args.bits.now s.args.m in
     omega (arith, number_lt f l.b (λ b. s.requires.0.at (8 * s.args.m + b)), pow_mono {i = l.b} {j = 7} (omega arith))
 
 -- the bit that a turn appends
-next_bit : (c : tie.After-bit-or-zero invariant-loop decreases-loop) → c.bit-or-zero.result < 2
+next_bit : (c : tie.After-bit_or_zero invariant-loop decreases-loop) → c.bit_or_zero.result < 2
 next_bit c =
     let s = c.before.before.before.before in
-    omega (arith, c.bit-or-zero.ensures, s.requires.0.at (8 * s.args.m + c.before.before.loop.b))
+    omega (arith, c.bit_or_zero.ensures, s.requires.0.at (8 * s.args.m + c.before.before.loop-b.b))
 
-loop-again : tie.Need-loop-preserved invariant-loop decreases-loop
+loop-again : tie.Need-loop-b-preserved invariant-loop decreases-loop
 unfolding number
-loop-again c = (search rules, rw add-one (ap₂ (λ (x y : ℕ). x * 2 + y) c.before.before.loop.invariant.1 c.bit-or-zero.ensures))
+loop-again c = (search rules, rw add-one (ap₂ (λ (x y : ℕ). x * 2 + y) c.before.before.loop-b.invariant.1 c.bit_or_zero.ensures))
 
 returns : tie.Need-returns invariant-loop decreases-loop
 returns c =
     let s = c.before.before.before in
-    let e : c.before.loop.b ≡ 8 = omega arith in
-    c.before.loop.invariant.1 ∙ ap (number (bit_at s.args.bits.now s.args.m)) e
+    let e : c.before.loop-b.b ≡ 8 = omega arith in
+    c.before.loop-b.invariant.1 ∙ ap (number (bit_at s.args.bits.now s.args.m)) e
 
-pub packed-byte-spec : {M : Type 1} → statement M
-packed-byte-spec =
+pub packed_byte_spec : {M : Type 1} → statement M
+packed_byte_spec =
     tie.close
     (tie.spec
     invariant-loop

@@ -13,23 +13,23 @@ use Rattle.bits.proofs.unpack.Tie as tie
 abbrev bit_at : List ℕ → ℕ → ℕ
 bit_at bytes i = bit (get_or bytes (i / 8) 0) (7 - i % 8)
 
-abbrev invariant-loop : tie.invariant-loop
+abbrev invariant-loop : tie.invariant-loop-i
 invariant-loop bytes bits₀ i₀ bits i = Filling (bit_at bytes) 0 (length bits₀) bits₀ bits i
 
-abbrev decreases-loop : tie.decreases-loop
+abbrev decreases-loop : tie.decreases-loop-i
 decreases-loop bytes bits₀ i₀ bits i = length bits₀ - i
 
-loop-again : tie.Need-loop-preserved invariant-loop decreases-loop
+loop-again : tie.Need-loop-i-preserved invariant-loop decreases-loop
 loop-again c =
-    let l = c.before.before.before.loop in
-    filling_more l.invariant l.i c.bit-of.result (omega arith) (omega arith) c.bit-of.ensures
+    let l = c.before.before.before.loop-i in
+    filling_more l.invariant l.i c.bit_of.result (omega arith) (omega arith) c.bit_of.ensures
 
 returns : tie.Need-returns invariant-loop decreases-loop
 unfolding unpacked
-returns c = filling_whole c.before.loop.invariant (omega arith)
+returns c = filling_whole c.before.loop-i.invariant (omega arith)
 
-pub unpack-spec : {M : Type 1} → statement M
-unpack-spec =
+pub unpack_spec : {M : Type 1} → statement M
+unpack_spec =
     tie.close
     (tie.spec
     invariant-loop

@@ -17,15 +17,15 @@ use Rattle.channel.specs.Channel.{channel_value}
 use Rattle.channel.proofs.find_outside.Statement.{statement}
 use Rattle.channel.proofs.find_outside.Tie as tie
 
-abbrev invariant-loop : tie.invariant-loop
+abbrev invariant-loop : tie.invariant-loop-i
 invariant-loop channel i₀ i = (i ≤ length channel) × ((k : ℕ) → k < i → ltb 31 (nat_abs (channel_value (get_or channel k 0))) ≡ false)
 
-abbrev decreases-loop : tie.decreases-loop
+abbrev decreases-loop : tie.decreases-loop-i
 decreases-loop channel i₀ i = length channel - i
 
 -- the byte that a turn reads
-byte : (c : tie.After-shared-slice-known2 invariant-loop decreases-loop) → get_or c.before.before.before.before.args.channel.now c.before.before.loop.i 0 < 256
-byte c = omega (arith, c.shared-slice-known2.given c.before.before.loop.i)
+byte : (c : tie.After-shared_slice_known-in-loop-i-1 invariant-loop decreases-loop) → get_or c.before.before.before.before.args.channel.now c.before.before.loop-i.i 0 < 256
+byte c = omega (arith, c.shared_slice_known-in-loop-i-1.given c.before.before.loop-i.i)
 
 channel-abs : (b : ℕ) → nat_abs (channel_value b) ≤ b + 256
 unfolding channel_value
@@ -37,38 +37,38 @@ value-back z b e l = ap (back w32) e ∙ back-small w32 (channel_value b) (omega
 
 magnitude-requires : tie.Need-magnitude-requires invariant-loop decreases-loop
 magnitude-requires c κs =
-    let b = get_or c.before.before.before.before.before.args.channel.now c.before.before.before.loop.i 0 in
-    omega (arith, ap nat_abs (value-back _ b c.channel-value.ensures (byte c.before)), channel-abs b, byte c.before)
+    let b = get_or c.before.before.before.before.before.args.channel.now c.before.before.before.loop-i.i 0 in
+    omega (arith, ap nat_abs (value-back _ b c.channel_value.ensures (byte c.before)), channel-abs b, byte c.before)
 
 -- the test of a turn
 test : (c : tie.After-magnitude invariant-loop decreases-loop) →
     let channel = c.before.before.before.before.before.before.args.channel.now in
-    lt_z (pos 31) (back w32 c.magnitude.result) ≡ ltb 31 (nat_abs (channel_value (get_or channel c.before.before.before.before.loop.i 0)))
+    lt_z (pos 31) (back w32 c.magnitude.result) ≡ ltb 31 (nat_abs (channel_value (get_or channel c.before.before.before.before.loop-i.i 0)))
 test c =
-    let b = get_or c.before.before.before.before.before.before.args.channel.now c.before.before.before.before.loop.i 0 in
+    let b = get_or c.before.before.before.before.before.before.args.channel.now c.before.before.before.before.loop-i.i 0 in
     let l = byte c.before.before in
-    let m = c.magnitude.ensures ∙ ap (λ (z : ℤ). pos (nat_abs z)) (value-back _ b c.before.channel-value.ensures l) in
+    let m = c.magnitude.ensures ∙ ap (λ (z : ℤ). pos (nat_abs z)) (value-back _ b c.before.channel_value.ensures l) in
     ap (λ (z : ℤ). lt_z (pos 31) z) (ap (back w32) m ∙ back-small w32 (pos (nat_abs (channel_value b))) (omega (arith, channel-abs b)))
 
-returns : tie.Need-returns invariant-loop decreases-loop
+returns : tie.Need-returns-then-magnitude-gt31 invariant-loop decreases-loop
 returns c =
-    let l = c.before.before.before.before.before.loop in
+    let l = c.before.before.before.before.before.loop-i in
     let s = c.before.before.before.before.before.before.before.args in
-    sym (first-is _ (length s.channel.now) l.i l.invariant.0 l.invariant.1 (λ _. sym (test c.before) ∙ c.if1.true))
+    sym (first-is _ (length s.channel.now) l.i l.invariant.0 l.invariant.1 (λ _. sym (test c.before) ∙ c.if-magnitude-gt31.true))
 
-loop-again : tie.Need-loop-preserved invariant-loop decreases-loop
+loop-again : tie.Need-loop-i-preserved invariant-loop decreases-loop
 loop-again c =
-    let l = c.before.before.before.before.before.loop in
-    (omega arith, below_more _ _ l.invariant.1 (sym (test c.before) ∙ c.if1.false))
+    let l = c.before.before.before.before.before.loop-i in
+    (omega arith, below_more _ _ l.invariant.1 (sym (test c.before) ∙ c.if-magnitude-gt31.false))
 
-returns-2 : tie.Need-returns-2 invariant-loop decreases-loop
+returns-2 : tie.Need-returns invariant-loop decreases-loop
 returns-2 c =
-    let l = c.before.loop in
+    let l = c.before.loop-i in
     let s = c.before.before.before.args in
     sym (first-is _ (length s.channel.now) l.i l.invariant.0 l.invariant.1 (λ m. absurd (omega arith)))
 
-pub find-outside-spec : {M : Type 1} → statement M
-find-outside-spec =
+pub find_outside_spec : {M : Type 1} → statement M
+find_outside_spec =
     tie.close
     (tie.spec
     invariant-loop

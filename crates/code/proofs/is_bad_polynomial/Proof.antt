@@ -20,10 +20,10 @@ bit-0 p = and_mask p 1 ∙ ap (λ (x : ℕ). x % 2) (sym (div-one p))
 bad-is : (p r : ℕ) (t : Bool) → t ≡ (eqb (bit_and p 1) 0 || is_wide p r) → t ≡ bad_polynomial p r
 bad-is p r t e = e ∙ ap (λ (x : ℕ). eqb x 0 || is_wide p r) (bit-0 p)
 
-pub is-bad-polynomial-spec : {M : Type 1} → statement M
-is-bad-polynomial-spec =
+pub is_bad_polynomial_spec : {M : Type 1} → statement M
+is_bad_polynomial_spec =
     tie.close
     (tie.spec
     (λ c κs. search rules)
-    (λ c. bad-is c.before.args.p c.before.args.r _ (or_first _ _ (eq-eqb _ _ c.if1.true)))
-    (λ c. bad-is c.before.before.args.p c.before.before.args.r _ (c.is_IsWide.ensures ∙ or_second _ _ (ne_eqb _ _ c.before.if1.false))))
+    (λ c. bad-is c.before.args.p c.before.args.r _ (or_first _ _ (eq-eqb _ _ c.if-p-eq0.true)))
+    (λ c. bad-is c.before.before.args.p c.before.before.args.r _ (c.is_IsWide.ensures ∙ or_second _ _ (ne_eqb _ _ c.before.if-p-eq0.false))))

@@ -6,10 +6,10 @@ use Rattle.laws.proofs.Choice.{or_first, or_second}
 use Rattle.code.proofs.is_description.Statement.{statement}
 use Rattle.code.proofs.is_description.Tie as tie
 
-pub is-description-spec : {M : Type 1} → statement M
-is-description-spec =
+pub is_description_spec : {M : Type 1} → statement M
+is_description_spec =
     tie.close
     (tie.spec
     (λ c κs. search rules)
-    (λ c. or_first _ _ (eq-eqb _ _ c.if1.true))
-    (λ c. c.has-start.ensures ∙ or_second _ _ (ne_eqb _ _ c.before.if1.false)))
+    (λ c. or_first _ _ (eq-eqb _ _ c.if-kind-eq1.true))
+    (λ c. c.has_start.ensures ∙ or_second _ _ (ne_eqb _ _ c.before.if-kind-eq1.false)))

@@ -10,18 +10,18 @@ use Rattle.code.proofs.TwoKinds.{mask_at_least}
 use Rattle.code.proofs.is_short.Statement.{statement}
 use Rattle.code.proofs.is_short.Tie as tie
 
-returns : tie.Need-returns
+returns : tie.Need-returns-then-d-lt-FIELDS
 returns c =
     let d = c.before.before.args.d.now in
-    lt-ltb _ _ c.if1.true ∙ sym (lt-ltb (length d) (mask_at (word d 2)) (omega (arith, c.if1.true, mask_at_least (word d 2))))
+    lt-ltb _ _ c.if-d-lt-FIELDS.true ∙ sym (lt-ltb (length d) (mask_at (word d 2)) (omega (arith, c.if-d-lt-FIELDS.true, mask_at_least (word d 2))))
 
-returns-2 : tie.Need-returns-2
+returns-2 : tie.Need-returns-else-d-lt-FIELDS
 returns-2 c =
     let d = c.before.before.before.before.args.d.now in
     ap (ltb (length d)) (c.mask_at.ensures ∙ ap mask_at c.before.read_word.ensures)
 
-pub is-short-spec : {M : Type 1} → statement M
-is-short-spec =
+pub is_short_spec : {M : Type 1} → statement M
+is_short_spec =
     tie.close
     (tie.spec
     (λ c κs. search rules)

@@ -8,9 +8,9 @@ use Rattle.code.proofs.TwoKinds.{mask_at-most}
 use Rattle.code.proofs.mask_at.Statement.{statement}
 use Rattle.code.proofs.mask_at.Tie as tie
 
-sum_is : (c : tie.After-start-size) → 8 + c.start-size.result ≡ mask_at c.before.args.kind
-sum_is c = ap (λ (size : ℕ). 8 + size) c.start-size.ensures
+sum_is : (c : tie.After-start_size) → 8 + c.start_size.result ≡ mask_at c.before.args.kind
+sum_is c = ap (λ (size : ℕ). 8 + size) c.start_size.ensures
 
-pub mask-at-spec : {M : Type 1} → statement M
-mask-at-spec =
+pub mask_at_spec : {M : Type 1} → statement M
+mask_at_spec =
     tie.close (tie.spec (λ c κs. search rules) (λ c. omega (arith, sum_is c, mask_at-most c.before.args.kind)) sum_is)

@@ -12,18 +12,18 @@ use Rattle.code.proofs.TwoKinds.{fields-there}
 use Rattle.code.proofs.mask_of.Statement.{statement}
 use Rattle.code.proofs.mask_of.Tie as tie
 
-module _ (c : tie.After-mask-at) where
+module _ (c : tie.After-mask_at-at) where
   abbrev d : List ℕ
   d = c.before.before.before.args.d.now
 
-  at-is : c.mask_at.result ≡ mask_at (word d 2)
-  at-is = c.mask_at.ensures ∙ ap mask_at c.before.read_word.ensures
+  at-is : c.mask_at-at.result-1 ≡ mask_at (word d 2)
+  at-is = c.mask_at-at.ensures ∙ ap mask_at c.before.read_word.ensures
 
-  at-fits : c.mask_at.result ≤ length d
+  at-fits : c.mask_at-at.result-1 ≤ length d
   at-fits = omega (arith, at-is, c.before.before.before.requires)
 
-pub mask-of-spec : {M : Type 1} → statement M
-mask-of-spec =
+pub mask_of_spec : {M : Type 1} → statement M
+mask_of_spec =
     tie.close
     (tie.spec
     (λ c κs. omega (arith, fields-there c.before.args.d.now c.before.requires))
@@ -31,4 +31,4 @@ mask-of-spec =
     at-fits
     at-fits
     (λ c. search rules)
-    (λ c. take_all _ _ (le_of_eq (length-drop c.before.mask_at.result (d c.before))) ∙ ap (λ (at : ℕ). drop at (d c.before)) (at-is c.before)))
+    (λ c. take_all _ _ (le_of_eq (length-drop c.before.mask_at-at.result-1 (d c.before))) ∙ ap (λ (at : ℕ). drop at (d c.before)) (at-is c.before)))

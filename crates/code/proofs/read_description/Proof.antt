@@ -35,27 +35,27 @@ module _ (d : List ℕ) where
   by j = refused_or j Refused (Accepted (code_of d))
 
 -- the bytes, and that the layout is fine
-module _ (c : tie.After-enum-told) where
+module _ (c : tie.In-Fine) where
   abbrev d : List ℕ
   d = c.before.before.before.before.args.d.now
 
   layout-fine : judge (layout d) ≡ Fine
-  layout-fine = sym c.before.before.judge-layout.ensures ∙ c.enum_told.given.1
+  layout-fine = sym c.before.before.judge_layout.ensures ∙ c.enum_told-1.given.1
 
   laid : Laid d
   laid = fine_laid d layout-fine
 
-returns : tie.Need-returns
+returns : tie.Need-returns-in-Fine-judge_check
 unfolding describe_up_to
 returns c =
     let t = c.before in
     let k = t.before.before in
     let a = k.before in
-    c.read-code.ensures
+    c.read_code.ensures
     ∙ sym (ap (by (d a)) (append-fine (layout (d a)) (check (d a) ++ ones (d a)) (layout-fine a)
-    ∙ append-fine (check (d a)) (ones (d a)) (sym k.judge-check.ensures ∙ t.enum-told2.given.1)))
+    ∙ append-fine (check (d a)) (ones (d a)) (sym k.judge_check.ensures ∙ t.enum_told-in-Fine-judge_check-1.given.1)))
 
-returns-2 : tie.Need-returns-2
+returns-2 : tie.Need-returns-in-Refused-judge_check
 unfolding describe_up_to
 returns-2 c =
     let x = c.before in
@@ -63,19 +63,19 @@ returns-2 c =
     let a = k.before in
     sym (refused_by Refused (Accepted (code_of (d a))) _ _
     (append-fine (layout (d a)) (check (d a) ++ ones (d a)) (layout-fine a)
-    ∙ append_refused (check (d a)) (ones (d a)) _ (sym k.judge-check.ensures ∙ x.x.given.1)))
+    ∙ append_refused (check (d a)) (ones (d a)) _ (sym k.judge_check.ensures ∙ x.x-1.given.1)))
 
-returns-3 : tie.Need-returns-3
+returns-3 : tie.Need-returns-in-Refused
 unfolding describe_up_to
 returns-3 c =
     let x = c.before in
     let l = x.before.before in
     let d = l.before.before.args.d.now in
     sym (refused_by Refused (Accepted (code_of d)) _ _
-    (append_refused (layout d) (check d ++ ones d) _ (sym l.judge-layout.ensures ∙ x.x2.given.1)))
+    (append_refused (layout d) (check d ++ ones d) _ (sym l.judge_layout.ensures ∙ x.x-in-Refused-judge_layout-1.given.1)))
 
-pub read-description-spec : {M : Type 1} → statement M
-read-description-spec =
+pub read_description_spec : {M : Type 1} → statement M
+read_description_spec =
     tie.close
     (tie.spec
     (λ c κs. search rules)

@@ -13,12 +13,12 @@ use Rattle.code.specs.Description.{word}
 use Rattle.code.proofs.record_in.Statement.{statement}
 use Rattle.code.proofs.record_in.Tie as tie
 
-module _ (c : tie.After-min) where
+module _ (c : tie.After-min-size) where
   abbrev bytes : List ℕ
   bytes = c.before.before.before.args.bytes.now
 
-  size_is : c.min.result ≡ min (word bytes 0) (length bytes)
-  size_is = c.min.ensures ∙ ap (λ (k : ℕ). min k (length bytes)) c.before.read_word.ensures
+  size_is : c.min-size.result ≡ min (word bytes 0) (length bytes)
+  size_is = c.min-size.ensures ∙ ap (λ (k : ℕ). min k (length bytes)) c.before.read_word.ensures
 
 -- the first bytes are those of the smaller number
 take_min : (n : ℕ) (l : List ℕ) → take (min n (length l)) l ≡ take n l
@@ -32,12 +32,12 @@ take_min n l = go (leb n (length l)) refl
         let q : min n (length l) ≡ length l = omega (arith, leb-false n (length l) e) in
         ap (λ (k : ℕ). take k l) q ∙ take-length l ∙ sym (take_all n l (omega (arith, leb-false n (length l) e)))
 
-pub record-in-spec : {M : Type 1} → statement M
-record-in-spec =
+pub record_in_spec : {M : Type 1} → statement M
+record_in_spec =
     tie.close
     (tie.spec
     (λ c κs. search rules)
     (λ c. search rules)
     (λ c κs. search rules)
-    (λ c. sym (length-take-le c.before.min.result (bytes c.before) (omega (arith, size_is c.before))))
+    (λ c. sym (length-take-le c.before.min-size.result (bytes c.before) (omega (arith, size_is c.before))))
     (λ c. ap (λ (k : ℕ). take k (bytes c.before)) (size_is c.before) ∙ take_min (word (bytes c.before) 0) (bytes c.before)))

@@ -10,25 +10,25 @@ use Rattle.code.proofs.TwoKinds.{fields-there}
 use Rattle.code.proofs.start_of.Statement.{statement}
 use Rattle.code.proofs.start_of.Tie as tie
 
-module _ (c : tie.After-has-start) where
+module _ (c : tie.After-has_start) where
   abbrev d : List ℕ
   d = c.before.before.before.args.d.now
 
-  test-is : c.has-start.result ≡ has_start (word d 2)
-  test-is = c.has-start.ensures ∙ ap has_start c.before.read_word.ensures
+  test-is : c.has_start.result ≡ has_start (word d 2)
+  test-is = c.has_start.ensures ∙ ap has_start c.before.read_word.ensures
 
 -- by what the test says
 abbrev by : List ℕ → Bool → ℕ
 by d t = cond t (word d 8) 0
 
-read-word-requires-2 : tie.Need-read-word-requires-2
+read-word-requires-2 : tie.Need-read_word-requires-then-has_start
 read-word-requires-2 c κs =
     let h = c.before in
-    let ten : mask_at (word (d h) 2) ≡ 10 = ap (λ (t : Bool). 8 + cond t 2 0) (sym (test-is h) ∙ c.if1.true) in
+    let ten : mask_at (word (d h) 2) ≡ 10 = ap (λ (t : Bool). 8 + cond t 2 0) (sym (test-is h) ∙ c.if-has_start.true) in
     omega (arith, h.before.before.before.requires)
 
-pub start-of-spec : {M : Type 1} → statement M
-start-of-spec =
+pub start_of_spec : {M : Type 1} → statement M
+start_of_spec =
     tie.close
     (tie.spec
     (λ c κs. omega (arith, fields-there c.before.args.d.now c.before.requires))
@@ -36,5 +36,5 @@ start-of-spec =
     read-word-requires-2
     (λ c.
     let h = c.before.before in
-    c.read-word2.ensures ∙ ap (by (d h)) (sym c.before.if1.true ∙ test-is h))
-    (λ c. ap (by (d c.before)) (sym c.if1.false ∙ test-is c.before)))
+    c.read_word-then-has_start.ensures ∙ ap (by (d h)) (sym c.before.if-has_start.true ∙ test-is h))
+    (λ c. ap (by (d c.before)) (sym c.if-has_start.false ∙ test-is c.before)))

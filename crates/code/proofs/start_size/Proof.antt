@@ -10,10 +10,10 @@ use Rattle.code.proofs.start_size.Tie as tie
 abbrev by : Bool → ℕ
 by t = cond t 2 0
 
-pub start-size-spec : {M : Type 1} → statement M
-start-size-spec =
+pub start_size_spec : {M : Type 1} → statement M
+start_size_spec =
     tie.close
     (tie.spec
     (λ c κs. search rules)
-    (λ c. ap by (sym c.if1.true ∙ c.before.has-start.ensures))
-    (λ c. ap by (sym c.if1.false ∙ c.before.has-start.ensures)))
+    (λ c. ap by (sym c.if-has_start.true ∙ c.before.has_start.ensures))
+    (λ c. ap by (sym c.if-has_start.false ∙ c.before.has_start.ensures)))

@@ -16,15 +16,15 @@ use Rattle.bits.proofs.BitsOf.{length-bits_of, bits_of-mod}
 use Rattle.crc.proofs.check.Statement.{statement}
 use Rattle.crc.proofs.check.Tie as tie
 
-abbrev invariant-loop : tie.invariant-loop
+abbrev invariant-loop : tie.invariant-loop-i
 invariant-loop payload r poly start word register₀ i₀ register i =
     (i ≤ length payload) × (register < 2 ^ r)
     × (run (bits_of r poly) (bits_of r register) (drop i payload) ≡ check_of (bits_of r poly) (bits_of r start) payload)
 
-abbrev decreases-loop : tie.decreases-loop
+abbrev decreases-loop : tie.decreases-loop-i
 decreases-loop payload r poly start word register₀ i₀ register i = length payload - i
 
-loop-holds : tie.Need-loop-init invariant-loop decreases-loop
+loop-holds : tie.Need-loop-i-init invariant-loop decreases-loop
 loop-holds c =
     let s = c.before.before in
     let r = s.args.r in
@@ -35,37 +35,37 @@ loop-holds c =
       run_check (bits_of r s.args.poly) (bits_of r s.args.start) s.args.payload.now (omega (arith, s.requires.some)) (g ∙ sym t) (bits_of_lem r s.args.start),
     )
 
-register-step-requires : tie.Need-register-step-requires invariant-loop decreases-loop
+register-step-requires : tie.Need-register_step-register-requires invariant-loop decreases-loop
 register-step-requires c κs =
     let s = c.before.before.before.before.before in
-    (s.requires.some, s.requires.most, rw c.before.before.before.feedback.ensures (mod-lt s.args.poly (pow_pos s.args.r)), c.before.before.loop.invariant.1)
+    (s.requires.some, s.requires.most, rw c.before.before.before.feedback-word.ensures (mod-lt s.args.poly (pow_pos s.args.r)), c.before.before.loop-i.invariant.1)
 
-loop-again : tie.Need-loop-preserved invariant-loop decreases-loop
+loop-again : tie.Need-loop-i-preserved invariant-loop decreases-loop
 loop-again c =
     let s = c.before.before.before.before.before.before in
-    let l = c.before.before.before.loop in
+    let l = c.before.before.before.loop-i in
     let r = s.args.r in
     let t = bits_of r s.args.poly in
     let p = s.args.payload.now in
-    let word = ap (bits_of r) c.before.before.before.before.feedback.ensures ∙ bits_of-mod r r s.args.poly (omega arith) in (
+    let word = ap (bits_of r) c.before.before.before.before.feedback-word.ensures ∙ bits_of-mod r r s.args.poly (omega arith) in (
       omega arith,
-      c.register-step.ensures.1,
+      c.register_step-register.ensures.1,
       ap (λ (g : List ℕ). run t g (drop (l.i + 1) p))
-          (c.register-step.ensures.0 ∙ ap (λ (u : List ℕ). step u (bits_of r l.register) (get_or p l.i 0)) word)
+          (c.register_step-register.ensures.0 ∙ ap (λ (u : List ℕ). step u (bits_of r l.register) (get_or p l.i 0)) word)
           ∙ sym (run-next t (bits_of r l.register) p l.i (omega arith)) ∙ l.invariant.2,
     )
 
 returns : tie.Need-returns invariant-loop decreases-loop
 returns c =
     let s = c.before.before.before.before in
-    let l = c.before.loop in
+    let l = c.before.loop-i in
     let p = s.args.payload.now in (
       ap (run (bits_of s.args.r s.args.poly) (bits_of s.args.r l.register)) (sym (drop_of_length-le p {i = l.i} (omega arith))) ∙ l.invariant.2,
       l.invariant.1,
     )
 
-pub check-spec : {M : Type 1} → statement M
-check-spec =
+pub check_spec : {M : Type 1} → statement M
+check_spec =
     tie.close
     (tie.spec
     invariant-loop

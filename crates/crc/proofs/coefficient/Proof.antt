@@ -4,5 +4,5 @@ use lib.Bits.{and_mask}
 use Rattle.crc.proofs.coefficient.Statement.{statement}
 use Rattle.crc.proofs.coefficient.Tie as tie
 
-pub coefficient-spec : {M : Type 1} → statement M
-coefficient-spec = tie.close (tie.spec (λ c. search rules) (λ c. and_mask _ 1))
+pub coefficient_spec : {M : Type 1} → statement M
+coefficient_spec = tie.close (tie.spec (λ c. search rules) (λ c. and_mask _ 1))

@@ -10,26 +10,26 @@ use Rattle.crc.proofs.Words.{shr_more}
 use Rattle.crc.proofs.feedback.Statement.{statement}
 use Rattle.crc.proofs.feedback.Tie as tie
 
-abbrev invariant-loop : tie.invariant-loop
+abbrev invariant-loop : tie.invariant-loop-i
 invariant-loop poly r word₀ i₀ word i = (i ≤ r) × (word ≡ poly % 2 ^ r / 2 ^ i)
 
-abbrev decreases-loop : tie.decreases-loop
+abbrev decreases-loop : tie.decreases-loop-i
 decreases-loop poly r word₀ i₀ word i = i
 
-loop-holds : tie.Need-loop-init invariant-loop decreases-loop
+loop-holds : tie.Need-loop-i-init invariant-loop decreases-loop
 loop-holds c = (omega arith, sym (div-eq_of_lt (mod-lt c.args.poly (pow_pos c.args.r))))
 
 -- the word leaves room for one coefficient more
-room : (c : tie.In-loop invariant-loop decreases-loop) → c.before.loop.word < 2 ^ 16
+room : (c : tie.In-loop-i invariant-loop decreases-loop) → c.before.loop-i.word < 2 ^ 16
 room c =
     let a = c.before.before.args in
-    let l = c.before.loop in
+    let l = c.before.loop-i in
     omega (arith, l.invariant.1, shr_le (a.poly % 2 ^ a.r) l.i, mod-lt a.poly (pow_pos a.r), pow_mono {i = a.r} {j = 16} c.before.before.requires)
 
-loop-again : tie.Need-loop-preserved invariant-loop decreases-loop
+loop-again : tie.Need-loop-i-preserved invariant-loop decreases-loop
 loop-again c =
     let a = c.before.before.before.args in
-    let l = c.before.before.loop in (
+    let l = c.before.before.loop-i in (
       omega arith,
       ap₂ (λ (x y : ℕ). x * 2 + y) l.invariant.1 (c.coefficient.ensures ∙ sym (bit-mod a.poly (l.i - 1) a.r (omega arith)))
           ∙ shr_more (a.poly % 2 ^ a.r) l.i (omega arith),
@@ -38,11 +38,11 @@ loop-again c =
 returns : tie.Need-returns invariant-loop decreases-loop
 returns c =
     let a = c.before.before.args in
-    let e : c.before.loop.i ≡ 0 = omega arith in
-    c.before.loop.invariant.1 ∙ ap (λ (i : ℕ). a.poly % 2 ^ a.r / 2 ^ i) e ∙ div-one (a.poly % 2 ^ a.r)
+    let e : c.before.loop-i.i ≡ 0 = omega arith in
+    c.before.loop-i.invariant.1 ∙ ap (λ (i : ℕ). a.poly % 2 ^ a.r / 2 ^ i) e ∙ div-one (a.poly % 2 ^ a.r)
 
-pub feedback-spec : {M : Type 1} → statement M
-feedback-spec =
+pub feedback_spec : {M : Type 1} → statement M
+feedback_spec =
     tie.close
     (tie.spec
     invariant-loop

@@ -31,44 +31,44 @@ module _ (m : List ℕ) (at r x j : ℕ) (len : length m ≡ at + r) (l : j < r)
   other-here : (get_or m (at + j) 0 ≡ bit x (r - 1 - j) → ⊥) → false ≡ same (drop (at + j) m) (bits_of (r - j) x)
   other-here d = sym (first ∙ ap (λ (t : Bool). t && same (drop (at + (j + 1)) m) (bits_of (r - (j + 1)) x)) (ne_eqb _ _ d))
 
-abbrev invariant-loop : tie.invariant-loop
+abbrev invariant-loop : tie.invariant-loop-j
 invariant-loop message at r register j₀ j = (j ≤ r) × (same (drop (at + j) message) (bits_of (r - j) register) ≡ same (drop at message) (bits_of r register))
 
-abbrev decreases-loop : tie.decreases-loop
+abbrev decreases-loop : tie.decreases-loop-j
 decreases-loop message at r register j₀ j = r - j
 
-loop-holds : tie.Need-loop-init invariant-loop decreases-loop
+loop-holds : tie.Need-loop-j-init invariant-loop decreases-loop
 loop-holds c = (omega arith, simp (add-zero, sub-zero))
 
-differs : tie.Need-returns invariant-loop decreases-loop
+differs : tie.Need-returns-then-message-at invariant-loop decreases-loop
 differs c =
     let s = c.before.before.before.before.before.before in
-    let l = c.before.before.before.before.loop in
+    let l = c.before.before.before.before.loop-j in
     other-here s.args.message.now s.args.at s.args.r s.args.register l.j s.requires.1 (omega arith)
-    (λ e. c.if1.true (e ∙ sym c.before.coefficient.ensures))
+    (λ e. c.if-message-at.true (e ∙ sym c.before.coefficient.ensures))
     ∙ l.invariant.1
 
-loop-again : tie.Need-loop-preserved invariant-loop decreases-loop
+loop-again : tie.Need-loop-j-preserved invariant-loop decreases-loop
 loop-again c =
     let s = c.before.before.before.before.before.before in
-    let l = c.before.before.before.before.loop in (
+    let l = c.before.before.before.before.loop-j in (
       omega arith,
       same_here s.args.message.now s.args.at s.args.r s.args.register l.j s.requires.1 (omega arith)
-          (c.if1.false ∙ c.before.coefficient.ensures)
+          (c.if-message-at.false ∙ c.before.coefficient.ensures)
           ∙ l.invariant.1,
     )
 
-returns : tie.Need-returns-2 invariant-loop decreases-loop
+returns : tie.Need-returns invariant-loop decreases-loop
 returns c =
     let s = c.before.before.before in
-    let l = c.before.loop in
+    let l = c.before.loop-j in
     let e : 0 ≡ s.args.r - l.j = omega arith in
     ap₂ (λ (xs : List ℕ) (w : ℕ). same xs (bits_of w s.args.register))
     (sym (drop_of_length-le s.args.message.now {i = s.args.at + l.j} (omega arith))) e
     ∙ l.invariant.1
 
-pub holds-bits-spec : {M : Type 1} → statement M
-holds-bits-spec =
+pub holds_bits_spec : {M : Type 1} → statement M
+holds_bits_spec =
     tie.close
     (tie.spec
     invariant-loop

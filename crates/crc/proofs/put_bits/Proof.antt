@@ -14,26 +14,26 @@ use Rattle.crc.proofs.put_bits.Tie as tie
 abbrev bit_at : ℕ → ℕ → ℕ → ℕ
 bit_at r register j = bit register (r - (j + 1))
 
-abbrev invariant-loop : tie.invariant-loop
+abbrev invariant-loop : tie.invariant-loop-j
 invariant-loop message₀ at r register j₀ message j = Filling (bit_at r register) at r message₀ message j
 
-abbrev decreases-loop : tie.decreases-loop
+abbrev decreases-loop : tie.decreases-loop-j
 decreases-loop message₀ at r register j₀ message j = r - j
 
-loop-again : tie.Need-loop-preserved invariant-loop decreases-loop
+loop-again : tie.Need-loop-j-preserved invariant-loop decreases-loop
 loop-again c =
     let a = c.before.before.before.before.args in
-    let l = c.before.before.loop in
+    let l = c.before.before.loop-j in
     let e : a.r - 1 - l.j ≡ a.r - (l.j + 1) = omega arith in
     filling_more l.invariant (a.at + l.j) c.coefficient.result (omega arith) refl (c.coefficient.ensures ∙ ap (bit a.register) e)
 
 returns : tie.Need-returns invariant-loop decreases-loop
 returns c =
     let s = c.before.before.before in
-    filling_done c.before.loop.invariant (omega arith) s.requires.1 ∙ ap (splice s.args.message.now s.args.at) (bits_of-table s.args.r s.args.register)
+    filling_done c.before.loop-j.invariant (omega arith) s.requires.1 ∙ ap (splice s.args.message.now s.args.at) (bits_of-table s.args.r s.args.register)
 
-pub put-bits-spec : {M : Type 1} → statement M
-put-bits-spec =
+pub put_bits_spec : {M : Type 1} → statement M
+put_bits_spec =
     tie.close
     (tie.spec
     invariant-loop
@@ -45,7 +45,7 @@ put-bits-spec =
     (λ c. omega (arith, c.coefficient.ensures))
     (λ c. search rules)
     (λ c. search rules)
-    (λ c. omega (arith, c.before.before.loop.invariant.same))
+    (λ c. omega (arith, c.before.before.loop-j.invariant.same))
     (λ c. search rules)
     (λ c. search rules)
     loop-again

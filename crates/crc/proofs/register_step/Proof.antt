@@ -8,23 +8,23 @@ use Rattle.crc.proofs.Words.{highest_lt, leaving, stepped_lt, bits_of-stepped}
 use Rattle.crc.proofs.register_step.Statement.{statement}
 use Rattle.crc.proofs.register_step.Tie as tie
 
-word-if-requires : tie.Need-word-if-requires
+word-if-requires : tie.Need-word_if-requires
 word-if-requires s κs =
     (xor_lt 1 _ _ (highest_lt s.args.r s.args.register s.requires.0 s.requires.3) (omega arith), omega (arith, pow_mono {i = s.args.r} {j = 16} s.requires.1, s.requires.2))
 
-sub-result : tie.Need-overflow-sub-result
+sub-result : tie.Need-overflow_sub-result
 sub-result c = rw (one_shl c.before.args.r 32 (omega arith)) (pow_pos c.before.args.r)
 
 returns : tie.Need-returns
 returns c =
     let s = c.before in
     let a = s.args in (
-      rw c.word-if.ensures (rw (leaving a.r a.register a.next s.requires.0 s.requires.3) (bits_of-stepped a.r a.word a.register a.next s.requires.0 s.requires.1)),
-      rw c.word-if.ensures (stepped_lt a.r a.word a.register _ s.requires.1 s.requires.2 (xor_lt 1 _ _ (highest_lt a.r a.register s.requires.0 s.requires.3) (omega arith))),
+      rw c.word_if.ensures (rw (leaving a.r a.register a.next s.requires.0 s.requires.3) (bits_of-stepped a.r a.word a.register a.next s.requires.0 s.requires.1)),
+      rw c.word_if.ensures (stepped_lt a.r a.word a.register _ s.requires.1 s.requires.2 (xor_lt 1 _ _ (highest_lt a.r a.register s.requires.0 s.requires.3) (omega arith))),
     )
 
-pub register-step-spec : {M : Type 1} → statement M
-register-step-spec =
+pub register_step_spec : {M : Type 1} → statement M
+register_step_spec =
     tie.close
     (tie.spec
     (λ c. search rules)

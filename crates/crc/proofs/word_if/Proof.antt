@@ -10,7 +10,7 @@ moved_up zero word o l = omega arith
 moved_up (suc zero) word o l = omega arith
 moved_up (suc (suc out)) word o l = absurd (omega arith)
 
-sub-result : tie.Need-overflow-sub-result
+sub-result : tie.Need-overflow_sub-result
 sub-result c =
     let s = c.args in
     omega (arith, moved_up s.out s.word c.requires.0 c.requires.1)
@@ -20,5 +20,5 @@ returns c =
     let s = c.args in
     omega (arith, moved_up s.out s.word c.requires.0 c.requires.1)
 
-pub word-if-spec : {M : Type 1} → statement M
-word-if-spec = tie.close (tie.spec (λ c. omega (arith, c.requires.0)) sub-result returns)
+pub word_if_spec : {M : Type 1} → statement M
+word_if_spec = tie.close (tie.spec (λ c. omega (arith, c.requires.0)) sub-result returns)

@@ -19,21 +19,21 @@ module _ (s : tie.Start) (p : Decoder) where
   abbrev second : List (Bool × Refusal)
   second = own_refusals p s.args.code ++ output_refusals s.args.code s.args.output.now
 
-returns : tie.Need-returns
+returns : tie.Need-returns-in-Fine
 returns c p own =
     let j = c.before.before.before in
     let s = j.before.before.before in
-    c.judge-rest.ensures p own
-    ∙ sym (append-fine (first s p) (second s p) (sym j.judge-channel.ensures ∙ c.before.enum_told.given.1))
+    c.judge_rest.ensures p own
+    ∙ sym (append-fine (first s p) (second s p) (sym j.judge_channel.ensures ∙ c.before.enum_told-1.given.1))
 
-returns-2 : tie.Need-returns-2
+returns-2 : tie.Need-returns-in-Refused
 returns-2 c p own =
     let j = c.before.before.before in
     let s = j.before.before.before in
-    sym (append_refused (first s p) (second s p) _ (sym j.judge-channel.ensures ∙ c.before.x.given.1))
+    sym (append_refused (first s p) (second s p) _ (sym j.judge_channel.ensures ∙ c.before.x-1.given.1))
 
-pub judge-call-spec : {M : Type 1} → statement M
-judge-call-spec =
+pub judge_call_spec : {M : Type 1} → statement M
+judge_call_spec =
     tie.close
     (tie.spec
     (λ c κs. search rules)

@@ -7,19 +7,19 @@ use Rattle.decoder.specs.Clauses.{output_refusals}
 use Rattle.decoder.proofs.judge_rest.Statement.{statement}
 use Rattle.decoder.proofs.judge_rest.Tie as tie
 
-returns : tie.Need-returns
+returns : tie.Need-returns-in-Fine
 returns c p own =
     let x = c.before.before.before.before.args in
-    c.judge-output.ensures
-    ∙ sym (append-fine (own_refusals p x.code) (output_refusals x.code x.output.now) (sym own ∙ c.before.enum_told.given.1))
+    c.judge_output.ensures
+    ∙ sym (append-fine (own_refusals p x.code) (output_refusals x.code x.output.now) (sym own ∙ c.before.enum_told-1.given.1))
 
-returns-2 : tie.Need-returns-2
+returns-2 : tie.Need-returns-in-Refused
 returns-2 c p own =
     let x = c.before.before.before.before.args in
-    sym (append_refused (own_refusals p x.code) (output_refusals x.code x.output.now) _ (sym own ∙ c.before.own.given.1))
+    sym (append_refused (own_refusals p x.code) (output_refusals x.code x.output.now) _ (sym own ∙ c.before.own-1.given.1))
 
-pub judge-rest-spec : {M : Type 1} → statement M
-judge-rest-spec =
+pub judge_rest_spec : {M : Type 1} → statement M
+judge_rest_spec =
     tie.close
     (tie.spec
     (λ c. search rules)

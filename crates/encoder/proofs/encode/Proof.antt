@@ -20,41 +20,41 @@ abbrev by : List ℕ → List ℕ → List ℕ → Description → Encoded × Li
 by d payload output a = on_description a (λ x. (Refused x, output)) (λ c. encoded_by (mask_of d) c payload output)
 
 -- the code that was accepted
-module _ (c : tie.After-known-told) where
+module _ (c : tie.In-Accepted) where
   abbrev d : List ℕ
   d = c.before.before.before.before.before.before.before.args.description.now
 
   abbrev code : Code
-  code = c.before.code.given.0.0
+  code = c.before.code-1.given.0.0
 
   accepted : Accepted code ≡ describe d
-  accepted = sym c.before.code.given.1 ∙ c.before.before.before.read-description.ensures
+  accepted = sym c.before.code-1.given.1 ∙ c.before.before.before.read_description.ensures
 
   facts : Described d code
   facts = described d code (sym accepted)
 
-encode-by-requires : tie.Need-encode-by-requires
+encode-by-requires : tie.Need-encode_by-requires
 encode-by-requires c κs =
     let a = c.before.before in
-    subst (λ (mask : List ℕ). Coded mask (code a)) (sym c.before.mask-of.ensures) (facts a).coded
+    subst (λ (mask : List ℕ). Coded mask (code a)) (sym c.before.mask_of.ensures) (facts a).coded
 
-returns : tie.Need-returns
+returns : tie.Need-returns-in-Accepted
 unfolding encoded
 returns c =
     let a = c.before.before.before.before.before in
     let s = a.before.before.before.before.before.before.before in
-    c.before.before.encode-by.ensures
-    ∙ ap (λ (mask : List ℕ). encoded_by mask (code a) s.args.payload.now s.args.output.now) c.before.before.before.before.mask-of.ensures
-    ∙ ap (by (d a) s.args.payload.now s.args.output.now) (accepted a)
+    c.before.before.encode_by.ensures
+    ∙ ap (λ (mask : List ℕ). encoded_by mask (code a) s.args.payload.now s.args.output-1.now) c.before.before.before.before.mask_of.ensures
+    ∙ ap (by (d a) s.args.payload.now s.args.output-1.now) (accepted a)
 
-returns-2 : tie.Need-returns-2
+returns-2 : tie.Need-returns-in-Refused
 unfolding encoded
 returns-2 c =
     let s = c.before.before.before.before.before.before.before in
-    ap (by s.args.description.now s.args.payload.now s.args.output.now) (sym c.before.x.given.1 ∙ c.before.before.before.read-description.ensures)
+    ap (by s.args.description.now s.args.payload.now s.args.output-1.now) (sym c.before.x-1.given.1 ∙ c.before.before.before.read_description.ensures)
 
-pub encode-spec : {M : Type 1} → statement M
-encode-spec =
+pub encode_spec : {M : Type 1} → statement M
+encode_spec =
     tie.close
     (tie.spec
     (λ c κs. search rules)

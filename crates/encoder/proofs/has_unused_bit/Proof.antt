@@ -29,19 +29,19 @@ low_bits k h = one_shl (8 - k % 8) 8 (omega arith)
 shl-pos : (i : ℕ) → i < 8 → 0 < 1 * 2 ^ i % 256
 shl-pos i l = subst (λ (x : ℕ). 0 < x) (sym (one_shl i 8 l)) (pow_pos i)
 
-rem-result : tie.Need-nonzero-rem-result
+rem-result : tie.Need-nonzero_rem-result-2
 rem-result c = shl-pos _ (omega arith)
 
-returns-2 : tie.Need-returns-2
+returns-2 : tie.Need-returns
 returns-2 c =
     let k = c.before.before.args.k in
-    ap (λ (x : ℕ). not (eqb (get_or c.before.before.args.payload.now (k / 8) 0 % x) 0)) (low_bits k c.before.if1.false)
+    ap (λ (x : ℕ). not (eqb (get_or c.before.before.args.payload.now (k / 8) 0 % x) 0)) (low_bits k c.before.if-k-eq0.false)
 
-pub has-unused-bit-spec : {M : Type 1} → statement M
-has-unused-bit-spec =
+pub has_unused_bit_spec : {M : Type 1} → statement M
+has_unused_bit_spec =
     tie.close
     (tie.spec
-    (λ c. sym (ap not (eq-eqb _ _ (none-unused c.before.args.payload.now _ c.before.requires c.if1.true))))
+    (λ c. sym (ap not (eq-eqb _ _ (none-unused c.before.args.payload.now _ c.before.requires c.if-k-eq0.true))))
     (λ c. search rules)
     (λ c. search rules)
     (λ c. search rules)

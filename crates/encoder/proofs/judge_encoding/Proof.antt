@@ -25,37 +25,37 @@ bytes_of p = omega (arith, p.mask_size)
 abbrev past : ℕ → tie.Start → Judgement
 past i s = judge (drop i (encoding_refusals s.args.code s.args.payload.now s.args.output.now))
 
-abbrev s1 : tie.Else1 → tie.Start
+abbrev s1 : tie.Else-payload-bytes_for → tie.Start
 s1 c = c.before.before.before.before.before
 
-past-1 : (c : tie.Else1) → past 0 (s1 c) ≡ past 1 (s1 c)
-past-1 c = judge_no _ _ _ (ap not (eq-eqb _ _ (c.if1.false ∙ c.before.bytes-for.ensures)))
+past-1 : (c : tie.Else-payload-bytes_for) → past 0 (s1 c) ≡ past 1 (s1 c)
+past-1 c = judge_no _ _ _ (ap not (eq-eqb _ _ (c.if-payload-bytes_for.false ∙ c.before.bytes_for.ensures)))
 
-past-2 : (c : tie.Else2) → past 0 (s1 c.before.before) ≡ past 2 (s1 c.before.before)
-past-2 c = past-1 c.before.before ∙ judge_no _ _ _ (sym c.before.has-unused-bit.ensures ∙ c.if2.false)
+past-2 : (c : tie.Else-has_unused_bit) → past 0 (s1 c.before.before) ≡ past 2 (s1 c.before.before)
+past-2 c = past-1 c.before.before ∙ judge_no _ _ _ (sym c.before.has_unused_bit.ensures ∙ c.if-has_unused_bit.false)
 
-returns : tie.Need-returns
-returns c = sym (judge_yes _ _ _ (ap not (ne_eqb _ _ (λ e. c.if1.true (e ∙ sym c.before.bytes-for.ensures)))))
+returns : tie.Need-returns-then-payload-bytes_for
+returns c = sym (judge_yes _ _ _ (ap not (ne_eqb _ _ (λ e. c.if-payload-bytes_for.true (e ∙ sym c.before.bytes_for.ensures)))))
 
-returns-3 : tie.Need-returns-3
+returns-3 : tie.Need-returns-then-output-mask
 returns-3 c =
     let e = c.before in
     let s = s1 e.before.before in
-    sym (past-2 e ∙ judge_yes _ _ _ (ap not (ne_eqb _ _ (λ q. c.if3.true (q ∙ sym (bytes_of s.pre))))))
+    sym (past-2 e ∙ judge_yes _ _ _ (ap not (ne_eqb _ _ (λ q. c.if-output-mask.true (q ∙ sym (bytes_of s.requires))))))
 
-returns-4 : tie.Need-returns-4
+returns-4 : tie.Need-returns
 returns-4 c =
     let e = c.before in
     let s = s1 e.before.before in
-    sym (past-2 e ∙ judge_no _ _ _ (ap not (eq-eqb _ _ (c.if3.false ∙ bytes_of s.pre))) ∙ judge-none)
+    sym (past-2 e ∙ judge_no _ _ _ (ap not (eq-eqb _ _ (c.if-output-mask.false ∙ bytes_of s.requires))) ∙ judge-none)
 
-pub judge-encoding-spec : {M : Type 1} → statement M
-judge-encoding-spec =
+pub judge_encoding_spec : {M : Type 1} → statement M
+judge_encoding_spec =
     tie.close
     (tie.spec
     (λ c κs. search rules)
     returns
-    (λ c κs. c.if1.false ∙ c.before.bytes-for.ensures)
-    (λ c. sym (past-1 c.before.before ∙ judge_yes _ _ _ (sym c.before.has-unused-bit.ensures ∙ c.if2.true)))
+    (λ c κs. c.if-payload-bytes_for.false ∙ c.before.bytes_for.ensures)
+    (λ c. sym (past-1 c.before.before ∙ judge_yes _ _ _ (sym c.before.has_unused_bit.ensures ∙ c.if-has_unused_bit.true)))
     returns-3
     returns-4)

@@ -13,7 +13,7 @@ use Rattle.encoder.proofs.message_of.Statement.{statement}
 use Rattle.encoder.proofs.message_of.Tie as tie
 
 -- the part lent for the payload's bits
-part_length : (c : tie.After-unpack-arg) → length (take c.before.before.before.args.code.k c.before.before.before.args.message.now) ≡ c.before.before.before.args.code.k
+part_length : (c : tie.After-unpack-arg-1) → length (take c.before.before.before.args.code.k c.before.before.before.args.message-1.now) ≡ c.before.before.before.args.code.k
 part_length c = length-take-le _ _ (omega (arith, c.before.before.before.requires.message_size))
 
 -- the message with the payload's bits in it
@@ -22,7 +22,7 @@ module _ (c : tie.After-unpack) where
   k = c.before.before.before.before.args.code.k
 
   abbrev message : List ℕ
-  message = c.before.before.before.before.args.message.now
+  message = c.before.before.before.before.args.message-1.now
 
   payload-bits : c.unpack.new.1.0 ≡ unpacked c.before.before.before.before.args.payload.now k
   payload-bits = c.unpack.ensures ∙ ap (unpacked _) (part_length c.before)
@@ -38,11 +38,11 @@ returns : tie.Need-returns
 returns c =
     let u = c.before.before.before.before.before.before in
     let s = u.before.before.before.before in
-    c.before.before.append-check.ensures
+    c.before.before.append_check.ensures
     ∙ ap (message_of s.args.code) (take_at u.unpack.new.1.0 (drop (k u) (message u)) (k u) (payload-length u) ∙ payload-bits u)
 
-pub message-of-spec : {M : Type 1} → statement M
-message-of-spec =
+pub message_of_spec : {M : Type 1} → statement M
+message_of_spec =
     tie.close
     (tie.spec
     (λ c. search rules)

@@ -23,12 +23,12 @@ use Rattle.encoder.proofs.place_message.Statement.{statement}
 use Rattle.encoder.proofs.place_message.Tie as tie
 
 -- the part of the room that is lent for the message
-part_length : (c : tie.After-message-of-arg) → length (take (c.before.before.before.before.before.before.before.args.code.k + c.before.before.before.before.before.before.before.args.code.r) c.before.before.before.before.before.before.before.args.room.now) ≡ c.before.before.before.before.before.before.before.args.code.k + c.before.before.before.before.before.before.before.args.code.r
+part_length : (c : tie.After-message_of-arg-1) → length (take (c.before.before.before.before.before.before.before.args.code.k + c.before.before.before.before.before.before.before.args.code.r) c.before.before.before.before.before.before.before.args.room-1.now) ≡ c.before.before.before.before.before.before.before.args.code.k + c.before.before.before.before.before.before.before.args.code.r
 part_length c =
     let p = c.before.before.before.before.before.before.before.requires in
     length-take-le _ _ (omega (arith, p.coded.K_most, p.room_size))
 
-message-of-requires : tie.Need-message-of-requires
+message-of-requires : tie.Need-message_of-requires
 message-of-requires c κs =
     let p = c.before.before.before.before.before.before.before.requires in
     record {
@@ -40,7 +40,7 @@ message-of-requires c κs =
     }
 
 -- the message in it
-module _ (c : tie.After-message-of) where
+module _ (c : tie.After-message_of) where
   abbrev s : tie.Start
   s = c.before.before.before.before.before.before.before.before
 
@@ -48,22 +48,22 @@ module _ (c : tie.After-message-of) where
   size = information_count s.args.code
 
   abbrev message : List ℕ
-  message = c.message-of.new.1.1.0
+  message = c.message_of.new.1.1.0
 
   message-length : length message ≡ size
-  message-length = c.message-of.auto.1.1.0 ∙ part_length c.before
+  message-length = c.message_of.auto.1.1.0 ∙ part_length c.before
 
   message-is : message ≡ message_of s.args.code (unpacked s.args.payload.now s.args.code.k)
-  message-is = c.message-of.ensures
+  message-is = c.message_of.ensures
 
   -- what follows it
   abbrev rest : List ℕ
-  rest = drop size s.args.room.now
+  rest = drop size s.args.room-1.now
 
-  room-length : length (message ++ rest) ≡ length s.args.room.now
+  room-length : length (message ++ rest) ≡ length s.args.room-1.now
   room-length =
       length-append message rest
-      ∙ omega (arith, message-length, length-drop size s.args.room.now, s.pre.coded.K_most, s.pre.room_size)
+      ∙ omega (arith, message-length, length-drop size s.args.room-1.now, s.requires.coded.K_most, s.requires.room_size)
 
 place-requires : tie.Need-place-requires
 place-requires c κs =
@@ -73,7 +73,7 @@ place-requires c κs =
       record {
         short = mask_fits p.coded.n_most p.coded.mask_size;
         room = omega (arith, room-length m, p.room_size, p.coded.mask_size);
-        bits = bits-append (message m) (rest m) bits (bits-drop (size m) (s m).args.room.now p.room_bits);
+        bits = bits-append (message m) (rest m) bits (bits-drop (size m) (s m).args.room-1.now p.room_bits);
       },
       omega (arith, p.well_formed.output_size, p.coded.mask_size),
     )
@@ -83,7 +83,7 @@ returns c =
     let m = c.before.before.before.before.before.before.before in
     let p = (s m).requires in
     let mask = (s m).args.mask.now in
-    let output = (s m).args.output.now in
+    let output = (s m).args.output-1.now in
     let u : List ℕ = placed_message mask (s m).args.code (s m).args.payload.now in
     let size : length u ≡ code_length (s m).args.code = length-placed mask _ _ in
     let placed-is : placed mask (message m ++ rest m) (8 * length mask) ≡ u =
@@ -92,8 +92,8 @@ returns c =
     ∙ ap (λ (x : List ℕ). splice output 0 (packed x)) placed-is
     ∙ splice-whole output (packed u) (length-packed u ∙ omega (arith, size, p.well_formed.output_size))
 
-pub place-message-spec : {M : Type 1} → statement M
-place-message-spec =
+pub place_message_spec : {M : Type 1} → statement M
+place_message_spec =
     tie.close
     (tie.spec
     (λ c. search rules)

@@ -68,28 +68,28 @@ module _ {size n : ℕ} {w output : List ℕ} (p : TransformPre size n w output)
       word-put = ap (splice output 0) word_at ∙ splice-whole output word word-long ∙ word-is
 
 -- a code's packed bits fit the array
-fits-room : (s : tie.Start) → length s.args.output.now ≤ longest
+fits-room : (s : tie.Start) → length s.args.output-1.now ≤ longest
 fits-room s = omega (arith, mask_fits s.requires.n_most s.requires.output_size)
 
 copy-requires : tie.Need-copy-requires
 copy-requires c κs = let s = c.before.before.before in (omega arith, omega (arith, s.requires.room_size, fits-room s))
 
-transform-packed-requires : tie.Need-transform-packed-requires
+transform-packed-requires : tie.Need-transform_packed-requires
 transform-packed-requires c κs =
     let k = c.before in
     let s = k.before.before.before.before in
     (pow s.requires (fits-room s), copied_at s.requires (fits-room s) k.copy.ensures)
 
 -- after the transform
-module _ (c : tie.After-transform-packed) where
+module _ (c : tie.After-transform_packed) where
   abbrev k : tie.After-copy
   k = c.before.before
 
   abbrev s : tie.Start
   s = k.before.before.before.before
 
-  whole : length c.transform-packed.new.1.1.0 ≡ longest
-  whole = word-whole s.pre (fits-room s) k.copy.ensures c.transform-packed.ensures
+  whole : length c.transform_packed.new.1.1.0 ≡ longest
+  whole = word-whole s.requires (fits-room s) k.copy.ensures c.transform_packed.ensures
 
 copy-requires-2 : tie.Need-copy-requires-2
 copy-requires-2 c κs = let t = c.before.before.before in (omega (arith, whole t, fits-room (s t)), omega arith)
@@ -97,10 +97,10 @@ copy-requires-2 c κs = let t = c.before.before.before in (omega (arith, whole t
 returns : tie.Need-returns
 returns c =
     let t = c.before.before.before.before.before.before in
-    c.before.before.copy2.ensures ∙ word-put (s t).requires (fits-room (s t)) (k t).copy.ensures t.transform-packed.ensures
+    c.before.before.copy-2.ensures ∙ word-put (s t).requires (fits-room (s t)) (k t).copy.ensures t.transform_packed.ensures
 
-pub transform-in-spec : {M : Type 1} → statement M
-transform-in-spec =
+pub transform_in_spec : {M : Type 1} → statement M
+transform_in_spec =
     tie.close
     (tie.spec
     copy-requires

@@ -20,13 +20,13 @@ use Rattle.encoder.proofs.Message.{bits-message}
 use Rattle.encoder.proofs.write_codeword.Statement.{statement}
 use Rattle.encoder.proofs.write_codeword.Tie as tie
 
-place-message-requires : tie.Need-place-message-requires
+place-message-requires : tie.Need-place_message-requires
 place-message-requires c κs =
     let p = c.before.before.before.before.before.requires in
     record { coded = p.0; well_formed = p.1; room_size = fits p.0.n_most; room_bits = bits-zeros longest }
 
 -- after the message is placed
-module _ (c : tie.After-place-message) where
+module _ (c : tie.After-place_message) where
   abbrev s : tie.Start
   s = c.before.before.before.before.before.before
 
@@ -34,28 +34,28 @@ module _ (c : tie.After-place-message) where
   u = placed_message s.args.mask.now s.args.code s.args.payload.now
 
   abbrev output : List ℕ
-  output = c.place-message.new.1.1.1.1.0
+  output = c.place_message.new.1.1.1.1.0
 
   long : 8 * length output ≡ code_length s.args.code
-  long = omega (arith, c.place-message.auto.1.1.1.1.0, s.pre.1.output_size, s.pre.0.mask_Size)
+  long = omega (arith, c.place_message.auto.1.1.1.1.0, s.requires.1.output_size, s.requires.0.mask_Size)
 
   bits : unpacked output (code_length s.args.code) ≡ u
   bits =
-      ap₂ unpacked c.place-message.ensures (sym (length-placed s.args.mask.now _ (code_length s.args.code)))
+      ap₂ unpacked c.place_message.ensures (sym (length-placed s.args.mask.now _ (code_length s.args.code)))
       ∙ unpacked-packed u (bits-placed s.args.mask.now _ (code_length s.args.code) (bits-message s.args.code _ (bits-unpacked _ _)))
 
-transform-in-requires : tie.Need-transform-in-requires
+transform-in-requires : tie.Need-transform_in-requires
 transform-in-requires c κs =
     let m = c.before.before.before.before.before in
-    record { n_least = (s m).requires.0.n_least; n_most = (s m).requires.0.n_most; room_size = m.place-message.auto.1.1.1.0; output_size = long m }
+    record { n_least = (s m).requires.0.n_least; n_most = (s m).requires.0.n_most; room_size = m.place_message.auto.1.1.1.0; output_size = long m }
 
 returns : tie.Need-returns
 unfolding codeword
 returns c =
     let t = c.before.before in
     let m = t.before.before.before.before.before.before in
-    t.transform-in.ensures ∙ ap (λ (x : List ℕ). packed (transformed (s m).args.code.n x)) (bits m)
+    t.transform_in.ensures ∙ ap (λ (x : List ℕ). packed (transformed (s m).args.code.n x)) (bits m)
 
-pub write-codeword-spec : {M : Type 1} → statement M
-write-codeword-spec =
+pub write_codeword_spec : {M : Type 1} → statement M
+write_codeword_spec =
     tie.close (tie.spec (λ c. search rules) place-message-requires transform-in-requires (λ c. search rules) returns)

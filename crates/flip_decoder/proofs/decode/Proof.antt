@@ -14,41 +14,41 @@ use Rattle.flip_decoder.proofs.decode.Statement.{statement}
 use Rattle.flip_decoder.proofs.decode.Tie as tie
 
 -- the code that was accepted
-module _ (c : tie.After-known-told) where
+module _ (c : tie.In-Accepted) where
   abbrev s : tie.Start
   s = c.before.before.before.before.before.before.before
 
   abbrev code : Code
-  code = c.before.code.given.0.0
+  code = c.before.code-1.given.0.0
 
   accepted : describe s.args.description.now ≡ Accepted code
-  accepted = sym c.before.before.before.read-description.ensures ∙ c.before.code.given.1
+  accepted = sym c.before.before.before.read_description.ensures ∙ c.before.code-1.given.1
 
   facts : Described s.args.description.now code
   facts = described s.args.description.now code accepted
 
-decode-by-requires : tie.Need-decode-by-requires
+decode-by-requires : tie.Need-decode_by-requires
 decode-by-requires c κs =
     let a = c.before.before in
-    subst (λ (mask : List ℕ). Coded mask (code a)) (sym c.before.mask-of.ensures) (facts a).coded
+    subst (λ (mask : List ℕ). Coded mask (code a)) (sym c.before.mask_of.ensures) (facts a).coded
 
-returns : tie.Need-returns
+returns : tie.Need-returns-in-Accepted
 returns c =
     let m = c.before.before.before.before in
     let a = m.before in
     let x = (s a).args in
-    c.before.before.decode-by.ensures
-    ∙ ap (λ (mask : List ℕ). decoded_under (single x.terms.limit) x.terms.restart mask (code a) x.channel.now x.output.now) m.mask-of.ensures
-    ∙ sym (under-code (single x.terms.limit) x.terms.restart x.description.now x.channel.now x.output.now (code a) (accepted a))
+    c.before.before.decode_by.ensures
+    ∙ ap (λ (mask : List ℕ). decoded_under (single x.terms.limit) x.terms.restart mask (code a) x.channel.now x.output-1.now) m.mask_of.ensures
+    ∙ sym (under-code (single x.terms.limit) x.terms.restart x.description.now x.channel.now x.output-1.now (code a) (accepted a))
 
-returns-2 : tie.Need-returns-2
+returns-2 : tie.Need-returns-in-Refused
 returns-2 c =
     let r = c.before.before.before in
     let x = r.before.before.before.before.args in
-    sym (description_refused (single x.terms.limit) x.terms.restart x.description.now x.channel.now x.output.now _ (sym r.read-description.ensures ∙ c.before.x.given.1))
+    sym (description_refused (single x.terms.limit) x.terms.restart x.description.now x.channel.now x.output-1.now _ (sym r.read_description.ensures ∙ c.before.x-1.given.1))
 
-pub decode-spec : {M : Type 1} → statement M
-decode-spec =
+pub decode_spec : {M : Type 1} → statement M
+decode_spec =
     tie.close
     (tie.spec
     (λ c κs. search rules)

@@ -14,9 +14,9 @@ chosen : (s : tie.Start) {t : Bool} → lt_z (back w32 s.args.last) (back w32 s.
 chosen s e =
     ap (λ (t : Bool). cond t s.args.key (pos no_key)) (sym e ∙ less_is w32 _ _ s.ranges.last s.ranges.key)
 
-pub above-spec : {M : Type 1} → statement M
-above-spec =
+pub above_spec : {M : Type 1} → statement M
+above_spec =
     tie.close
     (tie.spec
-    (λ c. back_is w32 _ c.before.ranges.key ∙ chosen c.before c.if1.true)
-    (λ c. chosen c.before c.if1.false))
+    (λ c. back_is w32 _ c.before.ranges.key ∙ chosen c.before c.if-last-key.true)
+    (λ c. chosen c.before c.if-last-key.false))

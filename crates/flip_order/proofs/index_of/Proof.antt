@@ -13,8 +13,8 @@ use Rattle.flip_order.proofs.index_of.Tie as tie
 key_back : (s : tie.Start) → back w32 s.args.key ≡ pos (nat_abs s.args.key)
 key_back s = back_is w32 s.args.key s.ranges.key ∙ s.requires
 
-pub index-of-spec : {M : Type 1} → statement M
-index-of-spec =
+pub index_of_spec : {M : Type 1} → statement M
+index_of_spec =
     tie.close
     (tie.spec
     (λ c. cast_nat w64 _ _ (key_back c) (omega (arith, ap mag c.requires)))

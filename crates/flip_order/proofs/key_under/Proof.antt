@@ -39,35 +39,35 @@ module _ {mask : List ℕ} {value : ℤ} {i : ℕ} (p : KeyPre mask value i) (fi
   sum_is =
       ap₂ (λ (x y : ℤ). back w32 (x +ℤ y)) product_is index_is ∙ back-small w32 (pos (key_for value i)) (omega (arith, p.small, p.fits))
 
-returns : tie.Need-returns
+returns : tie.Need-returns-then-mask_bit-eq0
 returns c =
     let s = c.before.before.before in
-    ap pos (sym (none-under s.args.mask.now s.args.value s.args.i (sym c.before.mask-bit.ensures ∙ c.if1.true)))
+    ap pos (sym (none-under s.args.mask.now s.args.value s.args.i (sym c.before.mask_bit.ensures ∙ c.if-mask_bit-eq0.true)))
 
 magnitude-requires : tie.Need-magnitude-requires
 magnitude-requires c κs =
     let s = c.before.before.before in
     omega (arith, ap nat_abs (back_is w32 s.args.value s.ranges.value), s.requires.small)
 
-mul-result : tie.Need-overflow-mul-result
+mul-result : tie.Need-overflow_mul-result
 mul-result c =
     let s = c.before.before.before.before in
     product-fits s.requires s.ranges.value c.magnitude.ensures
 
-add-result : tie.Need-overflow-add-result
+add-result : tie.Need-overflow_add-result
 add-result c =
     let s = c.before.before.before.before in
     sum_fits s.requires s.ranges.value c.magnitude.ensures
 
-returns-2 : tie.Need-returns-2
+returns-2 : tie.Need-returns
 returns-2 c =
     let s = c.before.before.before.before in
-    let bit = c.before.before.mask-bit.ensures in
+    let bit = c.before.before.mask_bit.ensures in
     sum_is s.requires s.ranges.value c.magnitude.ensures
-    ∙ ap pos (sym (key-under s.args.mask.now s.args.value s.args.i (omega (arith, bit, c.before.if1.false))))
+    ∙ ap pos (sym (key-under s.args.mask.now s.args.value s.args.i (omega (arith, bit, c.before.if-mask_bit-eq0.false))))
 
-pub key-under-spec : {M : Type 1} → statement M
-key-under-spec =
+pub key_under_spec : {M : Type 1} → statement M
+key_under_spec =
     tie.close
     (tie.spec
     (λ c κs. search rules)

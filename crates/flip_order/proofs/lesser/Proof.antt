@@ -13,9 +13,9 @@ chosen : (s : tie.Start) {t : Bool} → lt_z (back w32 s.args.a) (back w32 s.arg
 chosen s e =
     ap (λ (t : Bool). cond t s.args.a s.args.b) (sym e ∙ less_is w32 _ _ s.ranges.a s.ranges.b)
 
-pub lesser-spec : {M : Type 1} → statement M
-lesser-spec =
+pub lesser_spec : {M : Type 1} → statement M
+lesser_spec =
     tie.close
     (tie.spec
-    (λ c. back_is w32 _ c.before.ranges.a ∙ chosen c.before c.if1.true)
-    (λ c. back_is w32 _ c.before.ranges.b ∙ chosen c.before c.if1.false))
+    (λ c. back_is w32 _ c.before.ranges.a ∙ chosen c.before c.if-a-b.true)
+    (λ c. back_is w32 _ c.before.ranges.b ∙ chosen c.before c.if-a-b.false))

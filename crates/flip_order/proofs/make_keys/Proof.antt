@@ -17,10 +17,10 @@ use Rattle.flip_order.proofs.make_keys.Tie as tie
 abbrev key_at : List ℕ → List ℤ → ℕ → ℤ
 key_at mask values i = pos (key_under mask (get_or values i (pos 0)) i)
 
-abbrev invariant-loop : tie.invariant-loop
+abbrev invariant-loop : tie.invariant-loop-i
 invariant-loop mask values₀ size i₀ values i = Filling (key_at mask values₀) 0 size values₀ values i
 
-abbrev decreases-loop : tie.decreases-loop
+abbrev decreases-loop : tie.decreases-loop-i
 decreases-loop mask values₀ size i₀ values i = size - i
 
 -- what a turn reads is the leaf value
@@ -37,27 +37,27 @@ module _ {mask : List ℕ} {values values' : List ℤ} {i : ℕ} (p : KeysPre ma
     small = omega (arith, ap nat_abs leaf-back, ap nat_abs (get_or-take (8 * length mask) values i (pos 0) l), p.small.at i);
   }
 
-key-under-requires : tie.Need-key-under-requires invariant-loop decreases-loop
+key-under-requires : tie.Need-key_under-requires invariant-loop decreases-loop
 key-under-requires c κs =
     let s = c.before.before.before.before in
-    key-pre s.requires c.before.before.loop.invariant c.before.loop-test.true
+    key-pre s.requires c.before.before.loop-i.invariant c.before.loop-i-test.true
 
-loop-again : tie.Need-loop-preserved invariant-loop decreases-loop
+loop-again : tie.Need-loop-i-preserved invariant-loop decreases-loop
 loop-again c =
     let s = c.before.before.before.before.before in
-    let l = c.before.before.before.loop in
-    let here = c.before.before.loop-test.true in
-    let key = back_is w32 c.key-under.result (record { sfits = c.key-under.type-inv }) ∙ c.key-under.ensures
+    let l = c.before.before.before.loop-i in
+    let here = c.before.before.loop-i-test.true in
+    let key = back_is w32 c.key_under.result (record { sfits = c.key_under.type-inv }) ∙ c.key_under.ensures
     ∙ ap (λ (z : ℤ). pos (key_under s.args.mask.now z l.i)) (leaf-back s.requires l.invariant here) in
     filling_more l.invariant _ _ here (omega arith) key
 
 returns : tie.Need-returns invariant-loop decreases-loop
 returns c =
     let s = c.before.before.before in
-    filling_done c.before.loop.invariant c.loop-test.false (omega (arith, s.requires.there))
+    filling_done c.before.loop-i.invariant c.loop-i-test.false (omega (arith, s.requires.there))
 
-pub make-keys-spec : {M : Type 1} → statement M
-make-keys-spec =
+pub make_keys_spec : {M : Type 1} → statement M
+make_keys_spec =
     tie.close
     (tie.spec
     invariant-loop
@@ -72,5 +72,5 @@ make-keys-spec =
     (λ c. search rules)
     (λ c. search rules)
     loop-again
-    (λ c. c.before.loop.invariant.same)
+    (λ c. c.before.loop-i.invariant.same)
     returns)

@@ -14,37 +14,37 @@ use Rattle.flip_order.specs.Clauses.{above, lesser, least_above}
 use Rattle.flip_order.proofs.next_key.Statement.{statement}
 use Rattle.flip_order.proofs.next_key.Tie as tie
 
-abbrev invariant-loop : tie.invariant-loop
+abbrev invariant-loop : tie.invariant-loop-i
 invariant-loop size keys last best₀ i₀ best i = (to_z w32 best ≡ least_above (to_z w32 last) keys i) × (i ≤ size)
 
-abbrev decreases-loop : tie.decreases-loop
+abbrev decreases-loop : tie.decreases-loop-i
 decreases-loop size keys last best₀ i₀ best i = size - i
 
-loop-holds : tie.Need-loop-init invariant-loop decreases-loop
+loop-holds : tie.Need-loop-i-init invariant-loop decreases-loop
 unfolding least_above
 loop-holds c = (refl, omega arith)
 
-loop-again : tie.Need-loop-preserved invariant-loop decreases-loop
+loop-again : tie.Need-loop-i-preserved invariant-loop decreases-loop
 unfolding least_above
 loop-again c =
     let s = c.before.before.before.before.before in
-    let l = c.before.before.before.before.loop in
+    let l = c.before.before.before.before.loop-i in
     let keys : List ℤ = s.args.keys.now in
     let last : ℤ = back w32 s.args.last in
-    let key = back_is w32 (get_or keys l.i (pos 0)) (record { sfits = c.before.before.above-arg.given }) in
+    let key = back_is w32 (get_or keys l.i (pos 0)) (record { sfits = c.before.before.above-arg-1.given }) in
     let a = back_is w32 c.before.above.result (record { sfits = c.before.above.type-inv }) ∙ c.before.above.ensures ∙ ap (above last) key in
-    let b = back_is w32 c.lesser.result (record { sfits = c.lesser.type-inv }) ∙ c.lesser.ensures ∙ ap₂ lesser a l.invariant.0 in
+    let b = back_is w32 c.lesser-best.result (record { sfits = c.lesser-best.type-inv }) ∙ c.lesser-best.ensures ∙ ap₂ lesser a l.invariant.0 in
     (b ∙ ap (least_above last keys) (sym (add-one l.i)), omega arith)
 
 returns : tie.Need-returns invariant-loop decreases-loop
 returns c =
     let s = c.before.before in
-    let l = c.before.loop in
+    let l = c.before.loop-i in
     let end : l.i ≡ s.args.size = omega arith in
     l.invariant.0 ∙ ap₂ (λ (z : ℤ) (n : ℕ). least_above z s.args.keys.now n) (back_is w32 s.args.last s.ranges.last) end
 
-pub next-key-spec : {M : Type 1} → statement M
-next-key-spec =
+pub next_key_spec : {M : Type 1} → statement M
+next_key_spec =
     tie.close
     (tie.spec
     invariant-loop

@@ -15,30 +15,30 @@ use Rattle.flip_run.proofs.answer.Tie as tie
 part_length : (s : tie.Start) → length (take s.args.k s.args.message.now) ≡ s.args.k
 part_length s = length-take-le _ _ s.requires.0
 
-slice-aggregate-pack : tie.Need-slice-aggregate-pack
+slice-aggregate-pack : tie.Need-slice_bounds-pack-end
 slice-aggregate-pack c = sym (part_length c.before.before.before.before.before.before)
 
 pack-requires : tie.Need-pack-requires
 pack-requires c κs =
     let t = c.before.before.before in
     let s = t.before.before.before.before in
-    (subst (λ (e : Ended). PassedBits e (take s.args.k s.args.message.now)) t.ended.given.1 s.requires.1, s.requires.2 ∙ ap bytes_for (sym (part_length s)))
+    (subst (λ (e : Ended). PassedBits e (take s.args.k s.args.message.now)) t.ended-1.given.1 s.requires.1, s.requires.2 ∙ ap bytes_for (sym (part_length s)))
 
-returns : tie.Need-returns
+returns : tie.Need-returns-in-Passed
 returns c =
     let t = c.before.before.before.before.before.before in
     let x = t.before.before.before.before.args in
-    ap (λ (bytes : List ℕ). (Accepted t.ended.given.0.0 t.ended.given.0.1.0, bytes)) c.before.before.pack.ensures
-    ∙ sym (ap (λ (e : Ended). answered x.k e x.message.now x.output.now) t.ended.given.1)
+    ap (λ (bytes : List ℕ). (Accepted t.ended-1.given.0.0 t.ended-1.given.0.1.0, bytes)) c.before.before.pack.ensures
+    ∙ sym (ap (λ (e : Ended). answered x.k e x.message.now x.output-1.now) t.ended-1.given.1)
 
-returns-2 : tie.Need-returns-2
+returns-2 : tie.Need-returns-in-Failed
 returns-2 c =
     let t = c.before in
     let x = t.before.before.before.before.args in
-    sym (ap (λ (e : Ended). answered x.k e x.message.now x.output.now) t.ended2.given.1)
+    sym (ap (λ (e : Ended). answered x.k e x.message.now x.output-1.now) t.ended-in-Failed-1.given.1)
 
-pub answer-spec : {M : Type 1} → statement M
-answer-spec =
+pub answer_spec : {M : Type 1} → statement M
+answer_spec =
     tie.close
     (tie.spec
     (λ c. search rules)

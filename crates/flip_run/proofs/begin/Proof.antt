@@ -23,7 +23,7 @@ use Rattle.flip_run.proofs.LoopStep.{values-inside, arrays_again, ran_passed}
 use Rattle.flip_run.proofs.begin.Statement.{statement}
 use Rattle.flip_run.proofs.begin.Tie as tie
 
-first-trial-requires : tie.Need-first-trial-requires
+first-trial-requires : tie.Need-first_trial-done-requires
 first-trial-requires c κs =
     let s = c.before.before.before.before.before.before.before in
     let on = s.requires.0 in (
@@ -41,7 +41,7 @@ first-trial-requires c κs =
     )
 
 -- trial 1
-module _ (c : tie.After-first-trial) where
+module _ (c : tie.After-first_trial-done) where
   abbrev s : tie.Start
   s = c.before.before.before.before.before.before.before.before
 
@@ -58,44 +58,44 @@ module _ (c : tie.After-first-trial) where
   ok = trial_passes mask s.args.code
 
   -- the steps, counted from none
-  counted : c.first-trial.result.steps ≡ 0 + o.work.steps
-  counted = ap (λ (w : Work). w.steps) c.first-trial.ensures.work ∙ sym (zero-add o.work.steps)
+  counted : c.first_trial-done.result.steps ≡ 0 + o.work.steps
+  counted = ap (λ (w : Work). w.steps) c.first_trial-done.ensures.work ∙ sym (zero-add o.work.steps)
 
-trial-passes-requires : tie.Need-trial-passes-requires
+trial-passes-requires : tie.Need-trial_passes-requires
 trial-passes-requires c κs =
     let f = c.before.before in
     let coded = (s f).requires.0.coded in
-    let w = f.first-trial.ensures.whole in
+    let w = f.first_trial-done.ensures.whole in
     (coded, omega (arith, w.bits, fits coded.n_most), omega (arith, w.sums, fits coded.n_most))
 
 -- its check
-module _ (c : tie.After-trial-passes) where
-  abbrev f : tie.After-first-trial
+module _ (c : tie.After-trial_passes) where
+  abbrev f : tie.After-first_trial-done
   f = c.before.before.before
 
-  ok-is : c.trial-passes.result ≡ ok f (o f).bits
-  ok-is = c.trial-passes.ensures.0 ∙ ap (ok f) f.first-trial.ensures.bits.bits
+  ok-is : c.trial_passes.result ≡ ok f (o f).bits
+  ok-is = c.trial_passes.ensures.0 ∙ ap (ok f) f.first_trial-done.ensures.bits.bits
 
   -- the message stands in the place of the sums
-  same-room : length c.trial-passes.new.1.1.1.0 ≡ longest
-  same-room = c.trial-passes.auto.1.1.1.0 ∙ f.first-trial.ensures.whole.sums
+  same-room : length c.trial_passes.new.1.1.1.0 ≡ longest
+  same-room = c.trial_passes.auto.1.1.1.0 ∙ f.first_trial-done.ensures.whole.sums
 
-returns : tie.Need-returns
+returns : tie.Need-returns-then-trial_passes
 returns c =
     let p = c.before in
     let x = (s (f p)).args in
     λ later. (
-      subst (λ (w : Verdict). Ran (mask (f p)) x.code w (Passed 1 (f p).first-trial.result.steps) p.trial-passes.new.1.1.1.0)
+      subst (λ (w : Verdict). Ran (mask (f p)) x.code w (Passed 1 (f p).first_trial-done.result.steps) p.trial_passes.new.1.1.1.0)
           (ap (λ (steps : ℕ). passed 1 steps (o (f p)).bits) (counted (f p))
-          ∙ sym (run-passes (ok (f p)) 0 0 (o (f p)) later (sym (ok-is p) ∙ c.if1.true)))
-          (ran_passed (s (f p)).pre.0.coded _ _ (f p).first-trial.ensures.bits.bits p.trial-passes.ensures.1 (first_bits (mask (f p)) x.code (v (f p)))),
+          ∙ sym (run-passes (ok (f p)) 0 0 (o (f p)) later (sym (ok-is p) ∙ c.if-trial_passes.true)))
+          (ran_passed (s (f p)).requires.0.coded _ _ (f p).first_trial-done.ensures.bits.bits p.trial_passes.ensures.1 (first_bits (mask (f p)) x.code (v (f p)))),
       same-room p,
     )
 
-returns-2 : tie.Need-returns-2
+returns-2 : tie.Need-returns
 returns-2 c =
     let p = c.before in
-    let t = (f p).first-trial.ensures in (
+    let t = (f p).first_trial-done.ensures in (
       refl,
       record {
         later = record {
@@ -103,7 +103,7 @@ returns-2 c =
           first_bits = t.bits;
           plain = t.plain;
           goes_on = λ later.
-              run_fails (ok (f p)) 0 0 (o (f p)) later (sym (ok-is p) ∙ c.if1.false)
+              run_fails (ok (f p)) 0 0 (o (f p)) later (sym (ok-is p) ∙ c.if-trial_passes.false)
               ∙ ap (λ (steps : ℕ). run (ok (f p)) 1 steps later) (sym (counted (f p)));
         };
         leaves = t.leaves;
@@ -111,5 +111,5 @@ returns-2 c =
       },
     )
 
-pub begin-spec : {M : Type 1} → statement M
-begin-spec = tie.close (tie.spec first-trial-requires trial-passes-requires returns returns-2)
+pub begin_spec : {M : Type 1} → statement M
+begin_spec = tie.close (tie.spec first-trial-requires trial-passes-requires returns returns-2)

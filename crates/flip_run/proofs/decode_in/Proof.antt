@@ -12,31 +12,31 @@ use Rattle.flip_run.proofs.LoopStep.{ran_answers, ran_bits}
 use Rattle.flip_run.proofs.decode_in.Statement.{statement}
 use Rattle.flip_run.proofs.decode_in.Tie as tie
 
-run-trials-requires : tie.Need-run-trials-requires
+run-trials-requires : tie.Need-run_trials-ended-requires
 run-trials-requires c κs =
     let p = c.before.before.before.before.requires in
     (p.frame, p.limits, refl)
 
 -- the run
-module _ (c : tie.After-run-trials) where
+module _ (c : tie.After-run_trials-ended) where
   abbrev s : tie.Start
   s = c.before.before.before.before.before
 
   abbrev message : List ℕ
-  message = c.run-trials.new.1.1.1.1.0
+  message = c.run_trials-ended.new.1.1.1.1.0
 
   same-room : length message ≡ longest
-  same-room = c.run-trials.ensures.1
+  same-room = c.run_trials-ended.ensures.1
 
-  ran : Ran s.args.mask.now s.args.code (verdict_by s.args.terms s.args.mask.now s.args.code s.args.channel.now) c.run-trials.result message
-  ran = c.run-trials.ensures.0
+  ran : Ran s.args.mask.now s.args.code (verdict_by s.args.terms s.args.mask.now s.args.code s.args.channel.now) c.run_trials-ended.result message
+  ran = c.run_trials-ended.ensures.0
 
 answer-requires : tie.Need-answer-requires
 answer-requires c κs =
     let r = c.before.before in
     let x = (s r).args in
     let p = (s r).requires in
-    (omega (arith, same-room r, p.frame.coded.K_most, fits p.frame.coded.n_most), ran_bits x.mask.now x.code (verdict_by x.terms x.mask.now x.code x.channel.now) r.run-trials.result (message r) (ran r), p.output_size)
+    (omega (arith, same-room r, p.frame.coded.K_most, fits p.frame.coded.n_most), ran_bits x.mask.now x.code (verdict_by x.terms x.mask.now x.code x.channel.now) r.run_trials-ended.result (message r) (ran r), p.output_size)
 
 returns : tie.Need-returns
 returns c =
@@ -44,10 +44,10 @@ returns c =
     let r = a.before.before.before in
     let x = (s r).args in
     a.answer.ensures
-    ∙ ran_answers x.mask.now x.code x.output.now (verdict_by x.terms x.mask.now x.code x.channel.now) r.run-trials.result (message r) (ran r)
+    ∙ ran_answers x.mask.now x.code x.output-1.now (verdict_by x.terms x.mask.now x.code x.channel.now) r.run_trials-ended.result (message r) (ran r)
 
-pub decode-in-spec : {M : Type 1} → statement M
-decode-in-spec =
+pub decode_in_spec : {M : Type 1} → statement M
+decode_in_spec =
     tie.close
     (tie.spec
     run-trials-requires

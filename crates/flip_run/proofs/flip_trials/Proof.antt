@@ -33,30 +33,30 @@ use Rattle.flip_run.proofs.LoopStep.{trial_on, arrays_again, order_long, keys_pr
 use Rattle.flip_run.proofs.flip_trials.Statement.{statement}
 use Rattle.flip_run.proofs.flip_trials.Tie as tie
 
-abbrev invariant-loop : tie.invariant-loop
+abbrev invariant-loop : tie.invariant-loop-made
 invariant-loop mask code channel start first values rules₀ work₀ sums₀ bits₀ leaves₀ restart limit size made₀ steps₀ key₀ rules work sums bits leaves made steps key =
     let v = channel_values channel in
     LoopInvariant (trial_passes mask code) (λ i. later_trial restart mask code v (i ∷ [])) (flip_order mask code v) limit start made steps
-    × LastKey (first_trial mask code v).leaves (flip_order mask code v) (made - 1) (to_z w32 key)
+    × LastKey (first_trial mask code v).leaves-1 (flip_order mask code v) (made - 1) (to_z w32 key)
     × PlainRules longest mask code rules
     × Whole longest (arrays work bits sums leaves)
 
-abbrev decreases-loop : tie.decreases-loop
+abbrev decreases-loop : tie.decreases-loop-made
 decreases-loop mask code channel start first values rules₀ work₀ sums₀ bits₀ leaves₀ restart limit size made₀ steps₀ key₀ rules work sums bits leaves made steps key =
     limit - made
 
-make-keys-requires : tie.Need-make-keys-requires invariant-loop decreases-loop
+make-keys-requires : tie.Need-make_keys-requires invariant-loop decreases-loop
 make-keys-requires c κs =
     let p = c.before.before.before.requires in
-    keys_pre p.0 (fits p.0.coded.n_most) p.2.leaves
+    keys_pre p.0 (fits p.0.coded.n_most) p.2.leaves-1
 
-loop-holds : tie.Need-loop-init invariant-loop decreases-loop
+loop-holds : tie.Need-loop-made-init invariant-loop decreases-loop
 loop-holds c =
     let p = c.before.before.before.before.requires in
     (loop_starts p.1.least (steps_fit p.0.coded.n_most p.2.later.start_most), last_none, p.2.later.plain, record { work = p.2.whole.work; bits = refl; sums = p.2.whole.sums; leaves = refl })
 
 -- at the loop's head
-module _ (c : tie.At-loop invariant-loop decreases-loop) where
+module _ (c : tie.At-loop-made invariant-loop decreases-loop) where
   abbrev s : tie.Start invariant-loop decreases-loop
   s = c.before.before.before.before.before
 
@@ -73,82 +73,82 @@ module _ (c : tie.At-loop invariant-loop decreases-loop) where
   later i = later_trial s.args.terms.restart mask s.args.code v (i ∷ [])
 
   abbrev keys : List ℤ
-  keys = c.before.make-keys.new.1.0
+  keys = c.before.make_keys.new.1.0
 
-  abbrev going : LoopInvariant (trial_passes mask s.args.code) later order s.args.terms.limit s.args.start c.loop.made c.loop.steps
-  going = c.loop.invariant.0
+  abbrev going : LoopInvariant (trial_passes mask s.args.code) later order s.args.terms.limit s.args.start c.loop-made.made c.loop-made.steps
+  going = c.loop-made.invariant.0
 
   size_fits : code_length s.args.code ≤ longest
-  size_fits = fits s.pre.0.coded.n_most
+  size_fits = fits s.requires.0.coded.n_most
 
-  made_most : c.loop.made ≤ most_trials
-  made_most = omega (arith, going.most, s.pre.1.most, s.pre.0.coded.K_most, size_fits)
+  made_most : c.loop-made.made ≤ most_trials
+  made_most = omega (arith, going.most, s.requires.1.most, s.requires.0.coded.K_most, size_fits)
 
   long : s.args.terms.limit - 1 ≤ length order
-  long = order_long s.pre.0 s.pre.1.most
+  long = order_long s.requires.0 s.requires.1.most
 
   -- the keys are those of trial 1's leaf values
   keyed : FirstKeys mask s.args.code s.args.channel.now keys
   keyed =
-      let on = s.pre.0 in
-      keys_made (keys_pre on size_fits s.pre.2.leaves) on.coded.mask_size s.pre.2.leaves.values c.before.make-keys.ensures
+      let on = s.requires.0 in
+      keys_made (keys_pre on size_fits s.requires.2.leaves-1) on.coded.mask_size s.requires.2.leaves-1.values c.before.make_keys.ensures
 
 -- the next key
-module _ (c : tie.After-next-key invariant-loop decreases-loop) where
-  abbrev turn : tie.In-loop invariant-loop decreases-loop
+module _ (c : tie.After-next_key-key invariant-loop decreases-loop) where
+  abbrev turn : tie.In-loop-made invariant-loop decreases-loop
   turn = c.before.before.before
 
-  abbrev head : tie.At-loop invariant-loop decreases-loop
+  abbrev head : tie.At-loop-made invariant-loop decreases-loop
   head = turn.before
 
-  here : head.loop.made - 1 < length (order head)
-  here = omega (arith, long head, (going head).least, turn.loop-test.taken)
+  here : head.loop-made.made - 1 < length (order head)
+  here = omega (arith, long head, (going head).least, turn.loop-made-test.true)
 
-  least : back w32 c.next-key.result ≡ least_above (to_z w32 head.loop.key) (keys head) (code_length (s head).args.code)
+  least : back w32 c.next_key-key.result ≡ least_above (to_z w32 head.loop-made.key) (keys head) (code_length (s head).args.code)
   least =
-      back_is w32 c.next-key.result (record { sfits = c.next-key.type-inv }) ∙ c.next-key.ensures
-      ∙ ap (least_above (to_z w32 head.loop.key) (keys head)) (s head).pre.0.channel_size
+      back_is w32 c.next_key-key.result (record { sfits = c.next_key-key.type-inv }) ∙ c.next_key-key.ensures
+      ∙ ap (least_above (to_z w32 head.loop-made.key) (keys head)) (s head).requires.0.channel_size
 
 -- the index that is flipped
-module _ (c : tie.After-index-of invariant-loop decreases-loop) where
-  abbrev k : tie.After-next-key invariant-loop decreases-loop
+module _ (c : tie.After-index_of-i invariant-loop decreases-loop) where
+  abbrev k : tie.After-next_key-key invariant-loop decreases-loop
   k = c.before
 
   abbrev i : ℕ
-  i = c.index_of.result
+  i = c.index_of-i.result
 
-  next : i ≡ get_or (order (head k)) ((head k).loop.made - 1) 0
-  next = c.index_of.ensures ∙ next_index (keyed (head k)) (head k).loop.inv.1 (here k) (least k)
+  next : i ≡ get_or (order (head k)) ((head k).loop-made.made - 1) 0
+  next = c.index_of-i.ensures ∙ next_index (keyed (head k)) (head k).loop-made.invariant.1 (here k) (least k)
 
   flips : Flips (mask (head k)) (code_length (s (head k)).args.code) (i ∷ [])
   flips =
       subst (λ (j : ℕ). Flips (mask (head k)) (code_length (s (head k)).args.code) (j ∷ [])) (sym next)
-      (order_flips (mask (head k)) (s (head k)).args.code (v (head k)) ((head k).loop.made - 1) (here k))
+      (order_flips (mask (head k)) (s (head k)).args.code (v (head k)) ((head k).loop-made.made - 1) (here k))
 
-restart-index-requires : tie.Need-restart-index-requires invariant-loop decreases-loop
+restart-index-requires : tie.Need-restart_index-q-requires invariant-loop decreases-loop
 restart-index-requires c κs =
     let l = head (k c) in
-    let coded = (s l).pre.0.coded in
+    let coded = (s l).requires.0.coded in
     (omega (arith, coded.mask_size, size_fits l), omega (arith, coded.mask_size, (flips c).below 0 (flips c).some))
 
-later-trial-requires : tie.Need-later-trial-requires invariant-loop decreases-loop
+later-trial-requires : tie.Need-later_trial-done-requires invariant-loop decreases-loop
 later-trial-requires c κs =
     let r = c.before.before.before.before.before.before in
     let f = r.before in
     let l = head (k f) in
-    let p = (s l).pre in
-    let inv = l.loop.inv in
-    (trial_on p.0 inv.2.whole inv.3, later_pre inv.2 p.2.later.first_bits (flips f) (s l).args.terms.restart p.0.coded.mask_size r.restart-index.ensures)
+    let p = (s l).requires in
+    let inv = l.loop-made.invariant in
+    (trial_on p.0 inv.2.whole inv.3, later_pre inv.2 p.2.later.first_bits (flips f) (s l).args.terms.restart p.0.coded.mask_size r.restart_index-q.ensures)
 
 -- the trial
-module _ (c : tie.After-later-trial invariant-loop decreases-loop) where
-  abbrev resumed : tie.After-restart-index invariant-loop decreases-loop
+module _ (c : tie.After-later_trial-done invariant-loop decreases-loop) where
+  abbrev resumed : tie.After-restart_index-q invariant-loop decreases-loop
   resumed = c.before.before.before.before.before.before.before
 
-  abbrev found : tie.After-index-of invariant-loop decreases-loop
+  abbrev found : tie.After-index_of-i invariant-loop decreases-loop
   found = resumed.before
 
-  abbrev at : tie.At-loop invariant-loop decreases-loop
+  abbrev at : tie.At-loop-made invariant-loop decreases-loop
   at = head (k found)
 
   abbrev o : Out
@@ -158,72 +158,72 @@ module _ (c : tie.After-later-trial invariant-loop decreases-loop) where
   q = restart_at (s at).args.terms.restart (mask at) (code_length (s at).args.code) (i found)
 
   abbrev after : Arrays
-  after = let last = c.later-trial.new.1.1.1.1.1.1 in arrays last.0 last.1.0 last.1.1.0 last.1.1.1.0
+  after = let last = c.later_trial-done.new.1.1.1.1.1.1 in arrays last.0 last.1.0 last.1.1.0 last.1.1.1.0
 
-  made-is : TrialPost longest (s at).args.code q o after c.later-trial.result
-  made-is = later_made at.loop.inv.2 (s at).pre.2.later.first_bits (flips found) (s at).args.terms.restart (s at).pre.0.coded.mask_size resumed.restart-index.ensures c.later-trial.ensures.0
+  made-is : TrialPost longest (s at).args.code q o after c.later_trial-done.result
+  made-is = later_made at.loop-made.invariant.2 (s at).requires.2.later.first_bits (flips found) (s at).args.terms.restart (s at).requires.0.coded.mask_size resumed.restart_index-q.ensures c.later_trial-done.ensures.0
 
-  took : c.later-trial.result.steps ≡ o.work.steps
+  took : c.later_trial-done.result.steps ≡ o.work.steps
   took = ap (λ (w : Work). w.steps) made-is.work
 
-  few : c.later-trial.result.steps ≤ most_steps
-  few = steps_fit (s at).pre.0.coded.n_most (omega (arith, took, later_steps (mask at) (s at).args.code (v at) (i found ∷ []) q))
+  few : c.later_trial-done.result.steps ≤ most_steps
+  few = steps_fit (s at).requires.0.coded.n_most (omega (arith, took, later_steps (mask at) (s at).args.code (v at) (i found ∷ []) q))
 
-trial-passes-requires : tie.Need-trial-passes-requires invariant-loop decreases-loop
+trial-passes-requires : tie.Need-trial_passes-requires invariant-loop decreases-loop
 trial-passes-requires c κs =
     let t = c.before.before.before in
     let w = (made-is t).whole in
-    ((s (at t)).pre.0.coded, omega (arith, w.bits, size_fits (at t)), omega (arith, w.sums, size_fits (at t)))
+    ((s (at t)).requires.0.coded, omega (arith, w.bits-1, size_fits (at t)), omega (arith, w.sums, size_fits (at t)))
 
 -- its check
-module _ (c : tie.After-trial-passes invariant-loop decreases-loop) where
-  abbrev trial : tie.After-later-trial invariant-loop decreases-loop
+module _ (c : tie.After-trial_passes invariant-loop decreases-loop) where
+  abbrev trial : tie.After-later_trial-done invariant-loop decreases-loop
   trial = c.before.before.before.before
 
-  abbrev a : tie.At-loop invariant-loop decreases-loop
+  abbrev a : tie.At-loop-made invariant-loop decreases-loop
   a = at trial
 
-  ok-is : c.trial-passes.result ≡ trial_passes (mask a) (s a).args.code (o trial).bits
-  ok-is = c.trial-passes.ensures.0 ∙ ap (trial_passes (mask a) (s a).args.code) (made-is trial).bits
+  ok-is : c.trial_passes.result ≡ trial_passes (mask a) (s a).args.code (o trial).bits-1
+  ok-is = c.trial_passes.ensures.0 ∙ ap (trial_passes (mask a) (s a).args.code) (made-is trial).bits-1
 
   -- the message stands in the place of the sums
-  same-room : length c.trial-passes.new.1.1.1.0 ≡ longest
-  same-room = c.trial-passes.auto.1.1.1.0 ∙ (made-is trial).whole.sums
+  same-room : length c.trial_passes.new.1.1.1.0 ≡ longest
+  same-room = c.trial_passes.auto.1.1.1.0 ∙ (made-is trial).whole.sums
 
-returns : tie.Need-returns invariant-loop decreases-loop
+returns : tie.Need-returns-then-trial_passes invariant-loop decreases-loop
 returns c =
     let p = c.before in
     let l = a p in
     let f = found (trial p) in (
-      subst (λ (w : Verdict). Ran (mask l) (s l).args.code w (Passed (l.loop.made + 1) (l.loop.steps + (trial p).later-trial.result.steps)) p.trial-passes.new.1.1.1.0)
-          (sym ((s l).pre.2.later.goes_on _ ∙ loop_passes (going l) (long l) (turn (k f)).loop-test.taken (next f) (took (trial p)) (sym (ok-is p) ∙ c.if1.true)))
-          (ran_passed (s l).pre.0.coded _ _ (made-is (trial p)).bits p.trial-passes.ensures.1 (later-bits (mask l) (s l).args.code (v l) (i f ∷ []) (q (trial p)))),
+      subst (λ (w : Verdict). Ran (mask l) (s l).args.code w (Passed (l.loop-made.made + 1) (l.loop-made.steps + (trial p).later_trial-done.result.steps)) p.trial_passes.new.1.1.1.0)
+          (sym ((s l).requires.2.later.goes_on _ ∙ loop_passes (going l) (long l) (turn (k f)).loop-made-test.true (next f) (took (trial p)) (sym (ok-is p) ∙ c.if-trial_passes.true)))
+          (ran_passed (s l).requires.0.coded _ _ (made-is (trial p)).bits-1 p.trial_passes.ensures.1 (later-bits (mask l) (s l).args.code (v l) (i f ∷ []) (q (trial p)))),
       same-room p,
     )
 
-loop-again : tie.Need-loop-preserved invariant-loop decreases-loop
+loop-again : tie.Need-loop-made-preserved invariant-loop decreases-loop
 loop-again c =
     let p = c.before in
     let t = trial p in
     let l = a p in
     let f = found t in
-    let m : l.loop.made + 1 - 1 ≡ l.loop.made - 1 + 1 = omega (arith, (going l).least) in (
-      loop_goes_on (going l) (long l) (turn (k f)).loop-test.taken (next f) (took t) (sym (ok-is p) ∙ c.if1.false) (few t),
-      next_place (keyed l) l.loop.inv.1 (here (k f)) (least (k f)) m,
-      plain_after l.loop.inv.2 (s l).pre.2.later.first_bits (flips f) (s l).args.terms.restart (s l).pre.0.coded.mask_size (resumed t).restart-index.ensures t.later-trial.ensures.1 (size_fits l),
+    let m : l.loop-made.made + 1 - 1 ≡ l.loop-made.made - 1 + 1 = omega (arith, (going l).least) in (
+      loop_goes_on (going l) (long l) (turn (k f)).loop-made-test.true (next f) (took t) (sym (ok-is p) ∙ c.if-trial_passes.false) (few t),
+      next_place (keyed l) l.loop-made.invariant.1 (here (k f)) (least (k f)) m,
+      plain_after l.loop-made.invariant.2 (s l).requires.2.later.first_bits (flips f) (s l).args.terms.restart (s l).requires.0.coded.mask_size (resumed t).restart_index-q.ensures t.later_trial-done.ensures.1 (size_fits l),
       arrays_again (made-is t).whole (same-room p),
     )
 
-returns-2 : tie.Need-returns-2 invariant-loop decreases-loop
+returns-2 : tie.Need-returns invariant-loop decreases-loop
 returns-2 c =
     let l = c.before in (
-      subst (λ (w : Verdict). Ran (mask l) (s l).args.code w (Failed l.loop.made l.loop.steps) l.loop.sums)
-          (sym ((s l).requires.2.later.goes_on _ ∙ loop_ends (going l) (long l) c.loop-test.false)) refl,
-      l.loop.invariant.3.sums,
+      subst (λ (w : Verdict). Ran (mask l) (s l).args.code w (Failed l.loop-made.made l.loop-made.steps) l.loop-made.sums)
+          (sym ((s l).requires.2.later.goes_on _ ∙ loop_ends (going l) (long l) c.loop-made-test.false)) refl,
+      l.loop-made.invariant.3.sums,
     )
 
-pub flip-trials-spec : {M : Type 1} → statement M
-flip-trials-spec =
+pub flip_trials_spec : {M : Type 1} → statement M
+flip_trials_spec =
     tie.close
     (tie.spec
     invariant-loop
@@ -232,8 +232,8 @@ flip-trials-spec =
     loop-holds
     (λ c κs.
     let l = c.before.before.before in
-    omega (arith, (s l).requires.0.channel_size, size_fits l, l.before.make-keys.auto.1.0, (s l).requires.2.leaves.whole))
-    (λ c κs. next_positive (keyed (head c)) (head c).loop.invariant.1 (here c) (least c))
+    omega (arith, (s l).requires.0.channel_size, size_fits l, l.before.make_keys.auto.1.0, (s l).requires.2.leaves-1.whole))
+    (λ c κs. next_positive (keyed (head c)) (head c).loop-made.invariant.1 (here c) (least c))
     restart-index-requires
     (λ c. search rules)
     later-trial-requires

@@ -9,23 +9,23 @@ use Rattle.laws.proofs.Filling.{Filling, filling_none, filling_more, filling_don
 use Rattle.flip_trial.proofs.clear_bits.Statement.{statement}
 use Rattle.flip_trial.proofs.clear_bits.Tie as tie
 
-abbrev invariant-loop : tie.invariant-loop
+abbrev invariant-loop : tie.invariant-loop-j
 invariant-loop at count bits₀ j₀ bits j = Filling (λ k. 0) at count bits₀ bits j
 
-abbrev decreases-loop : tie.decreases-loop
+abbrev decreases-loop : tie.decreases-loop-j
 decreases-loop at count bits₀ j₀ bits j = count - j
 
-loop-again : tie.Need-loop-preserved invariant-loop decreases-loop
-loop-again c = let l = c.before.loop in filling_more l.invariant _ 0 (omega arith) refl refl
+loop-again : tie.Need-loop-j-preserved invariant-loop decreases-loop
+loop-again c = let l = c.before.loop-j in filling_more l.invariant _ 0 (omega arith) refl refl
 
 returns : tie.Need-returns invariant-loop decreases-loop
 returns c =
     let s = c.before.before in
-    filling_done c.before.loop.invariant (omega arith) (omega arith)
+    filling_done c.before.loop-j.invariant (omega arith) (omega arith)
     ∙ ap (splice s.args.bits.now s.args.at) (table-replicate 0 s.args.count)
 
-pub clear-bits-spec : {M : Type 1} → statement M
-clear-bits-spec =
+pub clear_bits_spec : {M : Type 1} → statement M
+clear_bits_spec =
     tie.close
     (tie.spec
     invariant-loop

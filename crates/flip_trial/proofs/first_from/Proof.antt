@@ -19,10 +19,10 @@ use Rattle.flip_trial.proofs.first_from.Tie as tie
 abbrev test : List ℕ → ℕ → ℕ → Bool
 test mask from k = eqb (mask_bit mask (from + k)) 1
 
-abbrev invariant-loop : tie.invariant-loop
+abbrev invariant-loop : tie.invariant-loop-j
 invariant-loop mask from j₀ j = (from ≤ j) × (j ≤ 8 * length mask) × ((k : ℕ) → k < j - from → test mask from k ≡ false)
 
-abbrev decreases-loop : tie.decreases-loop
+abbrev decreases-loop : tie.decreases-loop-j
 decreases-loop mask from j₀ j = 8 * length mask - j
 
 -- the search ends at j
@@ -32,30 +32,30 @@ found mask from j l m below here =
     sym back
     ∙ ap (λ (k : ℕ). from + k) (sym (first-is (test mask from) (8 * length mask - from) (j - from) (omega arith) below (λ h. eq-eqb _ 1 (ap (mask_bit mask) back ∙ here (omega arith)))))
 
-returns : tie.Need-returns invariant-loop decreases-loop
+returns : tie.Need-returns-then-mask_bit-eq1 invariant-loop decreases-loop
 returns c =
-    let l = c.before.before.before.loop in
+    let l = c.before.before.before.loop-j in
     let s = c.before.before.before.before.before.args in
-    found s.mask.now s.from l.j l.invariant.0 l.invariant.1 l.invariant.2 (λ _. sym c.before.mask-bit.ensures ∙ c.if1.true)
+    found s.mask.now s.from l.j l.invariant.0 l.invariant.1 l.invariant.2 (λ _. sym c.before.mask_bit.ensures ∙ c.if-mask_bit-eq1.true)
 
-loop-again : tie.Need-loop-preserved invariant-loop decreases-loop
+loop-again : tie.Need-loop-j-preserved invariant-loop decreases-loop
 loop-again c =
-    let l = c.before.before.before.loop in
+    let l = c.before.before.before.loop-j in
     let s = c.before.before.before.before.before.args in
     let mask = s.mask.now in
     let back : s.from + (l.j - s.from) ≡ l.j = omega (arith, l.invariant.0) in
     let turns : l.j - s.from + 1 ≡ l.j + 1 - s.from = omega (arith, l.invariant.0) in
-    let bit = ne_eqb _ 1 (λ e. c.if1.false (c.before.mask-bit.ensures ∙ sym (ap (mask_bit mask) back) ∙ e)) in
+    let bit = ne_eqb _ 1 (λ e. c.if-mask_bit-eq1.false (c.before.mask_bit.ensures ∙ sym (ap (mask_bit mask) back) ∙ e)) in
     (omega (arith, l.invariant.0), omega arith, subst (λ (m : ℕ). (k : ℕ) → k < m → test mask s.from k ≡ false) turns (below_more _ _ l.invariant.2 bit))
 
-returns-2 : tie.Need-returns-2 invariant-loop decreases-loop
+returns-2 : tie.Need-returns invariant-loop decreases-loop
 returns-2 c =
-    let l = c.before.loop in
+    let l = c.before.loop-j in
     let s = c.before.before.before.args in
     found s.mask.now s.from l.j l.invariant.0 l.invariant.1 l.invariant.2 (λ h. absurd (omega arith))
 
-pub first-from-spec : {M : Type 1} → statement M
-first-from-spec =
+pub first_from_spec : {M : Type 1} → statement M
+first_from_spec =
     tie.close
     (tie.spec
     invariant-loop

@@ -19,30 +19,30 @@ module _ (s : tie.Start) where
   room = fits s.requires.0.n_most
 
   below : Below longest s.args.flips.now
-  below = flips_fit s.pre.0 s.pre.1 room
+  below = flips_fit s.requires.0 s.requires.1 room
 
-put-prefix-requires : tie.Need-put-prefix-requires
+put-prefix-requires : tie.Need-put_prefix-requires
 put-prefix-requires c κs =
     let s = c.before.before.before.before in
     let on = s.requires.0 in
     let later = s.requires.1 in
     ((below s).at 0 later.some, omega (arith, later.q_most, room s), first_bit on later (room s), later.whole, on.whole.bits)
 
-set-rules-requires : tie.Need-set-rules-requires
+set-rules-requires : tie.Need-set_rules-requires
 set-rules-requires c κs = let s = c.before.before.before.before.before.before in (below s, s.requires.0.rules_whole)
 
-pass-requires : tie.Need-pass-requires
+pass-requires : tie.Need-pass-done-requires
 pass-requires c κs =
     let r = c.before.before.before.before.before in
     let p = r.before.before in
     let s = p.before.before.before.before.before in
-    pass_pre s.requires.0 s.requires.1 (room s) p.put-prefix.ensures r.set-rules.ensures
+    pass_pre s.requires.0 s.requires.1 (room s) p.put_prefix.ensures r.set_rules.ensures
 
-set-rules-requires-2 : tie.Need-set-rules-requires-2
+set-rules-requires-2 : tie.Need-set_rules-requires-2
 set-rules-requires-2 c κs =
     let r = c.before.before.before.before.before.before.before in
     let s = r.before.before.before.before.before.before.before in
-    (below s, ap length r.set-rules.ensures ∙ length-set_all s.args.rules.now s.args.flips.now 3 ∙ s.requires.0.rules_whole)
+    (below s, ap length r.set_rules.ensures ∙ length-set_all s.args.rules.now s.args.flips.now 3 ∙ s.requires.0.rules_whole)
 
 returns : tie.Need-returns
 returns c =
@@ -52,12 +52,12 @@ returns c =
     let s = p.before.before.before.before.before in
     let rules = s.args.rules.now in
     let flips = s.args.flips.now in (
-      later_post s.requires.0 s.requires.1 (room s) p.put-prefix.ensures r.set-rules.ensures d.pass.ensures,
-      c.set-rules2.ensures ∙ ap (λ (w : List ℕ). set_all w flips 1) r.set-rules.ensures
+      later_post s.requires.0 s.requires.1 (room s) p.put_prefix.ensures r.set_rules.ensures d.pass-done.ensures,
+      c.set_rules-2.ensures ∙ ap (λ (w : List ℕ). set_all w flips 1) r.set_rules.ensures
           ∙ set_again rules flips (subst (λ (k : ℕ). Below k flips) (sym s.requires.0.rules_whole) (below s)) 3 1,
     )
 
-pub later-trial-spec : {M : Type 1} → statement M
-later-trial-spec =
+pub later_trial_spec : {M : Type 1} → statement M
+later_trial_spec =
     tie.close
     (tie.spec (λ c. search rules) put-prefix-requires set-rules-requires pass-requires set-rules-requires-2 returns)

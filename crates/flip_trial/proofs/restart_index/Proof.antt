@@ -12,14 +12,14 @@ use Rattle.flip_trial.proofs.restart_index.Tie as tie
 abbrev at : tie.Start → Restart → ℕ
 at s r = restart_at r s.args.mask.now (8 * length s.args.mask.now) s.args.lowest
 
-returns-2 : tie.Need-returns-2
-returns-2 c = c.half-index.ensures ∙ ap (at c.before.before.before.before) (sym c.before.enum-told2.given.1)
+returns-2 : tie.Need-returns-in-Half
+returns-2 c = c.half_index.ensures ∙ ap (at c.before.before.before.before) (sym c.before.enum_told-in-Half-1.given.1)
 
-returns-3 : tie.Need-returns-3
-returns-3 c = c.first-from.ensures ∙ ap (at c.before.before.before.before) (sym c.before.enum-told3.given.1)
+returns-3 : tie.Need-returns-in-AfterFlip
+returns-3 c = c.first_from.ensures ∙ ap (at c.before.before.before.before) (sym c.before.enum_told-in-AfterFlip-1.given.1)
 
-pub restart-index-spec : {M : Type 1} → statement M
-restart-index-spec =
+pub restart_index_spec : {M : Type 1} → statement M
+restart_index_spec =
     tie.close
     (tie.spec
     (λ c. search rules)

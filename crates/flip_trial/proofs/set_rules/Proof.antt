@@ -11,20 +11,20 @@ use Rattle.flip_trial.specs.Clauses.{set_all}
 use Rattle.flip_trial.proofs.set_rules.Statement.{statement}
 use Rattle.flip_trial.proofs.set_rules.Tie as tie
 
-abbrev invariant-loop : tie.invariant-loop
+abbrev invariant-loop : tie.invariant-loop-a
 invariant-loop rule flips rules₀ a₀ rules a = (a ≤ length flips) × (length rules ≡ length rules₀) × (set_all rules (drop a flips) rule ≡ set_all rules₀ flips rule)
 
-abbrev decreases-loop : tie.decreases-loop
+abbrev decreases-loop : tie.decreases-loop-a
 decreases-loop rule flips rules₀ a₀ rules a = length flips - a
 
-element-write-rules : tie.Need-element-write-rules invariant-loop decreases-loop
+element-write-rules : tie.Need-bounds-rules-i invariant-loop decreases-loop
 element-write-rules c =
-    let l = c.before.before.loop in
+    let l = c.before.before.loop-a in
     omega (arith, c.before.before.before.requires.0.at l.a (omega arith), l.invariant.1)
 
-loop-again : tie.Need-loop-preserved invariant-loop decreases-loop
+loop-again : tie.Need-loop-a-preserved invariant-loop decreases-loop
 loop-again c =
-    let l = c.before.before.loop in
+    let l = c.before.before.loop-a in
     let s = c.before.before.before.args in
     let flips = s.flips.now in (
       omega arith,
@@ -36,12 +36,12 @@ loop-again c =
 
 returns : tie.Need-returns invariant-loop decreases-loop
 returns c =
-    let l = c.before.loop in
+    let l = c.before.loop-a in
     let s = c.before.before.args in
     sym (ap (λ (is : List ℕ). set_all l.rules is s.rule) (drop_of_length-le s.flips.now {i = l.a} (omega arith))) ∙ l.invariant.2
 
-pub set-rules-spec : {M : Type 1} → statement M
-set-rules-spec =
+pub set_rules_spec : {M : Type 1} → statement M
+set_rules_spec =
     tie.close
     (tie.spec
     invariant-loop

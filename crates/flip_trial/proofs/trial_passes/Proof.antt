@@ -12,7 +12,7 @@ use Rattle.flip_trial.proofs.trial_passes.Statement.{statement}
 use Rattle.flip_trial.proofs.trial_passes.Tie as tie
 
 -- the room with the message at its start
-module _ (c : tie.After-take-out) where
+module _ (c : tie.After-take_out) where
   abbrev s : tie.Start
   s = c.before.before.before.before.before
 
@@ -20,10 +20,10 @@ module _ (c : tie.After-take-out) where
   size = information_count s.args.code
 
   taken_is : take size c.take_out.new.1.1.0 ≡ message_in s.args.mask.now s.args.code (take (code_length s.args.code) s.args.bits.now)
-  taken_is = message-at s.pre.0 s.args.bits.now s.args.message.now _ s.pre.2 c.take_out.ensures.1
+  taken_is = message-at s.requires.0 s.args.bits.now s.args.message-1.now _ s.requires.2 c.take_out.ensures.1
 
   taken-length : length (take size c.take_out.new.1.1.0) ≡ size
-  taken-length = ap length taken_is ∙ length-message s.pre.0 _
+  taken-length = ap length taken_is ∙ length-message s.requires.0 _
 
 passes-requires : tie.Need-passes-requires
 passes-requires c κs =
@@ -37,8 +37,8 @@ returns c =
     let a = (s t).args in
     (c.passes.ensures ∙ ap (passes (divisor a.code) (start_bits a.code) a.code.k) (taken_is t), taken_is t)
 
-pub trial-passes-spec : {M : Type 1} → statement M
-trial-passes-spec =
+pub trial_passes_spec : {M : Type 1} → statement M
+trial_passes_spec =
     tie.close
     (tie.spec
     (λ c κs. search rules)

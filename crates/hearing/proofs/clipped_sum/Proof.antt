@@ -12,15 +12,15 @@ returns c =
     let s = c.before in
     let a = s.args.a in
     let b = s.args.b in
-    ap (λ (x : ℕ). (x + 194) % 256) c.clamped.ensures ∙ sym (clipped_sum-is a b (omega arith) (omega arith) s.requires.0 s.requires.1)
+    ap (λ (x : ℕ). (x + 194) % 256) c.clamped-sum.ensures ∙ sym (clipped_sum-is a b (omega arith) (omega arith) s.requires.0 s.requires.1)
 
-pub clipped-sum-spec : {M : Type 1} → statement M
-clipped-sum-spec =
+pub clipped_sum_spec : {M : Type 1} → statement M
+clipped_sum_spec =
     tie.close
     (tie.spec
     (λ c. search rules)
     (λ c. search rules)
     (λ c κs. search rules)
-    (λ c. omega (arith, c.clamped.ensures))
+    (λ c. omega (arith, c.clamped-sum.ensures))
     (λ c. omega arith)
     returns)

@@ -38,29 +38,29 @@ module _ (s : tie.Start) where
       ap (λ (t : Bool). t && by (zeros (zero_from s.args.code s.args.count))) (sym (le-leb s.args.count 255 (omega arith)))
 
 -- the first test
-first : (c : tie.After-is-zero-from) →
+first : (c : tie.After-is_zero_from) →
     let s = c.before.before.before in
-    c.is-zero-from.result ≡ zeros s (zero_from s.args.code s.args.count)
-first c = c.is-zero-from.ensures ∙ ap (zeros c.before.before.before) c.before.zero-from.ensures
+    c.is_zero_from.result ≡ zeros s (zero_from s.args.code s.args.count)
+first c = c.is_zero_from.ensures ∙ ap (zeros c.before.before.before) c.before.zero_from.ensures
 
-returns : tie.Need-returns
+returns : tie.Need-returns-then-is_zero_from
 returns c =
     let e = c.before.before.before in
     let s = e.before.before.before in
-    c.are-inside.ensures ∙ ap (λ (k : ℕ). eqb (first_outside (take k (values s))) k) (size s)
-    ∙ ap (by s) (sym c.before.before.if1.true ∙ first e) ∙ counted s
+    c.are_inside.ensures ∙ ap (λ (k : ℕ). eqb (first_outside (take k (values s))) k) (size s)
+    ∙ ap (by s) (sym c.before.before.if-is_zero_from.true ∙ first e) ∙ counted s
 
-returns-2 : tie.Need-returns-2
-returns-2 c = let e = c.before in let s = e.before.before.before in ap (by s) (sym c.if1.false ∙ first e) ∙ counted s
+returns-2 : tie.Need-returns
+returns-2 c = let e = c.before in let s = e.before.before.before in ap (by s) (sym c.if-is_zero_from.false ∙ first e) ∙ counted s
 
-pub is-hearing-spec : {M : Type 1} → statement M
-is-hearing-spec =
+pub is_hearing_spec : {M : Type 1} → statement M
+is_hearing_spec =
     tie.close
     (tie.spec
     (λ c κs. search rules)
     (λ c κs.
     let s = c.before.before in
-    omega (arith, c.zero-from.ensures, from_most s.args.code s.args.count, fits s.requires.0, s.requires.1))
+    omega (arith, c.zero_from.ensures, from_most s.args.code s.args.count, fits s.requires.0, s.requires.1))
     (λ c. search rules)
     (λ c. search rules)
     (λ c κs. let s = c.before.before.before.before.before in omega (arith, size s, fits s.requires.0, s.requires.1))

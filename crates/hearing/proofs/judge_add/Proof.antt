@@ -20,24 +20,24 @@ module _ (s : tie.Start) where
   abbrev second : List (Bool × Refusal)
   second = (eqb s.args.count 255, Alone 27) ∷ []
 
-returns : tie.Need-returns
+returns : tie.Need-returns-then-count-eq255
 returns c =
     let j = c.before.before.before in
     let s = j.before.before in
-    sym (append-fine (first s) (second s) (sym j.judge-channel.ensures ∙ c.before.enum_told.given.1) ∙ judge_yes _ _ _ (eq-eqb _ _ c.if1.true))
+    sym (append-fine (first s) (second s) (sym j.judge_channel.ensures ∙ c.before.enum_told-1.given.1) ∙ judge_yes _ _ _ (eq-eqb _ _ c.if-count-eq255.true))
 
-returns-2 : tie.Need-returns-2
+returns-2 : tie.Need-returns-else-count-eq255
 returns-2 c =
     let j = c.before.before.before in
     let s = j.before.before in
-    sym (append-fine (first s) (second s) (sym j.judge-channel.ensures ∙ c.before.enum_told.given.1) ∙ judge_no _ _ _ (ne_eqb _ _ c.if1.false) ∙ judge-none)
+    sym (append-fine (first s) (second s) (sym j.judge_channel.ensures ∙ c.before.enum_told-1.given.1) ∙ judge_no _ _ _ (ne_eqb _ _ c.if-count-eq255.false) ∙ judge-none)
 
-returns-3 : tie.Need-returns-3
+returns-3 : tie.Need-returns-in-Refused
 returns-3 c =
     let j = c.before.before.before in
     let s = j.before.before in
-    sym (append_refused (first s) (second s) _ (sym j.judge-channel.ensures ∙ c.before.x.given.1))
+    sym (append_refused (first s) (second s) _ (sym j.judge_channel.ensures ∙ c.before.x-1.given.1))
 
-pub judge-add-spec : {M : Type 1} → statement M
-judge-add-spec =
+pub judge_add_spec : {M : Type 1} → statement M
+judge_add_spec =
     tie.close (tie.spec (λ c κs. search rules) (λ c. search rules) returns (λ c. search rules) returns-2 returns-3)

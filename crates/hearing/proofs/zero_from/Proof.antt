@@ -9,14 +9,14 @@ use Rattle.laws.proofs.Powers.{one_shl}
 use Rattle.hearing.proofs.zero_from.Statement.{statement}
 use Rattle.hearing.proofs.zero_from.Tie as tie
 
-returns : tie.Need-returns
-returns c = let s = c.before.args in ap (λ (t : Bool). cond t 0 (2 ^ s.code.n)) (sym (eq-eqb s.count 0 c.if1.true))
+returns : tie.Need-returns-then-count-eq0
+returns c = let s = c.before.args in ap (λ (t : Bool). cond t 0 (2 ^ s.code.n)) (sym (eq-eqb s.count 0 c.if-count-eq0.true))
 
-returns-2 : tie.Need-returns-2
+returns-2 : tie.Need-returns
 returns-2 c =
     let s = c.before.before in
     one_shl s.args.code.n 64 (omega (arith, s.requires))
-    ∙ ap (λ (t : Bool). cond t 0 (2 ^ s.args.code.n)) (sym (ne_eqb s.args.count 0 c.before.if1.false))
+    ∙ ap (λ (t : Bool). cond t 0 (2 ^ s.args.code.n)) (sym (ne_eqb s.args.count 0 c.before.if-count-eq0.false))
 
-pub zero-from-spec : {M : Type 1} → statement M
-zero-from-spec = tie.close (tie.spec returns (λ c. search rules) (λ c. search rules) returns-2)
+pub zero_from_spec : {M : Type 1} → statement M
+zero_from_spec = tie.close (tie.spec returns (λ c. search rules) (λ c. search rules) returns-2)

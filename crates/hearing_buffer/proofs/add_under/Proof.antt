@@ -26,10 +26,10 @@ use Rattle.hearing_buffer.proofs.add_under.Tie as tie
 
 module _ (s : tie.Start) where
   abbrev b : List ℕ
-  b = s.args.buffer.now
+  b = s.args.buffer-1.now
 
   size : length b ≡ hearing_size
-  size = code-size b s.args.code s.pre
+  size = code-size b s.args.code s.requires
 
   abbrev count : ℕ
   count = get_or b longest_description 0
@@ -45,10 +45,10 @@ module _ (s : tie.Start) where
   coded = ap code_of_state (state_parts b size)
 
   n_most : s.args.code.n ≤ largest_n
-  n_most = code-most state s.args.code (coded ∙ s.pre)
+  n_most = code-most state s.args.code (coded ∙ s.requires)
 
   hears : is_hearing s.args.code h ≡ true
-  hears = is_hearing_lem state s.args.code (coded ∙ s.pre)
+  hears = is_hearing_lem state s.args.code (coded ∙ s.requires)
 
   -- the answer and the bytes, by the judgement
   abbrev by : State → Judgement → Kept × List ℕ
@@ -57,40 +57,40 @@ module _ (s : tie.Start) where
       answer_in (refused_or j (refused_in t) (Fine, with_hearing t (added_to x.code t.hearing x.channel.now))) b
 
 -- the answer and the bytes if no refusal applies
-module _ (c : tie.After-enum-told) where
+module _ (c : tie.In-Fine) where
   abbrev start : tie.Start
   start = c.before.before.before.before.before.before
 
   fine : judge (add_refusals start.args.code (count start) start.args.channel.now) ≡ Fine
-  fine = sym c.before.before.judge-add.ensures ∙ c.enum_told.given.1
+  fine = sym c.before.before.judge_add.ensures ∙ c.enum_told-1.given.1
 
   room : count start < 255
   room =
       let s = start in
       not_full s.args.code (count s) s.args.channel.now fine (count_most s.args.code (h s) (hears s))
 
-returns : tie.Need-returns
+returns : tie.Need-returns-in-Fine
 unfolding refused_or
 returns c =
     let a = c.before.before in
     let t = a.before.before in
     let s = start t in
     let x = s.args in
-    let sums = a.add-values.ensures ∙ sums_are x.code (h s) x.channel.now (n_most s) (parts (b s) (size s)).values_size (hears s) (fine t) in
+    let sums = a.add_values.ensures ∙ sums_are x.code (h s) x.channel.now (n_most s) (parts (b s) (size s)).values_size (hears s) (fine t) in
     ap (λ (l : List ℕ). (Done (count s + 1), l)) (added-bytes (b s) (size s) _ (count s + 1) ∙ ap (λ (v : List ℕ). take longest_description (b s) ++ ((count s + 1) ∷ v)) sums)
     ∙ sym (ap (by s (state s)) (fine t)) ∙ ap (λ (t : State). by s t (judge (add_refusals x.code t.hearing.count x.channel.now))) (state_parts (b s) (size s))
 
-returns-2 : tie.Need-returns-2
+returns-2 : tie.Need-returns-in-Refused
 unfolding refused_or
 returns-2 c =
     let j = c.before.before.before in
     let s = j.before.before.before.before in
     let x = s.args in
-    sym (ap (by s (state s)) (sym j.judge-add.ensures ∙ c.before.x.given.1))
+    sym (ap (by s (state s)) (sym j.judge_add.ensures ∙ c.before.x-1.given.1))
     ∙ ap (λ (t : State). by s t (judge (add_refusals x.code t.hearing.count x.channel.now))) (state_parts (b s) (size s))
 
-pub add-under-spec : {M : Type 1} → statement M
-add-under-spec =
+pub add_under_spec : {M : Type 1} → statement M
+add_under_spec =
     tie.close
     (tie.spec
     (λ c. let s = c.before.before.before in omega (arith, size s))

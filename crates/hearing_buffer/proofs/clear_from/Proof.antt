@@ -12,14 +12,14 @@ use Rattle.laws.proofs.Filling.{Filling, filling_none, filling_more, filling_don
 use Rattle.hearing_buffer.proofs.clear_from.Statement.{statement}
 use Rattle.hearing_buffer.proofs.clear_from.Tie as tie
 
-abbrev invariant-loop : tie.invariant-loop
+abbrev invariant-loop : tie.invariant-loop-j
 invariant-loop buffer₀ start count j₀ buffer j = Filling (λ k. 0) start count buffer₀ buffer j
 
-abbrev decreases-loop : tie.decreases-loop
+abbrev decreases-loop : tie.decreases-loop-j
 decreases-loop buffer₀ start count j₀ buffer j = count - j
 
-loop-again : tie.Need-loop-preserved invariant-loop decreases-loop
-loop-again c = let l = c.before.loop in filling_more l.invariant _ 0 (omega arith) refl refl
+loop-again : tie.Need-loop-j-preserved invariant-loop decreases-loop
+loop-again c = let l = c.before.loop-j in filling_more l.invariant _ 0 (omega arith) refl refl
 
 returns : tie.Need-returns invariant-loop decreases-loop
 returns c =
@@ -27,12 +27,12 @@ returns c =
     let b : List ℕ = s.args.buffer.now in
     let start : ℕ = s.args.start in
     let count : ℕ = length b - start in
-    filling_done c.before.loop.invariant (omega arith) (omega arith)
+    filling_done c.before.loop-j.invariant (omega arith) (omega arith)
     ∙ ap (splice b start) (table-replicate 0 count)
     ∙ splice-end b start (replicate count 0) (omega (arith, length-replicate {A = ℕ} count 0, s.requires))
 
-pub clear-from-spec : {M : Type 1} → statement M
-clear-from-spec =
+pub clear_from_spec : {M : Type 1} → statement M
+clear_from_spec =
     tie.close
     (tie.spec
     invariant-loop
@@ -44,5 +44,5 @@ clear-from-spec =
     (λ c. search rules)
     (λ c. search rules)
     loop-again
-    (λ c. c.before.loop.invariant.same)
+    (λ c. c.before.loop-j.invariant.same)
     returns)

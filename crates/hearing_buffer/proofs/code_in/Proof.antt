@@ -10,26 +10,26 @@ use Rattle.hearing_buffer.proofs.InPlace.{parts, state_parts}
 use Rattle.hearing_buffer.proofs.code_in.Statement.{statement}
 use Rattle.hearing_buffer.proofs.code_in.Tie as tie
 
-returns : tie.Need-returns
+returns : tie.Need-returns-then-buffer-eq-HEARING_SIZE
 returns c =
     let t = c.before.before.before.before in
     let b = t.before.before.args.buffer.now in
-    c.code_by.ensures ∙ ap code_of_state (state_parts b t.if1.true)
+    c.code_by.ensures ∙ ap code_of_state (state_parts b t.if-buffer-eq-HEARING_SIZE.true)
 
-returns-2 : tie.Need-returns-2
+returns-2 : tie.Need-returns
 returns-2 c =
     let b = c.before.before.args.buffer.now in
-    sym (ap (λ (t : Bool). code_of_state (cond t (state_at b) no_state)) (ne_eqb _ _ c.if1.false) ∙ no_code)
+    sym (ap (λ (t : Bool). code_of_state (cond t (state_at b) no_state)) (ne_eqb _ _ c.if-buffer-eq-HEARING_SIZE.false) ∙ no_code)
 
-pub code-in-spec : {M : Type 1} → statement M
-code-in-spec =
+pub code_in_spec : {M : Type 1} → statement M
+code_in_spec =
     tie.close
     (tie.spec
-    (λ c. sym (parts c.before.before.before.args.buffer.now c.before.if1.true).description_size)
+    (λ c. sym (parts c.before.before.before.args.buffer.now c.before.if-buffer-eq-HEARING_SIZE.true).description_size)
     (λ c. search rules)
     (λ c. search rules)
     (λ c. search rules)
     (λ c. search rules)
-    (λ c κs. let t = c.before.before.before in parts t.before.before.args.buffer.now t.if1.true)
+    (λ c κs. let t = c.before.before.before in parts t.before.before.args.buffer.now t.if-buffer-eq-HEARING_SIZE.true)
     returns
     returns-2)

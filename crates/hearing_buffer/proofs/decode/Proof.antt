@@ -19,27 +19,27 @@ abbrev by : tie.Start → Description → Decoded × List ℕ
 by s a =
     let x = s.args in
     let t = state_in x.buffer.now in
-    on_description a (λ r. (Refused r, x.output.now)) (λ c. decoded_as (single x.terms.limit) x.terms.restart (description_of t) (combined c t.hearing) x.output.now)
+    on_description a (λ r. (Refused r, x.output-1.now)) (λ c. decoded_as (single x.terms.limit) x.terms.restart (description_of t) (combined c t.hearing) x.output-1.now)
 
-returns : tie.Need-returns
+returns : tie.Need-returns-in-Accepted
 returns c =
     let d = c.before.before in
     let t = d.before.before in
     let r = t.before.before.before in
-    d.decode-under.ensures ∙ sym (ap (by r.before.before.before) (sym r.Code-in.ensures ∙ t.before.code.given.1))
+    d.decode_under.ensures ∙ sym (ap (by r.before.before.before) (sym r.Code-in.ensures ∙ t.before.code-1.given.1))
 
-returns-2 : tie.Need-returns-2
+returns-2 : tie.Need-returns-in-Refused
 returns-2 c =
     let r = c.before.before.before in
-    sym (ap (by r.before.before.before) (sym r.Code-in.ensures ∙ c.before.x.given.1))
+    sym (ap (by r.before.before.before) (sym r.Code-in.ensures ∙ c.before.x-1.given.1))
 
-pub decode-spec : {M : Type 1} → statement M
-decode-spec =
+pub decode_spec : {M : Type 1} → statement M
+decode_spec =
     tie.close
     (tie.spec
     (λ c κs. search rules)
     (λ c. search rules)
-    (λ c κs. let t = c.before in sym t.before.before.before.Code-in.ensures ∙ t.before.code.given.1)
+    (λ c κs. let t = c.before in sym t.before.before.before.Code-in.ensures ∙ t.before.code-1.given.1)
     (λ c. search rules)
     (λ c. search rules)
     returns

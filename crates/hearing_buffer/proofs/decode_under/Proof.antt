@@ -25,25 +25,25 @@ module _ (s : tie.Start) where
   b = s.args.buffer.now
 
   size : length b ≡ hearing_size
-  size = code-size b s.args.code s.pre
+  size = code-size b s.args.code s.requires
 
   -- the state, by its parts as they are lent
   abbrev state : State
   state = state_by (take longest_description b) (get_or b longest_description 0) (part b size)
 
   describes : describe (description_of state) ≡ Accepted s.args.code
-  describes = (state_is state s.args.code (ap code_of_state (state_parts b size) ∙ s.pre)).0
+  describes = (state_is state s.args.code (ap code_of_state (state_parts b size) ∙ s.requires)).0
 
 returns : tie.Need-returns
 returns c =
     let d = c.before.before in
     let s = d.before.before.before.before.before.before in
     let x = s.args in
-    d.decode-values.ensures
-    ∙ ap (λ (t : State). decoded_as (single x.terms.limit) x.terms.restart (description_of t) (combined x.code t.hearing) x.output.now) (state_parts (b s) (size s))
+    d.decode_values.ensures
+    ∙ ap (λ (t : State). decoded_as (single x.terms.limit) x.terms.restart (description_of t) (combined x.code t.hearing) x.output-1.now) (state_parts (b s) (size s))
 
-pub decode-under-spec : {M : Type 1} → statement M
-decode-under-spec =
+pub decode_under_spec : {M : Type 1} → statement M
+decode_under_spec =
     tie.close
     (tie.spec
     (λ c. let s = c.before.before.before in sym (parts (b s) (size s)).description_size)

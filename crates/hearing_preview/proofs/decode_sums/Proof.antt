@@ -34,10 +34,10 @@ module _ (s : tie.Start) where
   channel = s.args.channel.now
 
   size : length b ≡ hearing_size
-  size = sums.size c b channel s.pre
+  size = sums.size c b channel s.requires
 
   channel-room : length channel ≤ 2 ^ largest_n
-  channel-room = omega (arith, sums.channel-long c b channel s.pre, sums.room c b channel s.pre)
+  channel-room = omega (arith, sums.channel-long c b channel s.requires, sums.room c b channel s.requires)
 
   -- the description, as it is lent
   part-long : length (take longest_description b) ≡ longest_description
@@ -47,22 +47,22 @@ module _ (s : tie.Start) where
   record_is = ap (λ (t : State). description_of t) (sym (state_at_lem b size))
 
 -- the array holds the values, and then the sums
-copied : (k : tie.After-copy) → let s = k.before.before.before.before.before in k.copy.new.1.1.0 ≡ (state_in (b s)).hearing.values
+copied : (k : tie.After-copy) → let s = k.before.before.before.before.before in k.copy.new.1.1.0 ≡ (state_in (b s)).hearing.values-1
 copied k = let s = k.before.before.before.before.before in k.copy.ensures ∙ sums.copied (c s) (b s) (channel s) s.requires
 
-made : (a : tie.After-add-values) → let s = a.before.before.before.before.before.before.before.before in a.add-values.new.0 ≡ (added_to (c s) (state_in (b s)).hearing (channel s)).values
+made : (a : tie.After-add_values) → let s = a.before.before.before.before.before.before.before.before in a.add_values.new.0 ≡ (added_to (c s) (state_in (b s)).hearing (channel s)).values-1
 made a =
     let k = a.before.before.before in
     let s = k.before.before.before.before.before in
-    a.add-values.ensures ∙ ap (λ (v : List ℕ). splice v 0 (clipped_sums (length (channel s)) v (channel s))) (copied k) ∙ sums.sums-made (c s) (b s) (channel s) s.requires
+    a.add_values.ensures ∙ ap (λ (v : List ℕ). splice v 0 (clipped_sums (length (channel s)) v (channel s))) (copied k) ∙ sums.sums-made (c s) (b s) (channel s) s.requires
 
-add-values-requires : tie.Need-add-values-requires
+add-values-requires : tie.Need-add_values-requires
 add-values-requires v κs =
     let k = v.before.before in
     let s = k.before.before.before.before.before in
     subst (λ (l : List ℕ). AddPre l (channel s)) (sym (copied k)) (sums.may_add (c s) (b s) (channel s) s.requires)
 
-decode-values-requires : tie.Need-decode-values-requires
+decode-values-requires : tie.Need-decode_values-requires
 decode-values-requires d κs =
     let a = d.before.before.before.before in
     let s = a.before.before.before.before.before.before.before.before in
@@ -78,13 +78,13 @@ returns r =
     let d = r.before.before in
     let a = d.before.before.before.before.before in
     let s = a.before.before.before.before.before.before.before.before in
-    let output = s.args.output.now in
-    d.decode-values.ensures
+    let output = s.args.output-1.now in
+    d.decode_values.ensures
     ∙ ap₂ (λ (l v : List ℕ). decoded_as (single s.args.limit) AfterFlip l (take (code_length (c s)) v) output) (record_is s) (made a)
     ∙ sym (sums.decoded-sums (c s) (b s) (channel s) s.requires s.args.limit output)
 
-pub decode-sums-spec : {M : Type 1} → statement M
-decode-sums-spec =
+pub decode_sums_spec : {M : Type 1} → statement M
+decode_sums_spec =
     tie.close
     (tie.spec
     (λ v. search rules)

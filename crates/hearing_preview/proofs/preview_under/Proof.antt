@@ -22,37 +22,37 @@ module _ (s : tie.Start) where
   b = s.args.buffer.now
 
   size : length b ≡ hearing_size
-  size = code-size b s.args.code s.pre
+  size = code-size b s.args.code s.requires
 
   n_most : s.args.code.n ≤ largest_n
-  n_most = code-most (state_in b) s.args.code s.pre
+  n_most = code-most (state_in b) s.args.code s.requires
 
 -- the count is that in the buffer
-judged : (j : tie.After-judge-add) → let s = j.before.before.before.before.before in j.judge-add.result ≡ judge (add_refusals s.args.code (state_in (b s)).hearing.count s.args.channel.now)
+judged : (j : tie.After-judge_add) → let s = j.before.before.before.before.before in j.judge_add.result ≡ judge (add_refusals s.args.code (state_in (b s)).hearing.count s.args.channel.now)
 judged j =
     let s = j.before.before.before.before.before in
-    j.judge-add.ensures ∙ ap (λ (t : State). judge (add_refusals s.args.code t.hearing.count s.args.channel.now)) (sym (state_at_lem (b s) (size s)))
+    j.judge_add.ensures ∙ ap (λ (t : State). judge (add_refusals s.args.code t.hearing.count s.args.channel.now)) (sym (state_at_lem (b s) (size s)))
 
-returns : tie.Need-returns
+returns : tie.Need-returns-in-Fine
 returns c =
     let d = c.before.before in
     let t = d.before.before in
     let j = t.before.before in
     let s = j.before.before.before.before.before in
     let x = s.args in
-    d.decode-sums.ensures
-    ∙ sym (preview_fine (b s) x.channel.now x.limit x.output.now x.code s.requires (sym (judged j) ∙ t.enum_told.given.1))
+    d.decode_sums.ensures
+    ∙ sym (preview_fine (b s) x.channel.now x.limit x.output-1.now x.code s.requires (sym (judged j) ∙ t.enum_told-1.given.1))
 
-returns-2 : tie.Need-returns-2
+returns-2 : tie.Need-returns-in-Refused
 returns-2 c =
     let t = c.before in
     let j = t.before.before in
     let s = j.before.before.before.before.before in
     let x = s.args in
-    sym (preview_refused (b s) x.channel.now x.limit x.output.now x.code _ s.requires (sym (judged j) ∙ t.x.given.1))
+    sym (preview_refused (b s) x.channel.now x.limit x.output-1.now x.code _ s.requires (sym (judged j) ∙ t.x-1.given.1))
 
-pub preview-under-spec : {M : Type 1} → statement M
-preview-under-spec =
+pub preview_under_spec : {M : Type 1} → statement M
+preview_under_spec =
     tie.close
     (tie.spec
     (λ c. omega (arith, size c.before.before.before.before))
@@ -61,7 +61,7 @@ preview-under-spec =
     (λ c κs.
     let t = c.before in
     let j = t.before.before in
-    record { code_is = j.before.before.before.before.before.requires; fine = sym (judged j) ∙ t.enum_told.given.1 })
+    record { code_is = j.before.before.before.before.before.requires; fine = sym (judged j) ∙ t.enum_told-1.given.1 })
     (λ c. search rules)
     (λ c. search rules)
     returns

@@ -20,21 +20,21 @@ module _ (s : tie.Start) where
   d = let bytes = s.args.bytes.now in take (word bytes 0) bytes
 
   facts : Described d s.args.code
-  facts = described d s.args.code s.pre.describes
+  facts = described d s.args.code s.requires.describes
 
   -- N, as it is computed
   size : 1 * 2 ^ s.args.code.n % 2 ^ 64 ≡ 2 ^ s.args.code.n
   size = one_shl s.args.code.n 64 (omega (arith, facts.coded.n_most))
 
-mask-of-requires : tie.Need-mask-of-requires
+mask-of-requires : tie.Need-mask_of-requires
 mask-of-requires c κs =
-    subst (λ (l : List ℕ). mask_at (word l 2) ≤ length l) (sym c.record-in.ensures) (facts c.before.before.before.before.before).header
+    subst (λ (l : List ℕ). mask_at (word l 2) ≤ length l) (sym c.record_in.ensures) (facts c.before.before.before.before.before).header
 
 -- the mask of the description
-mask_is : (c : tie.After-mask-of) → c.mask-of.result.now ≡ mask_of (d c.before.before.before.before.before.before)
-mask_is c = c.mask-of.ensures ∙ ap mask_of c.before.record-in.ensures
+mask_is : (c : tie.After-mask_of) → c.mask_of.result.now ≡ mask_of (d c.before.before.before.before.before.before)
+mask_is c = c.mask_of.ensures ∙ ap mask_of c.before.record_in.ensures
 
-decode-by-requires : tie.Need-decode-by-requires
+decode-by-requires : tie.Need-decode_by-requires
 decode-by-requires c κs =
     let m = c.before.before in
     let s = m.before.before.before.before.before.before in
@@ -46,12 +46,12 @@ returns c =
     let s = m.before.before.before.before.before.before in
     let x = s.args in
     let channel : ℕ → List ℕ = λ k. take k x.values.now in
-    c.before.before.decode-by.ensures
-    ∙ ap₂ (λ (mask : List ℕ) (k : ℕ). decoded_under (single x.terms.limit) x.terms.restart mask x.code (channel k) x.output.now) (mask_is m) (size s)
-    ∙ sym (under-code (single x.terms.limit) x.terms.restart (d s) (channel (2 ^ x.code.n)) x.output.now x.code s.requires.describes)
+    c.before.before.decode_by.ensures
+    ∙ ap₂ (λ (mask : List ℕ) (k : ℕ). decoded_under (single x.terms.limit) x.terms.restart mask x.code (channel k) x.output-1.now) (mask_is m) (size s)
+    ∙ sym (under-code (single x.terms.limit) x.terms.restart (d s) (channel (2 ^ x.code.n)) x.output-1.now x.code s.requires.describes)
 
-pub decode-values-spec : {M : Type 1} → statement M
-decode-values-spec =
+pub decode_values_spec : {M : Type 1} → statement M
+decode_values_spec =
     tie.close
     (tie.spec
     (λ c. search rules)

@@ -5,10 +5,10 @@ use Rattle.code.specs.Description.{describe}
 use Rattle.hearing_state.proofs.described_in.Statement.{statement}
 use Rattle.hearing_state.proofs.described_in.Tie as tie
 
-pub described-in-spec : {M : Type 1} → statement M
-described-in-spec =
+pub described_in_spec : {M : Type 1} → statement M
+described_in_spec =
     tie.close
     (tie.spec
     (λ c κs. search rules)
     (λ c κs. search rules)
-    (λ c. c.read-description.ensures ∙ ap describe c.before.record-in.ensures))
+    (λ c. c.read_description.ensures ∙ ap describe c.before.record_in.ensures))

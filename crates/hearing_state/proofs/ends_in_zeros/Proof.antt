@@ -10,14 +10,14 @@ use Rattle.code.specs.Description.{word}
 use Rattle.hearing_state.proofs.ends_in_zeros.Statement.{statement}
 use Rattle.hearing_state.proofs.ends_in_zeros.Tie as tie
 
-pub ends-in-zeros-spec : {M : Type 1} → statement M
-ends-in-zeros-spec =
+pub ends_in_zeros_spec : {M : Type 1} → statement M
+ends_in_zeros_spec =
     tie.close
     (tie.spec
     (λ c κs. search rules)
     (λ c κs.
     let bytes = c.before.before.args.bytes.now in
-    omega (arith, ap (λ (l : List ℕ). length l) c.record-in.ensures, length-take (word bytes 0) bytes))
+    omega (arith, ap (λ (l : List ℕ). length l) c.record_in.ensures, length-take (word bytes 0) bytes))
     (λ c.
     let bytes = c.before.before.before.args.bytes.now in
-    c.is-zero-from.ensures ∙ ap (λ (l : List ℕ). all_zero (drop (length l) bytes)) c.before.record-in.ensures))
+    c.is_zero_from.ensures ∙ ap (λ (l : List ℕ). all_zero (drop (length l) bytes)) c.before.record_in.ensures))

@@ -11,16 +11,16 @@ use Rattle.hearing_state.proofs.is_state.Tie as tie
 abbrev by : tie.Start → Bool → Bool
 by s t = let x = s.args in t && is_hearing x.code (hearing_by x.count x.values.now)
 
-returns : tie.Need-returns
+returns : tie.Need-returns-then-ends_in_zeros
 returns c =
     let e = c.before.before in
-    c.is-hearing.ensures ∙ ap (by e.before.before.before) (sym c.before.if1.true ∙ e.ends-in-zeros.ensures)
+    c.is_hearing.ensures ∙ ap (by e.before.before.before) (sym c.before.if-ends_in_zeros.true ∙ e.ends_in_zeros.ensures)
 
-returns-2 : tie.Need-returns-2
-returns-2 c = let e = c.before in ap (by e.before.before.before) (sym c.if1.false ∙ e.ends-in-zeros.ensures)
+returns-2 : tie.Need-returns
+returns-2 c = let e = c.before in ap (by e.before.before.before) (sym c.if-ends_in_zeros.false ∙ e.ends_in_zeros.ensures)
 
-pub is-state-spec : {M : Type 1} → statement M
-is-state-spec =
+pub is_state_spec : {M : Type 1} → statement M
+is_state_spec =
     tie.close
     (tie.spec
     (λ c κs. omega (arith, c.before.before.requires.1.description_size))

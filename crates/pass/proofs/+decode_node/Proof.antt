@@ -78,13 +78,13 @@ module _ (t : ℕ) where
   rebuild-requires c κs =
       let s = c.before.before.before in
       let p = s.requires.1.0 in
-      (p.pow, forced-bits s.args.rules.now p c.before.before.if1.true, p.whole.sums)
+      (p.pow, forced-bits s.args.rules.now p c.before.before.if-base-size.true, p.whole.sums)
 
   returns : lts.Need-returns (Q t) (at t) node.Post
   returns c =
       let r = c.before in
       let s = r.before.before.before.before in
-      forced-worked s.args.rules.now s.requires.1.0 r.before.before.before.if1.true r.rebuild.ensures c.none.ensures
+      forced-worked s.args.rules.now s.requires.1.0 r.before.before.before.if-base-size.true r.rebuild.ensures c.none.ensures
 
   -- ---- a node of layer 2 without a forced bit
 
@@ -93,23 +93,23 @@ module _ (t : ℕ) where
     start₂ = k.before.before.before
 
     free : (start₂.args.layer ≡ 2) × (start₂.args.q ≤ start₂.args.base)
-    free = is_free start₂.args.layer start₂.args.base start₂.args.q k.before.is-free-four.ensures k.if2.taken
+    free = is_free start₂.args.layer start₂.args.base start₂.args.q k.before.is_free_four.ensures k.if-is_free_four.true
 
     four : start₂.args.size ≡ 4
-    four = start₂.pre.1.0.pow ∙ ap (λ (n : ℕ). 2 ^ n) free.0
+    four = start₂.requires.1.0.pow ∙ ap (λ (n : ℕ). 2 ^ n) free.0
 
   decode-four-requires : lts.Need-decode-four-requires (Q t) (at t) node.Post
   decode-four-requires c κs =
       let k = c.before.before.before.before in
       let s = start₂ k in
-      let p = s.pre.1.0 in
-      let small = p.small k.before.before.if1.false in
+      let p = s.requires.1.0 in
+      let small = p.small k.before.before.if-base-size.false in
       (sized_of p.whole, omega (arith, p.fits, four k), subst₂ (λ (n m : ℕ). Within (most largest_n n) (segment s.args.work.now m m)) (free k).0 (four k) small)
 
   returns-2 : lts.Need-returns-2 (Q t) (at t) node.Post
   returns-2 c =
       let k = c.before.before.before.before.before in
-      by_value (free k).0 (four k) (ap (λ (m : ℕ). segment (start₂ k).args.work.now m m) (four k)) (free k).1 refl c.decode-four.ensures
+      by_value (free k).0 (four k) (ap (λ (m : ℕ). segment (start₂ k).args.work.now m m) (four k)) (free k).1 refl c.decode_four.ensures
 
   -- ---- a leaf
 
@@ -118,7 +118,7 @@ module _ (t : ℕ) where
     start₃ = k.before.before.before.before
 
     one : start₃.args.size ≡ 1
-    one = start₃.pre.1.0.pow ∙ ap (λ (n : ℕ). 2 ^ n) k.if3.taken
+    one = start₃.requires.1.0.pow ∙ ap (λ (n : ℕ). 2 ^ n) k.if-layer-eq0.true
 
   leaf-requires : lts.Need-leaf-requires (Q t) (at t) node.Post
   leaf-requires c κs =
@@ -132,9 +132,9 @@ module _ (t : ℕ) where
       let k = f.before.before.before.before.before in
       let p = (start₃ k).requires.1.0 in
       let work = (start₃ k).args.work.now in
-      let value = back_is w32 (get_or work 1 (pos 0)) (record { sfits = f.before.before.before.before.leaf-arg.given }) in
-      by_value k.if3.true (one k) (one_value work (one k) (omega (arith, p.whole.work)) ∙ ap (λ (x : ℤ). x ∷ []) (sym value))
-      (omega (arith, k.before.before.before.if1.false, one k)) c.none2.ensures f.leaf.ensures.1
+      let value = back_is w32 (get_or work 1 (pos 0)) (record { sfits = f.before.before.before.before.leaf-arg-1.given }) in
+      by_value k.if-layer-eq0.true (one k) (one_value work (one k) (omega (arith, p.whole.work)) ∙ ap (λ (x : ℤ). x ∷ []) (sym value))
+      (omega (arith, k.before.before.before.if-base-size.false, one k)) c.none-then-layer-eq0.ensures f.leaf.ensures.1
 
   -- ---- two halves
 
@@ -147,10 +147,10 @@ module _ (t : ℕ) where
 
     inner : let s = start.args in Inner longest s.layer s.size (s.layer - 1) (s.size / 2) s.base s.q (arrays s.work.now s.bits.now s.sums.now s.leaves.now)
     inner = record {
-      halving = halving e.if3.left start.pre.1.0.pow;
-      pre = start.pre.1.0;
-      more = e.before.before.before.if1.left;
-      double = start.pre.1.1;
+      halving = halving e.if-layer-eq0.left start.requires.1.0.pow;
+      pre = start.requires.1.0;
+      more = e.before.before.before.if-base-size.left;
+      double = start.requires.1.1;
     }
 
   left-values-requires : lts.Need-left-values-requires (Q t) (at t) node.Post
@@ -160,7 +160,7 @@ module _ (t : ℕ) where
   node-requires c κs =
       let l = c.before.before.before.before in
       let e = l.before.before in
-      (omega (arith, (start e).requires.0, (inner e).halving.below), (inner_left (rules e) (inner e) l.left-values.ensures, inner_half (rules e) (inner e)))
+      (omega (arith, (start e).requires.0, (inner e).halving.below), (inner_left (rules e) (inner e) l.left_values-left.ensures, inner_half (rules e) (inner e)))
 
   -- after the left half
   module _ (k : lts.After-decode-node (Q t) (at t) node.Post) where
@@ -173,13 +173,13 @@ module _ (t : ℕ) where
   right-values-requires : lts.Need-right-values-requires (Q t) (at t) node.Post
   right-values-requires c κs =
       let k = c.before.before in
-      (inner_again (rules (e k)) (inner (e k)) (l k).left-values.ensures k.decode-node.ensures, omega (arith, (inner (e k)).halving.two, (inner (e k)).pre.fits))
+      (inner_again (rules (e k)) (inner (e k)) (l k).left_values-left.ensures k.decode_node-l.ensures, omega (arith, (inner (e k)).halving.two, (inner (e k)).requires.fits))
 
   node-requires-2 : lts.Need-decode-node-requires-2 (Q t) (at t) node.Post
   node-requires-2 c κs =
       let r = c.before.before.before.before in
       let k = r.before.before.before in
-      (omega (arith, (start (e k)).pre.0, (inner (e k)).halving.below), (inner_right (rules (e k)) (inner (e k)) (l k).left-values.ensures k.decode-node.ensures r.right-values.ensures, inner_half (rules (e k)) (inner (e k))))
+      (omega (arith, (start (e k)).requires.0, (inner (e k)).halving.below), (inner_right (rules (e k)) (inner (e k)) (l k).left_values-left.ensures k.decode_node-l.ensures r.right_values-right.ensures, inner_half (rules (e k)) (inner (e k))))
 
   -- after the right half
   module _ (n : lts.After-decode-node2 (Q t) (at t) node.Post) where
@@ -190,23 +190,23 @@ module _ (t : ℕ) where
     k = r.before.before.before
 
     -- the steps of each half are few
-    few : ((l k).left-values.result.steps + k.decode-node.result.steps < 2 ^ 31) × (r.right-values.result.steps + n.decode-node2.result.steps < 2 ^ 31)
-    few = inner_few (rules (e k)) (inner (e k)) (l k).left-values.ensures k.decode-node.ensures r.right-values.ensures n.decode-node2.ensures
+    few : ((l k).left_values-left.result.steps + k.decode_node-l.result.steps < 2 ^ 31) × (r.right_values-right.result.steps + n.decode_node-r.result.steps < 2 ^ 31)
+    few = inner_few (rules (e k)) (inner (e k)) (l k).left_values-left.ensures k.decode_node-l.ensures r.right_values-right.ensures n.decode_node-r.ensures
 
   combine-requires : lts.Need-combine-requires (Q t) (at t) node.Post
   combine-requires c κs =
       let n = c.before in
-      inner_combine (rules (e (k n))) (inner (e (k n))) (l (k n)).left-values.ensures (k n).decode-node.ensures (r n).right-values.ensures n.decode-node2.ensures
+      inner_combine (rules (e (k n))) (inner (e (k n))) (l (k n)).left_values-left.ensures (k n).decode_node-l.ensures (r n).right_values-right.ensures n.decode_node-r.ensures
 
   returns-4 : lts.Need-returns-4 (Q t) (at t) node.Post
   returns-4 c =
       let m = c.before.before.before in
       let n = m.before.before in
-      let total = c.plus3.ensures ∙ ap₂ plus_work c.before.before.plus.ensures c.before.plus2.ensures in
-      inner_worked (rules (e (k n))) (inner (e (k n))) (l (k n)).left-values.ensures (k n).decode-node.ensures (r n).right-values.ensures n.decode-node2.ensures total m.combine.ensures
+      let total = c.plus-3.ensures ∙ ap₂ plus_work c.before.before.plus.ensures c.before.plus-2.ensures in
+      inner_worked (rules (e (k n))) (inner (e (k n))) (l (k n)).left_values-left.ensures (k n).decode_node-l.ensures (r n).right_values-right.ensures n.decode_node-r.ensures total m.combine.ensures
 
-pub +decode-node-spec : {M : Type 1} → statement M
-+decode-node-spec = close μ λ t. lts.spec (Q t)
+pub +decode_node_spec : {M : Type 1} → statement M
++decode_node_spec = close μ λ t. lts.spec (Q t)
     (at t)
     node.Post
     (λ c. omega (arith, c.requires.1.0.fits))
@@ -226,10 +226,10 @@ pub +decode-node-spec : {M : Type 1} → statement M
     (node-requires t)
     (right-values-requires t)
     (λ c. search rules)
-    (λ c. omega (arith, (start t c.before.before.before.before.before.before.before.before.before.before).pre.1.0.fits))
+    (λ c. omega (arith, (start t c.before.before.before.before.before.before.before.before.before.before).requires.1.0.fits))
     (node-requires-2 t)
     (combine-requires t)
     (λ c κs. omega (arith, few t c.before.before))
     (λ c κs. omega (arith, few t c.before.before.before))
-    (λ c κs. omega (arith, ap steps_of c.before.plus.ensures, ap steps_of c.plus2.ensures, few t c.before.before.before.before))
+    (λ c κs. omega (arith, ap steps_of c.before.plus.ensures, ap steps_of c.plus-2.ensures, few t c.before.before.before.before))
     (returns-4 t)

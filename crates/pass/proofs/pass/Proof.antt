@@ -15,14 +15,14 @@ use Rattle.pass.proofs.Root.{pass-forced, Rooted, root-at, root-half, root-left,
 use Rattle.pass.proofs.pass.Statement.{statement}
 use Rattle.pass.proofs.pass.Tie as tie
 
-returns : tie.Need-returns
+returns : tie.Need-returns-then-size-q
 returns c =
     let t = c.before in
     let s = t.before.before in
-    pass-forced s.args.rules.now s.requires (fits s.requires.n_most) t.if1.true c.none.ensures
+    pass-forced s.args.rules.now s.requires (fits s.requires.n_most) t.if-size-q.true c.none.ensures
 
 -- at the root
-module _ (e : tie.Else1) where
+module _ (e : tie.Else-size-q) where
   abbrev s : tie.Start
   s = e.before.before
 
@@ -30,53 +30,53 @@ module _ (e : tie.Else1) where
   rules = s.args.rules.now
 
   root : let t = s.args in let size = length t.channel.now in Rooted longest t.q (t.code.n - 1) (size / 2) t.code t.channel.now (arrays t.work.now t.bits.now t.sums.now t.leaves.now)
-  root = record { pre = s.pre; fits = fits s.pre.n_most; halving = halving (λ z. omega (arith, s.pre.n_least)) s.pre.long; less = e.if1.left }
+  root = record { pre = s.requires; fits = fits s.requires.n_most; halving = halving (λ z. omega (arith, s.requires.n_least)) s.requires.long; less = e.if-size-q.left }
 
-left-requires : tie.Need-root-left-values-requires
+left-requires : tie.Need-root_left_values-left-requires
 left-requires c κs = root-at (rules c.before) (root c.before)
 
-left-node-requires : tie.Need-decode-node-requires
+left-node-requires : tie.Need-decode_node-l-requires
 left-node-requires c κs =
     let l = c.before.before.before.before.before in
     let e = l.before.before in
-    (root-left (rules e) (root e) l.root-left-values.ensures, root-half (rules e) (root e))
+    (root-left (rules e) (root e) l.root_left_values-left.ensures, root-half (rules e) (root e))
 
 -- after the left half
-module _ (k : tie.After-decode-node) where
-  abbrev l : tie.After-root-left-values
+module _ (k : tie.After-decode_node-l) where
+  abbrev l : tie.After-root_left_values-left
   l = k.before.before.before.before.before.before
 
-  abbrev e : tie.Else1
+  abbrev e : tie.Else-size-q
   e = l.before.before
 
-right-requires : tie.Need-root-right-values-requires
+right-requires : tie.Need-root_right_values-right-requires
 right-requires c κs =
     let k = c.before.before in
-    root_again (rules (e k)) (root (e k)) (l k).root-left-values.ensures k.decode-node.ensures
+    root_again (rules (e k)) (root (e k)) (l k).root_left_values-left.ensures k.decode_node-l.ensures
 
-right-node-requires : tie.Need-decode-node-requires-2
+right-node-requires : tie.Need-decode_node-r-requires
 right-node-requires c κs =
     let r = c.before.before.before.before.before in
     let k = r.before.before.before in
-    (root-right (rules (e k)) (root (e k)) (l k).root-left-values.ensures k.decode-node.ensures r.root-right-values.ensures, root-half (rules (e k)) (root (e k)))
+    (root-right (rules (e k)) (root (e k)) (l k).root_left_values-left.ensures k.decode_node-l.ensures r.root_right_values-right.ensures, root-half (rules (e k)) (root (e k)))
 
 -- after the right half
-module _ (n : tie.After-decode-node2) where
-  abbrev r : tie.After-root-right-values
+module _ (n : tie.After-decode_node-r) where
+  abbrev r : tie.After-root_right_values-right
   r = n.before.before.before.before.before.before
 
-  abbrev k : tie.After-decode-node
+  abbrev k : tie.After-decode_node-l
   k = r.before.before.before
 
   -- the steps of each half are few
-  few : ((l k).root-left-values.result.steps + k.decode-node.result.steps < 2 ^ 31) × (r.root-right-values.result.steps + n.decode-node2.result.steps < 2 ^ 31)
-  few = root_few (rules (e k)) (root (e k)) (l k).root-left-values.ensures k.decode-node.ensures r.root-right-values.ensures n.decode-node2.ensures
+  few : ((l k).root_left_values-left.result.steps + k.decode_node-l.result.steps < 2 ^ 31) × (r.root_right_values-right.result.steps + n.decode_node-r.result.steps < 2 ^ 31)
+  few = root_few (rules (e k)) (root (e k)) (l k).root_left_values-left.ensures k.decode_node-l.ensures r.root_right_values-right.ensures n.decode_node-r.ensures
 
-returns-2 : tie.Need-returns-2
+returns-2 : tie.Need-returns
 returns-2 c =
     let n = c.before.before.before in
-    let total = c.plus3.ensures ∙ ap₂ plus_work c.before.before.plus.ensures c.before.plus2.ensures in
-    passed (rules (e (k n))) (root (e (k n))) (l (k n)).root-left-values.ensures (k n).decode-node.ensures (r n).root-right-values.ensures n.decode-node2.ensures total
+    let total = c.plus-3.ensures ∙ ap₂ plus_work c.before.before.plus.ensures c.before.plus-2.ensures in
+    passed (rules (e (k n))) (root (e (k n))) (l (k n)).root_left_values-left.ensures (k n).decode_node-l.ensures (r n).root_right_values-right.ensures n.decode_node-r.ensures total
 
 pub pass_spec : {M : Type 1} → statement M
 pass_spec =
@@ -92,5 +92,5 @@ pass_spec =
     right-node-requires
     (λ c κs. omega (arith, few c))
     (λ c κs. omega (arith, few c.before))
-    (λ c κs. omega (arith, ap steps_of c.before.plus.ensures, ap steps_of c.plus2.ensures, few c.before.before))
+    (λ c κs. omega (arith, ap steps_of c.before.plus.ensures, ap steps_of c.plus-2.ensures, few c.before.before))
     returns-2)

@@ -37,26 +37,26 @@ ruled mask rules rules' n fits e = record { at = λ i l. ap rule_of (bit_at i l)
     bit_at : (i : ℕ) → i < n → get_or rules' i 0 ≡ mask_bit mask i
     bit_at i l = sym (get_or-take n rules' i 0 l) ∙ ap (λ (r : List ℕ). get_or r i 0) front ∙ get_or-table (mask_bit mask) n i 0 l
 
-abbrev invariant-loop : tie.invariant-loop
+abbrev invariant-loop : tie.invariant-loop-i
 invariant-loop mask rules₀ size i₀ rules i = Filling (mask_bit mask) 0 size rules₀ rules i
 
-abbrev decreases-loop : tie.decreases-loop
+abbrev decreases-loop : tie.decreases-loop-i
 decreases-loop mask rules₀ size i₀ rules i = size - i
 
-loop-again : tie.Need-loop-preserved invariant-loop decreases-loop
+loop-again : tie.Need-loop-i-preserved invariant-loop decreases-loop
 loop-again c =
-    let l = c.before.before.loop in
-    filling_more l.invariant l.i c.mask-bit.result (omega arith) (omega arith) c.mask-bit.ensures
+    let l = c.before.before.loop-i in
+    filling_more l.invariant l.i c.mask_bit.result (omega arith) (omega arith) c.mask_bit.ensures
 
 returns : tie.Need-returns invariant-loop decreases-loop
 returns c =
     let s = c.before.before.before in
-    let l = c.before.loop in
+    let l = c.before.loop-i in
     let rules = s.args.rules.now in
     (ruled s.args.mask.now rules l.rules _ (omega arith) (filling_done l.invariant (omega arith) (omega arith)), l.invariant.same ∙ s.requires.1)
 
-pub rules-from-spec : {M : Type 1} → statement M
-rules-from-spec =
+pub rules_from_spec : {M : Type 1} → statement M
+rules_from_spec =
     tie.close
     (tie.spec
     invariant-loop

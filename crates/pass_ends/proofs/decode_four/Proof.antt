@@ -35,11 +35,11 @@ module _ (s : tie.Start) where
 
   -- the four values, as the machine reads them
   own : (k : ℕ) → k < 4 → back w32 (get_or w (4 + k) (pos 0)) ≡ get_or v k (pos 0)
-  own k l = ap (back w32) (sym (get_or-segment w 4 4 k (pos 0) l)) ∙ back-within s.pre.2 (omega arith) k
+  own k l = ap (back w32) (sym (get_or-segment w 4 4 k (pos 0) l)) ∙ back-within s.requires.2 (omega arith) k
 
   -- of those half the node apart, neither is large
   small : (k : ℕ) → k < 2 → nat_abs (back w32 (get_or w (4 + k) (pos 0))) + nat_abs (back w32 (get_or w (4 + (2 + k)) (pos 0))) < 2 ^ 31
-  small k l = omega (arith, ap nat_abs (own k (omega arith)), s.pre.2.at k, ap nat_abs (own (2 + k) (omega arith)), s.pre.2.at (2 + k))
+  small k l = omega (arith, ap nat_abs (own k (omega arith)), s.requires.2.at k, ap nat_abs (own (2 + k) (omega arith)), s.requires.2.at (2 + k))
 
 f-requires : tie.Need-f-requires
 f-requires c κs = let b = small c.before.before.before.before 0 (omega arith) in (omega (arith, b), omega (arith, b))
@@ -48,19 +48,19 @@ f-requires-2 : tie.Need-f-requires-2
 f-requires-2 c κs = let b = small c.before.before.before.before.before 1 (omega arith) in (omega (arith, b), omega (arith, b))
 
 -- after the left values
-module _ (k : tie.After-f2) where
+module _ (k : tie.After-f-2) where
   abbrev s : tie.Start
   s = k.before.before.before.before.before.before
 
-  left-own : back w32 k.before.f.result ∷ back w32 k.f2.result ∷ [] ≡ left_values 2 (v s)
+  left-own : back w32 k.before.f.result ∷ back w32 k.f-2.result ∷ [] ≡ left_values 2 (v s)
   unfolding left_values table
   left-own =
       let m = k.before in
       ap₂ (λ (x y : ℤ). x ∷ y ∷ [])
       (back_is w32 m.f.result (record { sfits = m.f.ok }) ∙ m.f.ensures ∙ ap₂ f (own s 0 (omega arith)) (own s 2 (omega arith)))
-      (back_is w32 k.f2.result (record { sfits = k.f2.ok }) ∙ k.f2.ensures ∙ ap₂ f (own s 1 (omega arith)) (own s 3 (omega arith)))
+      (back_is w32 k.f-2.result (record { sfits = k.f-2.ok }) ∙ k.f-2.ensures ∙ ap₂ f (own s 1 (omega arith)) (own s 3 (omega arith)))
 
-decode-two-requires : tie.Need-decode-two-requires
+decode-two-requires : tie.Need-decode_two-l-requires
 decode-two-requires c κs =
     let k = c.before.before.before in
     let p = (s k).requires in
@@ -68,19 +68,19 @@ decode-two-requires c κs =
     (p.0, omega (arith, p.1), omega (arith, low.at 0, low.at 1))
 
 -- after the left half
-module _ (l : tie.After-decode-two) where
-  abbrev m : tie.After-f2
+module _ (l : tie.After-decode_two-l) where
+  abbrev m : tie.After-f-2
   m = l.before.before.before.before
 
   abbrev sums : List ℕ
-  sums = l.decode-two.last.1.1.1.1.1.0
+  sums = l.decode_two-l.last.1.1.1.1.1.0
 
 -- after the right values
-module _ (n : tie.After-g2) where
-  abbrev l : tie.After-decode-two
+module _ (n : tie.After-g-2) where
+  abbrev l : tie.After-decode_two-l
   l = n.before.before.before.before
 
-  right-own : back w32 n.before.g.result ∷ back w32 n.g2.result ∷ [] ≡ right_values 2 (v (s (m l))) (segment (sums l) (s (m l)).args.base 2)
+  right-own : back w32 n.before.g.result ∷ back w32 n.g-2.result ∷ [] ≡ right_values 2 (v (s (m l))) (segment (sums l) (s (m l)).args.base 2)
   unfolding right_values table
   right-own =
       let o = n.before in
@@ -94,34 +94,34 @@ module _ (n : tie.After-g2) where
       let s₁ = sym (get_or-segment (sums l) base 2 1 0 (omega arith)) in
       ap₂ (λ (x y : ℤ). x ∷ y ∷ [])
       (back_is w32 o.g.result (record { sfits = o.g.ok }) ∙ o.g.ensures ∙ (λ t. g (a t) (e t) (s₀ t)))
-      (back_is w32 n.g2.result (record { sfits = n.g2.ok }) ∙ n.g2.ensures ∙ (λ t. g (b t) (d t) (s₁ t)))
+      (back_is w32 n.g-2.result (record { sfits = n.g-2.ok }) ∙ n.g-2.ensures ∙ (λ t. g (b t) (d t) (s₁ t)))
 
-decode-two-requires-2 : tie.Need-decode-two-requires-2
+decode-two-requires-2 : tie.Need-decode_two-r-requires
 decode-two-requires-2 c κs =
     let n = c.before.before.before in
     let st = s (m (l n)) in
-    let p = st.pre in
+    let p = st.requires in
     let low = subst (Within (most largest_n 2 + most largest_n 2)) (sym (right-own n)) (within-right 2 (segment (sums (l n)) st.args.base 2) p.2) in
-    (free_sized 1 _ st.args.rules.now (v st) p.0 p.1 (left-own (m (l n))) (l n).decode-two.ensures, omega (arith, p.1), omega (arith, low.at 0, low.at 1))
+    (free_sized 1 _ st.args.rules.now (v st) p.0 p.1 (left-own (m (l n))) (l n).decode_two-l.ensures, omega (arith, p.1), omega (arith, low.at 0, low.at 1))
 
 -- after the right half
-module _ (r : tie.After-decode-two2) where
-  abbrev n : tie.After-g2
+module _ (r : tie.After-decode_two-r) where
+  abbrev n : tie.After-g-2
   n = r.before.before.before.before
 
   abbrev start : tie.Start
   start = s (m (l n))
 
   -- the steps of the halves are few
-  few : ((l n).decode-two.result.steps ≤ 2) × (r.decode-two2.result.steps ≤ 2)
-  few = (laid_most (l n).decode-two.ensures, laid_most r.decode-two2.ensures)
+  few : ((l n).decode_two-l.result.steps ≤ 2) × (r.decode_two-r.result.steps ≤ 2)
+  few = (laid_most (l n).decode_two-l.ensures, laid_most r.decode_two-r.ensures)
 
 combine-requires : tie.Need-combine-requires
 combine-requires c κs =
     let r = c.before in
     let k = l (n r) in
     let p = (start r).requires in
-    free_combine 1 _ (start r).args.rules.now (v (start r)) p.0 p.1 (left-own (m k)) k.decode-two.ensures (right-own (n r)) r.decode-two2.ensures
+    free_combine 1 _ (start r).args.rules.now (v (start r)) p.0 p.1 (left-own (m k)) k.decode_two-l.ensures (right-own (n r)) r.decode_two-r.ensures
 
 -- all that is done
 total : (a b : Work) → plus_work (counted 4) (plus_work a b) ≡ plus_work (plus_work (counted 2) a) (plus_work (counted 2) b)
@@ -133,11 +133,11 @@ returns c =
     let r = o.before.before.before in
     let k = l (n r) in
     let p = (start r).requires in
-    let work = c.plus2.ensures ∙ ap₂ plus_work o.of.ensures c.before.plus.ensures ∙ total _ _ in
-    free_laid 1 _ (start r).args.rules.now (v (start r)) p.0 p.1 (left-own (m k)) k.decode-two.ensures (right-own (n r)) r.decode-two2.ensures work o.before.combine.ensures
+    let work = c.plus-2.ensures ∙ ap₂ plus_work o.of.ensures c.before.plus.ensures ∙ total _ _ in
+    free_laid 1 _ (start r).args.rules.now (v (start r)) p.0 p.1 (left-own (m k)) k.decode_two-l.ensures (right-own (n r)) r.decode_two-r.ensures work o.before.combine.ensures
 
-pub decode-four-spec : {M : Type 1} → statement M
-decode-four-spec =
+pub decode_four_spec : {M : Type 1} → statement M
+decode_four_spec =
     tie.close
     (tie.spec
     (λ c. search rules)

@@ -35,7 +35,7 @@ g-requires : tie.Need-g-requires
 g-requires c κs = let s = c.before.before.before.before.before in omega (arith, ap nat_abs (first s), ap nat_abs (second s), s.requires.2)
 
 -- after the left leaf
-module _ (k : tie.After-leaf) where
+module _ (k : tie.After-leaf-first) where
   abbrev m : tie.After-f
   m = k.before.before.before.before
 
@@ -43,49 +43,49 @@ module _ (k : tie.After-leaf) where
   s = m.before
 
   abbrev sums : List ℕ
-  sums = k.leaf.last.1.1.1.1.0
+  sums = k.leaf-first.last.1.1.1.1.0
 
   left-own : back w32 m.f.result ∷ [] ≡ left_values 1 (v s)
   unfolding left_values table
   left-own =
       ap (λ (x : ℤ). x ∷ []) (back_is w32 m.f.result (record { sfits = m.f.ok }) ∙ m.f.ensures ∙ ap₂ f (first s) (second s))
 
-leaf-requires-2 : tie.Need-leaf-requires-2
+leaf-requires-2 : tie.Need-leaf-requires
 leaf-requires-2 c κs =
     let k = c.before.before.before.before in
     let p = (s k).requires in
-    (free_sized 0 _ (s k).args.rules.now (v (s k)) p.0 p.1 (left-own k) k.leaf.ensures.1, omega (arith, p.1))
+    (free_sized 0 _ (s k).args.rules.now (v (s k)) p.0 p.1 (left-own k) k.leaf-first.ensures.1, omega (arith, p.1))
 
 -- after the right leaf
-module _ (r : tie.After-leaf2) where
+module _ (r : tie.After-leaf) where
   abbrev n : tie.After-g
   n = r.before.before.before.before
 
-  abbrev k : tie.After-leaf
+  abbrev k : tie.After-leaf-first
   k = n.before
 
   right-own : back w32 n.g.result ∷ [] ≡ right_values 1 (v (s k)) (segment (sums k) (s k).args.base 1)
   unfolding right_values table
   right-own =
       let base = (s k).args.base in
-      let sum = k.leaf.ensures.0 ∙ ap (λ (i : ℕ). get_or (sums k) i 0) (sym (add-zero base)) ∙ sym (get_or-segment (sums k) base 1 0 0 (omega arith)) in
+      let sum = k.leaf-first.ensures.0 ∙ ap (λ (i : ℕ). get_or (sums k) i 0) (sym (add-zero base)) ∙ sym (get_or-segment (sums k) base 1 0 0 (omega arith)) in
       ap (λ (x : ℤ). x ∷ [])
       (back_is w32 n.g.result (record { sfits = n.g.ok }) ∙ n.g.ensures ∙ (λ t. g (first (s k) t) (second (s k) t) (sum t)))
 
 combine-requires : tie.Need-combine-requires
 combine-requires c κs =
     let r = c.before in
-    let p = (s (k r)).pre in
-    free_combine 0 _ (s (k r)).args.rules.now (v (s (k r))) p.0 p.1 (left-own (k r)) (k r).leaf.ensures.1 (right-own r) r.leaf2.ensures.1
+    let p = (s (k r)).requires in
+    free_combine 0 _ (s (k r)).args.rules.now (v (s (k r))) p.0 p.1 (left-own (k r)) (k r).leaf-first.ensures.1 (right-own r) r.leaf.ensures.1
 
 returns : tie.Need-returns
 returns c =
     let r = c.before.before.before in
-    let p = (s (k r)).pre in
-    free_laid 0 _ (s (k r)).args.rules.now (v (s (k r))) p.0 p.1 (left-own (k r)) (k r).leaf.ensures.1 (right-own r) r.leaf2.ensures.1 c.of.ensures c.before.combine.ensures
+    let p = (s (k r)).requires in
+    free_laid 0 _ (s (k r)).args.rules.now (v (s (k r))) p.0 p.1 (left-own (k r)) (k r).leaf-first.ensures.1 (right-own r) r.leaf.ensures.1 c.of.ensures c.before.combine.ensures
 
-pub decode-two-spec : {M : Type 1} → statement M
-decode-two-spec =
+pub decode_two_spec : {M : Type 1} → statement M
+decode_two_spec =
     tie.close
     (tie.spec
     f-requires

@@ -42,7 +42,7 @@ returns c =
     let rules = s.args.rules.now in
     let same = back_is w32 s.args.value s.ranges.value in
     let z = s.requires.0 in
-    let bit = c.decide.ensures ∙ ap (decided (rule_at rules base)) same in (
+    let bit = c.decide-bit.ensures ∙ ap (decided (rule_at rules base)) same in (
       sym (get_or-set_same s.args.sums.now base _ 0 (omega (arith, s.requires.1, z.sums))),
       leaf-laid rules base s.args.value
           (record {
@@ -55,8 +55,8 @@ returns c =
           }),
     )
 
-pub leaf-spec : {M : Type 1} → statement M
-leaf-spec =
+pub leaf_spec : {M : Type 1} → statement M
+leaf_spec =
     tie.close
     (tie.spec
     (λ c. search rules)

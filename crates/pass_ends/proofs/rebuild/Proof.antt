@@ -39,5 +39,5 @@ returns c =
     let s = c.before.before.before.before.before in
     rebuilt s.args.layer s.args.sums.now s.requires.0 s.requires.1 s.requires.2 c.before.before.copy.ensures c.transform.ensures
 
-pub rebuild-spec : {M : Type 1} → statement M
-rebuild-spec = tie.close (tie.spec (λ c κs. search rules) transform-requires returns)
+pub rebuild_spec : {M : Type 1} → statement M
+rebuild_spec = tie.close (tie.spec (λ c κs. search rules) transform-requires returns)

@@ -8,39 +8,39 @@ use Rattle.pass_halves.proofs.Layers.{addable_reads, own_reads, Computing, left_
 use Rattle.pass_halves.proofs.left_values.Statement.{statement}
 use Rattle.pass_halves.proofs.left_values.Tie as tie
 
-abbrev invariant-loop : tie.invariant-loop
+abbrev invariant-loop : tie.invariant-loop-j
 invariant-loop forced h work₀ steps₀ j₀ work steps j = Computing (left_at (node_values work₀ h) h) h work₀ work steps j
 
-abbrev decreases-loop : tie.decreases-loop
+abbrev decreases-loop : tie.decreases-loop-j
 decreases-loop forced h work₀ steps₀ j₀ work steps j = h - j
 
-returns : tie.Need-returns invariant-loop decreases-loop
+returns : tie.Need-returns-then-forced invariant-loop decreases-loop
 returns c =
     let t = c.before in
     let s = t.before.args in
-    computed-none (left_values s.h (node_values s.work.now s.h)) t.if1.true c.none.ensures
+    computed-none (left_values s.h (node_values s.work.now s.h)) t.if-forced.true c.none.ensures
 
 f-requires : tie.Need-f-requires invariant-loop decreases-loop
 f-requires c κs =
     let p = c.before.before.before.before.before.requires in
-    let few = addable_reads (omega arith) p.small (own_reads p c.before.before.before.loop.invariant.filling (omega arith)) in
+    let few = addable_reads (omega arith) p.small (own_reads p c.before.before.before.loop-j.invariant.filling (omega arith)) in
     (omega (arith, few), omega (arith, few))
 
-loop-again : tie.Need-loop-preserved invariant-loop decreases-loop
+loop-again : tie.Need-loop-j-preserved invariant-loop decreases-loop
 loop-again c =
     let p = c.before.before.before.before.before.before.requires in
-    let inv = c.before.before.before.before.loop.invariant in
+    let inv = c.before.before.before.before.loop-j.invariant in
     left-turn (record { sfits = c.f.type-inv }) (omega arith) inv (own_reads p inv.filling (omega arith)) c.f.ensures
 
-returns-2 : tie.Need-returns-2 invariant-loop decreases-loop
+returns-2 : tie.Need-returns invariant-loop decreases-loop
 unfolding left_values
 returns-2 c =
     let l = c.before.before in
     let p = l.before.before.requires in
-    computed-all l.before.if1.false l.loop.invariant (omega arith) (omega (arith, p.whole, p.fits)) c.of.ensures
+    computed-all l.before.if-forced.false l.loop-j.invariant (omega arith) (omega (arith, p.whole, p.fits)) c.of.ensures
 
-pub left-values-spec : {M : Type 1} → statement M
-left-values-spec =
+pub left_values_spec : {M : Type 1} → statement M
+left_values_spec =
     tie.close
     (tie.spec
     invariant-loop

@@ -11,21 +11,21 @@ use Rattle.pass_halves.proofs.Layers.{addable_reads, own_reads, Computing, right
 use Rattle.pass_halves.proofs.right_values.Statement.{statement}
 use Rattle.pass_halves.proofs.right_values.Tie as tie
 
-abbrev invariant-loop : tie.invariant-loop
+abbrev invariant-loop : tie.invariant-loop-j
 invariant-loop h base sums work₀ steps₀ j₀ work steps j = Computing (right_at (node_values work₀ h) (segment sums base h) h) h work₀ work steps j
 
-abbrev decreases-loop : tie.decreases-loop
+abbrev decreases-loop : tie.decreases-loop-j
 decreases-loop h base sums work₀ steps₀ j₀ work steps j = h - j
 
 g-requires : tie.Need-g-requires invariant-loop decreases-loop
 g-requires c κs =
     let p = c.before.before.before.before.before.requires.0 in
-    addable_reads (omega arith) p.small (own_reads p c.before.before.before.before.loop.invariant.filling (omega arith))
+    addable_reads (omega arith) p.small (own_reads p c.before.before.before.before.loop-j.invariant.filling (omega arith))
 
-loop-again : tie.Need-loop-preserved invariant-loop decreases-loop
+loop-again : tie.Need-loop-j-preserved invariant-loop decreases-loop
 loop-again c =
     let s = c.before.before.before.before.before.before in
-    let l = c.before.before.before.before.before.loop in
+    let l = c.before.before.before.before.before.loop-j in
     let sum = sym (get_or-segment s.args.sums.now s.args.base s.args.h l.j 0 (omega arith)) in
     right-turn (record { sfits = c.g.type-inv }) (omega arith) (segment s.args.sums.now s.args.base s.args.h) l.invariant (own_reads s.requires.0 l.invariant.filling (omega arith)) sum c.g.ensures
 
@@ -34,10 +34,10 @@ unfolding right_values
 returns c =
     let l = c.before.before in
     let p = l.before.requires.0 in
-    computed l.loop.invariant (omega arith) (omega (arith, p.whole, p.fits)) c.of.ensures
+    computed l.loop-j.invariant (omega arith) (omega (arith, p.whole, p.fits)) c.of.ensures
 
-pub right-values-spec : {M : Type 1} → statement M
-right-values-spec =
+pub right_values_spec : {M : Type 1} → statement M
+right_values_spec =
     tie.close
     (tie.spec
     invariant-loop

@@ -8,44 +8,44 @@ use Rattle.pass_halves.proofs.Layers.{Reads, addable_reads, channel_reads, Compu
 use Rattle.pass_halves.proofs.root_left_values.Statement.{statement}
 use Rattle.pass_halves.proofs.root_left_values.Tie as tie
 
-abbrev invariant-loop : tie.invariant-loop
+abbrev invariant-loop : tie.invariant-loop-j
 invariant-loop forced channel h work₀ steps₀ j₀ work steps j = Computing (left_at (channel_values channel) h) h work₀ work steps j
 
-abbrev decreases-loop : tie.decreases-loop
+abbrev decreases-loop : tie.decreases-loop-j
 decreases-loop forced channel h work₀ steps₀ j₀ work steps j = h - j
 
-returns : tie.Need-returns invariant-loop decreases-loop
+returns : tie.Need-returns-then-forced invariant-loop decreases-loop
 returns c =
     let t = c.before in
     let s = t.before.before.args in
-    computed-none (left_values s.h (channel_values s.channel.now)) t.if1.true c.none.ensures
+    computed-none (left_values s.h (channel_values s.channel.now)) t.if-forced.true c.none.ensures
 
 -- what a turn reads
-module _ (c : tie.After-channel-value2 invariant-loop decreases-loop) where
+module _ (c : tie.After-channel_value-in-loop-j invariant-loop decreases-loop) where
   abbrev s : tie.Start invariant-loop decreases-loop
   s = c.before.before.before.before.before.before.before.before
 
-  abbrev l : tie.At-loop invariant-loop decreases-loop
+  abbrev l : tie.At-loop-j invariant-loop decreases-loop
   l = c.before.before.before.before.before
 
-  reads : Reads (channel_values s.args.channel.now) s.args.h l.loop.j c.before.before.channel-value.result c.channel-value2.result
-  reads = channel_reads s.args.channel.now s.args.h l.loop.j s.pre.small c.before.before.channel-value.ensures c.channel-value2.ensures
+  reads : Reads (channel_values s.args.channel.now) s.args.h l.loop-j.j c.before.before.channel_value.result c.channel_value-in-loop-j.result
+  reads = channel_reads s.args.channel.now s.args.h l.loop-j.j s.requires.small c.before.before.channel_value.ensures c.channel_value-in-loop-j.ensures
 
 f-requires : tie.Need-f-requires invariant-loop decreases-loop
 f-requires c κs = let few = addable_reads (omega arith) (s c).requires.small (reads c) in (omega (arith, few), omega (arith, few))
 
-loop-again : tie.Need-loop-preserved invariant-loop decreases-loop
-loop-again c = left-turn (record { sfits = c.f.type-inv }) (omega arith) (l c.before).loop.inv (reads c.before) c.f.ensures
+loop-again : tie.Need-loop-j-preserved invariant-loop decreases-loop
+loop-again c = left-turn (record { sfits = c.f.type-inv }) (omega arith) (l c.before).loop-j.invariant (reads c.before) c.f.ensures
 
-returns-2 : tie.Need-returns-2 invariant-loop decreases-loop
+returns-2 : tie.Need-returns invariant-loop decreases-loop
 unfolding left_values
 returns-2 c =
     let l = c.before.before in
     let p = l.before.before.before.requires in
-    computed-all l.before.if1.false l.loop.invariant (omega arith) (omega (arith, p.whole, p.fits)) c.of.ensures
+    computed-all l.before.if-forced.false l.loop-j.invariant (omega arith) (omega (arith, p.whole, p.fits)) c.of.ensures
 
-pub root-left-values-spec : {M : Type 1} → statement M
-root-left-values-spec =
+pub root_left_values_spec : {M : Type 1} → statement M
+root_left_values_spec =
     tie.close
     (tie.spec
     invariant-loop

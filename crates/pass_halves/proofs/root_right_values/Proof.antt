@@ -11,41 +11,41 @@ use Rattle.pass_halves.proofs.Layers.{Reads, addable_reads, channel_reads, Compu
 use Rattle.pass_halves.proofs.root_right_values.Statement.{statement}
 use Rattle.pass_halves.proofs.root_right_values.Tie as tie
 
-abbrev invariant-loop : tie.invariant-loop
+abbrev invariant-loop : tie.invariant-loop-j
 invariant-loop channel h sums work₀ steps₀ j₀ work steps j = Computing (right_at (channel_values channel) (segment sums 0 h) h) h work₀ work steps j
 
-abbrev decreases-loop : tie.decreases-loop
+abbrev decreases-loop : tie.decreases-loop-j
 decreases-loop channel h sums work₀ steps₀ j₀ work steps j = h - j
 
 -- what a turn reads
-module _ (c : tie.After-channel-value2 invariant-loop decreases-loop) where
+module _ (c : tie.After-channel_value-in-loop-j invariant-loop decreases-loop) where
   abbrev s : tie.Start invariant-loop decreases-loop
   s = c.before.before.before.before.before.before.before
 
-  abbrev l : tie.At-loop invariant-loop decreases-loop
+  abbrev l : tie.At-loop-j invariant-loop decreases-loop
   l = c.before.before.before.before.before
 
-  reads : Reads (channel_values s.args.channel.now) s.args.h l.loop.j c.before.before.channel-value.result c.channel-value2.result
-  reads = channel_reads s.args.channel.now s.args.h l.loop.j s.pre.small c.before.before.channel-value.ensures c.channel-value2.ensures
+  reads : Reads (channel_values s.args.channel.now) s.args.h l.loop-j.j c.before.before.channel_value.result c.channel_value-in-loop-j.result
+  reads = channel_reads s.args.channel.now s.args.h l.loop-j.j s.requires.small c.before.before.channel_value.ensures c.channel_value-in-loop-j.ensures
 
 g-requires : tie.Need-g-requires invariant-loop decreases-loop
-g-requires c κs = addable_reads (omega arith) (s c.before).pre.small (reads c.before)
+g-requires c κs = addable_reads (omega arith) (s c.before).requires.small (reads c.before)
 
-loop-again : tie.Need-loop-preserved invariant-loop decreases-loop
+loop-again : tie.Need-loop-j-preserved invariant-loop decreases-loop
 loop-again c =
     let t = (s c.before.before).args in
-    let at = (l c.before.before).loop in
-    right-turn (record { sfits = c.g.type-inv }) (omega arith) (segment t.sums.now 0 t.h) at.inv (reads c.before.before) (sym (get_or-take t.h t.sums.now at.j 0 (omega arith))) c.g.ensures
+    let at = (l c.before.before).loop-j in
+    right-turn (record { sfits = c.g.type-inv }) (omega arith) (segment t.sums.now 0 t.h) at.invariant (reads c.before.before) (sym (get_or-take t.h t.sums.now at.j 0 (omega arith))) c.g.ensures
 
 returns : tie.Need-returns invariant-loop decreases-loop
 unfolding right_values
 returns c =
     let l = c.before.before in
     let p = l.before.before.requires in
-    computed l.loop.invariant (omega arith) (omega (arith, p.whole, p.fits)) c.of.ensures
+    computed l.loop-j.invariant (omega arith) (omega (arith, p.whole, p.fits)) c.of.ensures
 
-pub root-right-values-spec : {M : Type 1} → statement M
-root-right-values-spec =
+pub root_right_values_spec : {M : Type 1} → statement M
+root_right_values_spec =
     tie.close
     (tie.spec
     invariant-loop

@@ -16,39 +16,39 @@ use Rattle.pass_resume.proofs.first_bad.Tie as tie
 abbrev bad : List ℕ → List ℕ → ℕ → Bool
 bad mask prefix k = bad_bit (get_or prefix k 0) (mask_bit mask k)
 
-abbrev invariant-loop : tie.invariant-loop
+abbrev invariant-loop : tie.invariant-loop-i
 invariant-loop mask prefix i₀ i = (i ≤ length prefix) × ((k : ℕ) → k < i → bad mask prefix k ≡ false)
 
-abbrev decreases-loop : tie.decreases-loop
+abbrev decreases-loop : tie.decreases-loop-i
 decreases-loop mask prefix i₀ i = length prefix - i
 
 -- the test of a turn
-test : (c : tie.After-is-bad invariant-loop decreases-loop) →
+test : (c : tie.After-is_bad invariant-loop decreases-loop) →
     let s = c.before.before.before.before.before.before.before.args in
-    c.is-bad.result ≡ bad s.mask.now s.prefix.now c.before.before.before.before.loop.i
+    c.is_bad.result ≡ bad s.mask.now s.prefix.now c.before.before.before.before.loop-i.i
 test c =
     let s = c.before.before.before.before.before.before.before.args in
-    c.is-bad.ensures ∙ ap (bad_bit (get_or s.prefix.now c.before.before.before.before.loop.i 0)) c.before.mask-bit.ensures
+    c.is_bad.ensures ∙ ap (bad_bit (get_or s.prefix.now c.before.before.before.before.loop-i.i 0)) c.before.mask_bit.ensures
 
-returns : tie.Need-returns invariant-loop decreases-loop
+returns : tie.Need-returns-then-is_bad invariant-loop decreases-loop
 returns c =
-    let l = c.before.before.before.before.before.loop in
+    let l = c.before.before.before.before.before.loop-i in
     let s = c.before.before.before.before.before.before.before.before.args in
-    sym (first-is (bad s.mask.now s.prefix.now) _ l.i l.invariant.0 l.invariant.1 (λ _. sym (test c.before) ∙ c.if1.true))
+    sym (first-is (bad s.mask.now s.prefix.now) _ l.i l.invariant.0 l.invariant.1 (λ _. sym (test c.before) ∙ c.if-is_bad.true))
 
-loop-again : tie.Need-loop-preserved invariant-loop decreases-loop
+loop-again : tie.Need-loop-i-preserved invariant-loop decreases-loop
 loop-again c =
-    let l = c.before.before.before.before.before.loop in
-    (omega arith, below_more _ _ l.invariant.1 (sym (test c.before) ∙ c.if1.false))
+    let l = c.before.before.before.before.before.loop-i in
+    (omega arith, below_more _ _ l.invariant.1 (sym (test c.before) ∙ c.if-is_bad.false))
 
-returns-2 : tie.Need-returns-2 invariant-loop decreases-loop
+returns-2 : tie.Need-returns invariant-loop decreases-loop
 returns-2 c =
-    let l = c.before.loop in
+    let l = c.before.loop-i in
     let s = c.before.before.before.before.args in
     sym (first-is (bad s.mask.now s.prefix.now) _ l.i l.invariant.0 l.invariant.1 (λ m. absurd (omega arith)))
 
-pub first-bad-spec : {M : Type 1} → statement M
-first-bad-spec =
+pub first_bad_spec : {M : Type 1} → statement M
+first_bad_spec =
     tie.close
     (tie.spec
     invariant-loop

@@ -27,48 +27,48 @@ size : (s : tie.Start) → 1 * 2 ^ s.args.code.n % 2 ^ 64 ≡ code_length s.args
 size s = one_shl s.args.code.n 64 (omega (arith, s.requires.n_most))
 
 -- back to the start
-abbrev from1 : tie.Else1 → tie.Start
+abbrev from1 : tie.Else-size-prefix → tie.Start
 from1 c = c.before.before.before.before.before
 
-abbrev from2 : tie.Else2 → tie.Start
+abbrev from2 : tie.Else-index-prefix → tie.Start
 from2 c = from1 c.before.before
 
-short : (c : tie.Else1) → length (from1 c).args.prefix.now ≤ code_length (from1 c).args.code
-short c = omega (arith, c.if1.false, size (from1 c))
+short : (c : tie.Else-size-prefix) → length (from1 c).args.prefix.now ≤ code_length (from1 c).args.code
+short c = omega (arith, c.if-size-prefix.false, size (from1 c))
 
-past-1 : (c : tie.Else1) → past 0 (from1 c) ≡ past 1 (from1 c)
+past-1 : (c : tie.Else-size-prefix) → past 0 (from1 c) ≡ past 1 (from1 c)
 past-1 c = judge_no _ _ _ (le-ltb _ _ (short c))
 
-good : (c : tie.Else2) → length (from2 c).args.prefix.now ≤ first_bad (from2 c).args.mask.now (from2 c).args.prefix.now
-good c = omega (arith, c.before.first-bad.ensures, c.if2.false)
+good : (c : tie.Else-index-prefix) → length (from2 c).args.prefix.now ≤ first_bad (from2 c).args.mask.now (from2 c).args.prefix.now
+good c = omega (arith, c.before.first_bad-index.ensures, c.if-index-prefix.false)
 
-past-2 : (c : tie.Else2) → past 0 (from2 c) ≡ past 2 (from2 c)
+past-2 : (c : tie.Else-index-prefix) → past 0 (from2 c) ≡ past 2 (from2 c)
 past-2 c = past-1 c.before.before ∙ judge_no _ _ _ (le-ltb _ _ (good c))
 
-returns : tie.Need-returns
+returns : tie.Need-returns-then-size-prefix
 returns c =
     let s = c.before.before.before.before.before in
-    sym (judge_yes _ _ _ (lt-ltb _ _ (subst (λ (k : ℕ). k < length s.args.prefix.now) (size s) c.if1.true)))
+    sym (judge_yes _ _ _ (lt-ltb _ _ (subst (λ (k : ℕ). k < length s.args.prefix.now) (size s) c.if-size-prefix.true)))
 
-returns-2 : tie.Need-returns-2
+returns-2 : tie.Need-returns-then-index-prefix
 returns-2 c =
     let e = c.before.before in
-    let i = c.before.first-bad.ensures in
+    let i = c.before.first_bad-index.ensures in
     ap (λ (k : ℕ). Refused (At 18 k)) i
-    ∙ sym (past-1 e ∙ judge_yes _ _ _ (lt-ltb _ _ (subst (λ (k : ℕ). k < length (from1 e).args.prefix.now) i c.if2.true)))
+    ∙ sym (past-1 e ∙ judge_yes _ _ _ (lt-ltb _ _ (subst (λ (k : ℕ). k < length (from1 e).args.prefix.now) i c.if-index-prefix.true)))
 
-returns-3 : tie.Need-returns-3
+returns-3 : tie.Need-returns-then-output-size
 returns-3 c =
     let e = c.before in
-    sym (past-2 e ∙ judge_yes _ _ _ (ap not (ne_eqb _ _ (λ q. c.if3.true (q ∙ sym (size (from2 e)))))))
+    sym (past-2 e ∙ judge_yes _ _ _ (ap not (ne_eqb _ _ (λ q. c.if-output-size.true (q ∙ sym (size (from2 e)))))))
 
-returns-4 : tie.Need-returns-4
+returns-4 : tie.Need-returns
 returns-4 c =
     let e = c.before in
-    sym (past-2 e ∙ judge_no _ _ _ (ap not (eq-eqb _ _ (c.if3.false ∙ size (from2 e)))) ∙ judge-none)
+    sym (past-2 e ∙ judge_no _ _ _ (ap not (eq-eqb _ _ (c.if-output-size.false ∙ size (from2 e)))) ∙ judge-none)
 
-pub judge-prefix-spec : {M : Type 1} → statement M
-judge-prefix-spec =
+pub judge_prefix_spec : {M : Type 1} → statement M
+judge_prefix_spec =
     tie.close
     (tie.spec
     (λ c. search rules)

@@ -18,22 +18,22 @@ module _ (s : tie.Start) where
   abbrev prefix_tests : List (Bool × Refusal)
   prefix_tests = prefix_refusals s.args.mask.now s.args.code s.args.prefix.now s.args.output.now
 
-returns : tie.Need-returns
+returns : tie.Need-returns-in-Fine
 returns c =
     let e = c.before in
     let j = e.before.before in
     let s = j.before.before.before.before.before in
-    c.judge-prefix.ensures
-    ∙ sym (append-fine (channel_tests s) (prefix_tests s) (sym j.judge-channel.ensures ∙ e.enum_told.given.1))
+    c.judge_prefix.ensures
+    ∙ sym (append-fine (channel_tests s) (prefix_tests s) (sym j.judge_channel.ensures ∙ e.enum_told-1.given.1))
 
-returns-2 : tie.Need-returns-2
+returns-2 : tie.Need-returns-in-Refused
 returns-2 c =
     let j = c.before.before.before in
     let s = j.before.before.before.before.before in
-    sym (append_refused (channel_tests s) (prefix_tests s) _ (sym j.judge-channel.ensures ∙ c.before.x.given.1))
+    sym (append_refused (channel_tests s) (prefix_tests s) _ (sym j.judge_channel.ensures ∙ c.before.x-1.given.1))
 
-pub judge-resuming-spec : {M : Type 1} → statement M
-judge-resuming-spec =
+pub judge_resuming_spec : {M : Type 1} → statement M
+judge_resuming_spec =
     tie.close
     (tie.spec
     (λ c κs. c.before.before.before.before.requires.n_most)

@@ -14,7 +14,7 @@ use Rattle.pass_resume.proofs.resume_pass.Tie as tie
 code_fits : (s : tie.Start) → code_length s.args.code ≤ longest
 code_fits s = fits s.requires.0.coded.n_most
 
-rules-from-requires : tie.Need-rules-from-requires
+rules-from-requires : tie.Need-rules_from-requires
 rules-from-requires c κs =
     let s = c.before.before.before.before.before in (omega (arith, s.requires.0.coded.mask_size, code_fits s), refl)
 
@@ -23,32 +23,32 @@ copy-requires c κs =
     let s = c.before.before.before.before.before.before.before in
     (omega arith, omega (arith, s.requires.0.well_formed.prefix_size, code_fits s))
 
-pass-requires : tie.Need-pass-requires
+pass-requires : tie.Need-pass-done-requires
 pass-requires c κs =
     let d = c.before.before.before.before.before in
     let s = d.before.before.before.before.before.before.before.before in
-    resume_on s.args.bits.now s.requires.0 d.before.before.rules-from.ensures.0 (code_fits s) s.requires.1 d.copy.ensures refl refl refl
+    resume_on s.args.bits.now s.requires.0 d.before.before.rules_from.ensures.0 (code_fits s) s.requires.1 d.copy.ensures refl refl refl
 
 copy-requires-2 : tie.Need-copy-requires-2
 copy-requires-2 c κs =
     let p = c.before.before.before in
     let s = p.before.before.before.before.before.before.before.before.before.before.before.before.before.before in
     let w = s.requires.0.well_formed in
-    (omega (arith, w.channel_size, code_fits s, p.pass.ensures.whole.bits), omega (arith, w.channel_size, w.output_size))
+    (omega (arith, w.channel_size, code_fits s, p.pass-done.ensures.whole.bits), omega (arith, w.channel_size, w.output_size))
 
 returns : tie.Need-returns
 returns c =
     let p = c.before.before.before.before.before.before in
     let d = p.before.before.before.before.before.before in
     let s = d.before.before.before.before.before.before.before.before in
-    let rules = d.before.before.rules-from.ensures.0 in
-    let e = p.pass.ensures in (
+    let rules = d.before.before.rules_from.ensures.0 in
+    let e = p.pass-done.ensures in (
       resume_work s.args.bits.now s.requires.0 rules (code_fits s) s.requires.1 d.copy.ensures e,
-      c.before.before.copy2.ensures ∙ resume_bits s.args.bits.now s.requires.0 rules (code_fits s) s.requires.1 d.copy.ensures e,
+      c.before.before.copy-2.ensures ∙ resume_bits s.args.bits.now s.requires.0 rules (code_fits s) s.requires.1 d.copy.ensures e,
     )
 
-pub resume-pass-spec : {M : Type 1} → statement M
-resume-pass-spec =
+pub resume_pass_spec : {M : Type 1} → statement M
+resume_pass_spec =
     tie.close
     (tie.spec
     rules-from-requires

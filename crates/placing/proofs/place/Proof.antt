@@ -21,25 +21,25 @@ use Rattle.placing.proofs.place.Tie as tie
 abbrev bits : List ℕ → List ℕ → List ℕ
 bits mask message = placed mask message (8 * length mask)
 
-abbrev invariant-loop : tie.invariant-loop
+abbrev invariant-loop : tie.invariant-loop-m
 invariant-loop mask message u₀ walk₀ u walk =
     Filling (packed_byte (bits mask message)) 0 (length mask) u₀ u (walk.looks / 8) × (walk ≡ walked mask (8 * (walk.looks / 8)))
 
-abbrev decreases-loop : tie.decreases-loop
+abbrev decreases-loop : tie.decreases-loop-m
 decreases-loop mask message u₀ walk₀ u walk = 8 * length mask - walk.looks
 
-loop-holds : tie.Need-loop-init invariant-loop decreases-loop
+loop-holds : tie.Need-loop-m-init invariant-loop decreases-loop
 unfolding walked
 loop-holds c =
     let s = c.before.before.before.before in
     let mask = s.args.mask.now in
-    let e = c.start.ensures in
-    let none : 0 ≡ c.start.result.looks = sym (ap (λ (w : Walk). w.looks) e) in (
+    let e = c.start-walk.ensures in
+    let none : 0 ≡ c.start-walk.result.looks = sym (ap (λ (w : Walk). w.looks) e) in (
       subst (λ (n : ℕ). Filling (packed_byte (bits mask s.args.message.now)) 0 (length mask) s.args.u.now s.args.u.now (n / 8)) none filling_none,
       e ∙ ap (λ (n : ℕ). walked mask (8 * (n / 8))) none,
     )
 
-module _ (l : tie.At-loop invariant-loop decreases-loop) where
+module _ (l : tie.At-loop-m invariant-loop decreases-loop) where
   abbrev s : tie.Start invariant-loop decreases-loop
   s = l.before.before.before.before.before
 
@@ -48,31 +48,31 @@ module _ (l : tie.At-loop invariant-loop decreases-loop) where
 
   -- the byte of the turn
   abbrev m : ℕ
-  m = l.loop.walk.looks / 8
+  m = l.loop-m.walk-1.looks / 8
 
 -- after the look at the counts of the turn
-module _ (c : tie.After-looks2 invariant-loop decreases-loop) where
-  abbrev l : tie.At-loop invariant-loop decreases-loop
+module _ (c : tie.After-looks-m invariant-loop decreases-loop) where
+  abbrev l : tie.At-loop-m invariant-loop decreases-loop
   l = c.before.before.before
 
-  same : c.looks2.result / 8 ≡ m l
-  same = ap (λ (n : ℕ). n / 8) c.looks2.ensures
+  same : c.looks-m.result / 8 ≡ m l
+  same = ap (λ (n : ℕ). n / 8) c.looks-m.ensures
 
   inside : m l < length (mask l)
-  inside = omega (arith, c.before.if1.true, c.before.before.looks.ensures)
+  inside = omega (arith, c.before.loop-m-test.true, c.before.before.looks.ensures)
 
 -- after the byte, its walk has eight looks more
-next : (c : tie.After-placed-byte invariant-loop decreases-loop) → c.placed-byte.result.walk.looks ≡ 8 * (m (l c.before) + 1)
-next c = looks_are (mask (l c.before)) _ c.placed-byte.ensures.1 ∙ ap (λ (k : ℕ). 8 * (k + 1)) (same c.before)
+next : (c : tie.After-placed_byte-next invariant-loop decreases-loop) → c.placed_byte-next.result.walk-1.looks ≡ 8 * (m (l c.before) + 1)
+next c = looks_are (mask (l c.before)) _ c.placed_byte-next.ensures.1 ∙ ap (λ (k : ℕ). 8 * (k + 1)) (same c.before)
 
-loop-again : tie.Need-loop-preserved invariant-loop decreases-loop
+loop-again : tie.Need-loop-m-preserved invariant-loop decreases-loop
 loop-again c =
     let k = c.before.before in
     let a = l k in
-    let e = c.before.placed-byte.ensures in
+    let e = c.before.placed_byte-next.ensures in
     let byte = packed_byte (bits (mask a) (s a).args.message.now) in
-    let more : m a + 1 ≡ c.before.placed-byte.result.walk.looks / 8 = omega (arith, next c.before) in (
-      subst (Filling byte 0 (length (mask a)) (s a).args.u.now _) more (filling_more a.loop.inv.0 _ _ (inside k) (omega (arith, same k)) (e.0 ∙ ap byte (same k))),
+    let more : m a + 1 ≡ c.before.placed_byte-next.result.walk-1.looks / 8 = omega (arith, next c.before) in (
+      subst (Filling byte 0 (length (mask a)) (s a).args.u.now _) more (filling_more a.loop-m.invariant.0 _ _ (inside k) (omega (arith, same k)) (e.0 ∙ ap byte (same k))),
       e.1 ∙ ap (λ (k : ℕ). walked (mask a) (8 * k)) (ap (λ (k : ℕ). k + 1) (same k) ∙ more),
     )
 
@@ -81,15 +81,15 @@ unfolding packed
 returns c =
     let l = c.before.before.before in
     let message = (s l).args.message.now in
-    let all : m l ≡ length (mask l) = omega (arith, l.loop.invariant.0.reached, c.before.before.looks.ensures) in
+    let all : m l ≡ length (mask l) = omega (arith, l.loop-m.invariant.0.reached, c.before.before.looks.ensures) in
     let size : length (mask l) ≡ bytes_for (length (bits (mask l) message)) = omega (arith, length-placed (mask l) message (8 * length (mask l))) in (
-      c.looks3.ensures ∙ ap (λ (w : Walk). w.looks) l.loop.invariant.1 ∙ ap (λ (m : ℕ). (walked (mask l) (8 * m)).looks) all,
-      filling_done l.loop.invariant.0 (omega (arith, all)) (omega (arith, (s l).requires.1))
+      c.looks-2.ensures ∙ ap (λ (w : Walk). w.looks) l.loop-m.invariant.1 ∙ ap (λ (m : ℕ). (walked (mask l) (8 * m)).looks) all,
+      filling_done l.loop-m.invariant.0 (omega (arith, all)) (omega (arith, (s l).requires.1))
           ∙ ap (λ (k : ℕ). splice (s l).args.u.now 0 (table (packed_byte (bits (mask l) message)) k)) size,
     )
 
-pub place-spec : {M : Type 1} → statement M
-place-spec =
+pub place_spec : {M : Type 1} → statement M
+place_spec =
     tie.close
     (tie.spec
     invariant-loop
@@ -99,10 +99,10 @@ place-spec =
     (λ c κs. search rules)
     (λ c. search rules)
     (λ c κs. search rules)
-    (λ c κs. let a = l c in ((s a).pre.0, omega (arith, same c, inside c), a.loop.inv.1 ∙ ap (λ (k : ℕ). walked (mask a) (8 * k)) (sym (same c))))
-    (λ c. let a = l c.before in omega (arith, same c.before, inside c.before, a.loop.inv.0.same, (s a).pre.1))
+    (λ c κs. let a = l c in ((s a).requires.0, omega (arith, same c, inside c), a.loop-m.invariant.1 ∙ ap (λ (k : ℕ). walked (mask a) (8 * k)) (sym (same c))))
+    (λ c. let a = l c.before in omega (arith, same c.before, inside c.before, a.loop-m.invariant.0.same, (s a).requires.1))
     (λ c. omega (arith, next c.before, inside c.before.before))
     loop-again
     (λ c κs. search rules)
-    (λ c. c.before.before.before.loop.invariant.0.same)
+    (λ c. c.before.before.before.loop-m.invariant.0.same)
     returns)

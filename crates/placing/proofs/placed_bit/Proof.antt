@@ -22,5 +22,5 @@ returns c =
     let x = get_or s.args.message.now s.args.c 0 in
     and_bits s.args.information x s.requires.0 (s.requires.2.at s.args.c) ∙ chosen s.args.information x s.requires.0
 
-pub placed-bit-spec : {M : Type 1} → statement M
-placed-bit-spec = tie.close (tie.spec (λ c. search rules) returns)
+pub placed_bit_spec : {M : Type 1} → statement M
+placed_bit_spec = tie.close (tie.spec (λ c. search rules) returns)

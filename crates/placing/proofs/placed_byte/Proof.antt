@@ -25,21 +25,21 @@ use Rattle.placing.proofs.placed_byte.Tie as tie
 abbrev bit_at : List ℕ → List ℕ → ℕ → ℕ → ℕ
 bit_at mask message m b = get_or (placed mask message (8 * length mask)) (8 * m + b) 0
 
-abbrev invariant-loop : tie.invariant-loop
+abbrev invariant-loop : tie.invariant-loop-b
 invariant-loop mask message m walk₀ byte₀ b₀ walk byte b =
     (walk ≡ walked mask (8 * m + b)) × (b ≤ 8) × (byte ≡ number (bit_at mask message m) b)
 
-abbrev decreases-loop : tie.decreases-loop
+abbrev decreases-loop : tie.decreases-loop-b
 decreases-loop mask message m walk₀ byte₀ b₀ walk byte b = 8 - b
 
-loop-holds : tie.Need-loop-init invariant-loop decreases-loop
+loop-holds : tie.Need-loop-b-init invariant-loop decreases-loop
 unfolding number
 loop-holds c =
     let s = c.before.before in
     (s.requires.2 ∙ ap (walked s.args.mask.now) (sym (add-zero (8 * s.args.m))), omega arith, refl)
 
-module _ (k : tie.In-loop invariant-loop decreases-loop) where
-  abbrev l : tie.At-loop invariant-loop decreases-loop
+module _ (k : tie.In-loop-b invariant-loop decreases-loop) where
+  abbrev l : tie.At-loop-b invariant-loop decreases-loop
   l = k.before
 
   abbrev s : tie.Start invariant-loop decreases-loop
@@ -53,71 +53,71 @@ module _ (k : tie.In-loop invariant-loop decreases-loop) where
 
   -- the index of the turn's look
   abbrev i : ℕ
-  i = 8 * s.args.m + l.loop.b
+  i = 8 * s.args.m + l.loop-b.b
 
   inside : i < 8 * length mask
-  inside = omega (arith, s.pre.1)
+  inside = omega (arith, s.requires.1)
 
   few : 8 * length mask < 2 ^ 64
-  few = omega (arith, s.pre.0.short)
+  few = omega (arith, s.requires.0.short)
 
   -- the message bit lies in the message
-  in-message : l.loop.walk.ones < length message
-  in-message = omega (arith, ones_are mask i l.loop.inv.0, ones_le mask i, inside, s.pre.0.room)
+  in-message : l.loop-b.walk-1.ones-c < length message
+  in-message = omega (arith, ones_are mask i l.loop-b.invariant.0, ones_le mask i, inside, s.requires.0.room)
 
   -- fewer than eight bits leave room for one more
-  room : l.loop.byte < 128
+  room : l.loop-b.byte < 128
   room =
-      omega (arith, l.loop.inv.2, number_lt (bit_at mask message s.args.m) l.loop.b (λ b. (bits-placed mask message _ s.pre.0.bits).at (8 * s.args.m + b)), pow_mono {i = l.loop.b} {j = 7} (omega arith))
+      omega (arith, l.loop-b.invariant.2, number_lt (bit_at mask message s.args.m) l.loop-b.b (λ b. (bits-placed mask message _ s.requires.0.bits).at (8 * s.args.m + b)), pow_mono {i = l.loop-b.b} {j = 7} (omega arith))
 
   -- the bit of the turn, by what its look sees
-  placed-is : {information c bit : ℕ} → information ≡ mask_bit mask i → c ≡ ones_below mask i → bit ≡ cond (eqb information 1) (get_or message c 0) 0 → bit ≡ bit_at mask message s.args.m l.loop.b
+  placed-is : {information c bit : ℕ} → information ≡ mask_bit mask i → c ≡ ones_below mask i → bit ≡ cond (eqb information 1) (get_or message c 0) 0 → bit ≡ bit_at mask message s.args.m l.loop-b.b
   placed-is e o p =
       p ∙ ap₂ (λ (x k : ℕ). cond (eqb x 1) (get_or message k 0) 0) e o ∙ sym (get_or-placed mask message _ i inside)
 
 -- after the bit
-module _ (c : tie.After-placed-bit invariant-loop decreases-loop) where
-  abbrev k : tie.In-loop invariant-loop decreases-loop
+module _ (c : tie.After-placed_bit invariant-loop decreases-loop) where
+  abbrev k : tie.In-loop-b invariant-loop decreases-loop
   k = c.before.before.before
 
-  bit_is : c.placed-bit.result ≡ bit_at (mask k) (message k) (s k).args.m (l k).loop.b
+  bit_is : c.placed_bit.result ≡ bit_at (mask k) (message k) (s k).args.m (l k).loop-b.b
   bit_is =
-      let e = (l k).loop.inv.0 in
-      placed-is k (c.before.look.ensures.0 ∙ next_bit (mask k) (i k) e) (c.before.before.ones.ensures ∙ ones_are (mask k) (i k) e) c.placed-bit.ensures
+      let e = (l k).loop-b.invariant.0 in
+      placed-is k (c.before.look-seen.ensures.0 ∙ next_bit (mask k) (i k) e) (c.before.before.ones-c.ensures ∙ ones_are (mask k) (i k) e) c.placed_bit.ensures
 
-  bit_lt : c.placed-bit.result < 2
-  bit_lt = omega (arith, bit_is, (bits-placed (mask k) (message k) (8 * length (mask k)) (s k).pre.0.bits).at (i k))
+  bit_lt : c.placed_bit.result < 2
+  bit_lt = omega (arith, bit_is, (bits-placed (mask k) (message k) (8 * length (mask k)) (s k).requires.0.bits).at (i k))
 
-loop-again : tie.Need-loop-preserved invariant-loop decreases-loop
+loop-again : tie.Need-loop-b-preserved invariant-loop decreases-loop
 unfolding number
 loop-again c =
     let p = c.before in
-    let a = (l (k p)).loop in (
-      next_walk (mask (k p)) (i (k p)) a.inv.0 p.before.look.ensures.1
+    let a = (l (k p)).loop-b in (
+      next_walk (mask (k p)) (i (k p)) a.invariant.0 p.before.look-seen.ensures.1
           ∙ ap (walked (mask (k p))) (add_assoc (8 * (s (k p)).args.m) a.b 1),
       omega arith,
-      rw add-one (ap₂ (λ (x y : ℕ). x * 2 + y) a.inv.2 (bit_is p)),
+      rw add-one (ap₂ (λ (x y : ℕ). x * 2 + y) a.invariant.2 (bit_is p)),
     )
 
 returns : tie.Need-returns invariant-loop decreases-loop
 returns c =
-    let l = c.before.loop in
+    let l = c.before.loop-b in
     let s = c.before.before.before.before in
     let e : l.b ≡ 8 = omega arith in
     let all : 8 * s.args.m + l.b ≡ 8 * (s.args.m + 1) = omega arith in
     (l.invariant.2 ∙ ap (number (bit_at s.args.mask.now s.args.message.now s.args.m)) e, l.invariant.0 ∙ ap (walked s.args.mask.now) all)
 
-pub placed-byte-spec : {M : Type 1} → statement M
-placed-byte-spec =
+pub placed_byte_spec : {M : Type 1} → statement M
+placed_byte_spec =
     tie.close
     (tie.spec
     invariant-loop
     decreases-loop
     loop-holds
     (λ c κs. search rules)
-    (λ c κs. let k = c.before in may_look (mask k) (i k) (l k).loop.invariant.0 (few k) (inside k))
+    (λ c κs. let k = c.before in may_look (mask k) (i k) (l k).loop-b.invariant.0 (few k) (inside k))
     (λ c. omega (arith, room c.before.before))
-    (λ c κs. let k = c.before.before in (omega (arith, c.look.ensures.0, mask_bit_lt (mask k) (l k).loop.walk.looks), omega (arith, c.before.ones.ensures, in-message k), (s k).requires.0.bits))
+    (λ c κs. let k = c.before.before in (omega (arith, c.look-seen.ensures.0, mask_bit_lt (mask k) (l k).loop-b.walk-1.looks), omega (arith, c.before.ones-c.ensures, in-message k), (s k).requires.0.bits))
     (λ c. omega (arith, room (k c), bit_lt c))
     (λ c. search rules)
     (λ c. search rules)

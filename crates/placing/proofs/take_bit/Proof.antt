@@ -5,11 +5,11 @@ use borrow.Author.Tests.{eq-eqb, ne_eqb}
 use Rattle.placing.proofs.take_bit.Statement.{statement}
 use Rattle.placing.proofs.take_bit.Tie as tie
 
-pub take-bit-spec : {M : Type 1} → statement M
-take-bit-spec =
+pub take_bit_spec : {M : Type 1} → statement M
+take_bit_spec =
     tie.close
     (tie.spec
     (λ c. search rules)
     (λ c. search rules)
-    (λ c. rw (eq-eqb _ 1 c.if1.true) refl)
-    (λ c. rw (ne_eqb _ 1 c.if1.false) refl))
+    (λ c. rw (eq-eqb _ 1 c.if-information-eq1.true) refl)
+    (λ c. rw (ne_eqb _ 1 c.if-information-eq1.false) refl))

@@ -18,19 +18,19 @@ use Rattle.placing.proofs.Placing.{take_start, take_next}
 use Rattle.placing.proofs.take_out.Statement.{statement}
 use Rattle.placing.proofs.take_out.Tie as tie
 
-abbrev invariant-loop : tie.invariant-loop
+abbrev invariant-loop : tie.invariant-loop-i
 invariant-loop mask u message₀ walk₀ i₀ message walk i =
     (i ≤ 8 * length mask) × (walk ≡ walked mask i) × (length message ≡ length message₀) × (message ≡ splice message₀ 0 (taken mask u i))
 
-abbrev decreases-loop : tie.decreases-loop
+abbrev decreases-loop : tie.decreases-loop-i
 decreases-loop mask u message₀ walk₀ i₀ message walk i = 8 * length mask - i
 
-loop-holds : tie.Need-loop-init invariant-loop decreases-loop
+loop-holds : tie.Need-loop-i-init invariant-loop decreases-loop
 unfolding walked
-loop-holds c = (omega arith, c.start.ensures, refl, take_start _ _ _)
+loop-holds c = (omega arith, c.start-walk.ensures, refl, take_start _ _ _)
 
-module _ (k : tie.In-loop invariant-loop decreases-loop) where
-  abbrev l : tie.At-loop invariant-loop decreases-loop
+module _ (k : tie.In-loop-i invariant-loop decreases-loop) where
+  abbrev l : tie.At-loop-i invariant-loop decreases-loop
   l = k.before
 
   abbrev s : tie.Start invariant-loop decreases-loop
@@ -40,39 +40,39 @@ module _ (k : tie.In-loop invariant-loop decreases-loop) where
   mask = s.args.mask.now
 
   -- fewer bits are taken than there is room for
-  room : l.loop.walk.ones < length l.loop.message
-  room = omega (arith, l.loop.inv.2, ones_are mask l.loop.i l.loop.inv.1, ones_le mask l.loop.i, s.pre.1)
+  room : l.loop-i.walk-1.ones-c < length l.loop-i.message-1
+  room = omega (arith, l.loop-i.invariant.2, ones_are mask l.loop-i.i l.loop-i.invariant.1, ones_le mask l.loop-i.i, s.requires.1)
 
-loop-again : tie.Need-loop-preserved invariant-loop decreases-loop
+loop-again : tie.Need-loop-i-preserved invariant-loop decreases-loop
 loop-again c =
     let after_look = c.before.before.before.before.before.before in
     let k = after_look.before.before in
-    let a = (l k).loop in
+    let a = (l k).loop-i in
     let u = (s k).args.u.now in
-    let w = (s k).args.message.now in
-    let ones = after_look.before.ones in
-    let after = c.before.before.before.take-bit in (
+    let w = (s k).args.message-1.now in
+    let ones = after_look.before.ones-c in
+    let after = c.before.before.before.take_bit in (
       omega arith,
-      next_walk (mask k) a.i a.inv.1 after_look.look.ensures.1,
-      after.auto.0 ∙ a.inv.2,
+      next_walk (mask k) a.i a.invariant.1 after_look.look-seen.ensures.1,
+      after.auto.0 ∙ a.invariant.2,
       after.ensures
-          ∙ ap (λ (t : ℕ). cond (eqb t 1) (set a.message ones.result (get_or u a.i 0)) a.message) (after_look.look.ensures.0 ∙ next_bit (mask k) a.i a.inv.1)
-          ∙ take_next (mask k) u w a.message a.i ones.result _ a.inv.3 (ones.ensures ∙ ones_are (mask k) a.i a.inv.1) (omega (arith, ones.ensures, room k, a.inv.2)) refl
+          ∙ ap (λ (t : ℕ). cond (eqb t 1) (set a.message-1 ones.result (get_or u a.i 0)) a.message-1) (after_look.look-seen.ensures.0 ∙ next_bit (mask k) a.i a.invariant.1)
+          ∙ take_next (mask k) u w a.message-1 a.i ones.result _ a.invariant.3 (ones.ensures ∙ ones_are (mask k) a.i a.invariant.1) (omega (arith, ones.ensures, room k, a.invariant.2)) refl
           ∙ ap (λ (n : ℕ). splice w 0 (taken (mask k) u n)) (sym (add-one a.i)),
     )
 
 returns : tie.Need-returns invariant-loop decreases-loop
 returns c =
-    let l = c.before.before.loop in
+    let l = c.before.before.loop-i in
     let s = c.before.before.before.before.before.before.before in
     let mask = s.args.mask.now in
     let done : l.i ≡ 8 * length mask = omega arith in (
       c.looks.ensures ∙ ap (λ (w : Walk). w.looks) l.invariant.1 ∙ ap (λ (n : ℕ). (walked mask n).looks) done,
-      l.invariant.3 ∙ ap (λ (n : ℕ). splice s.args.message.now 0 (taken mask s.args.u.now n)) done,
+      l.invariant.3 ∙ ap (λ (n : ℕ). splice s.args.message-1.now 0 (taken mask s.args.u.now n)) done,
     )
 
-pub take-out-spec : {M : Type 1} → statement M
-take-out-spec =
+pub take_out_spec : {M : Type 1} → statement M
+take_out_spec =
     tie.close
     (tie.spec
     invariant-loop
@@ -81,9 +81,9 @@ take-out-spec =
     loop-holds
     (λ c. search rules)
     (λ c κs. search rules)
-    (λ c κs. let k = c.before in may_look (mask k) (l k).loop.i (l k).loop.invariant.1 (search rules) (search rules))
+    (λ c κs. let k = c.before in may_look (mask k) (l k).loop-i.i (l k).loop-i.invariant.1 (search rules) (search rules))
     (λ c. search rules)
-    (λ c κs. let k = c.before.before.before.before in omega (arith, c.before.before.before.ones.ensures, room k))
+    (λ c κs. let k = c.before.before.before.before in omega (arith, c.before.before.before.ones-c.ensures, room k))
     (λ c. search rules)
     (λ c. search rules)
     loop-again

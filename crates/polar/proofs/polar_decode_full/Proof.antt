@@ -9,11 +9,11 @@ use Rattle.polar.proofs.Fitting.{Fits, decoded_fits}
 use Rattle.polar.proofs.polar_decode_full.Statement.{statement}
 use Rattle.polar.proofs.polar_decode_full.Tie as tie
 
-pub polar-decode-full-spec : {M : Type 1} → statement M
-polar-decode-full-spec =
+pub polar_decode_full_spec : {M : Type 1} → statement M
+polar_decode_full_spec =
     tie.close
     (tie.spec
     (λ c κs. search rules)
-    (λ c κs. subst (Fits decoded_parts) (sym c.before.before.decode-full.ensures) (decoded_fits (single _) Root _ _ _))
+    (λ c κs. subst (Fits decoded_parts) (sym c.before.before.decode_full.ensures) (decoded_fits (single _) Root _ _ _))
     (λ c. search rules)
-    (λ c. numbered-answer decoded_parts c.decoded-answer.ensures c.before.before.before.decode-full.ensures))
+    (λ c. numbered-answer decoded_parts c.decoded_answer.ensures c.before.before.before.decode_full.ensures))

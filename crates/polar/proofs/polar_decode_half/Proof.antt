@@ -9,11 +9,11 @@ use Rattle.polar.proofs.Fitting.{Fits, decoded_fits}
 use Rattle.polar.proofs.polar_decode_half.Statement.{statement}
 use Rattle.polar.proofs.polar_decode_half.Tie as tie
 
-pub polar-decode-half-spec : {M : Type 1} → statement M
-polar-decode-half-spec =
+pub polar_decode_half_spec : {M : Type 1} → statement M
+polar_decode_half_spec =
     tie.close
     (tie.spec
     (λ c κs. search rules)
-    (λ c κs. subst (Fits decoded_parts) (sym c.before.before.decode-half.ensures) (decoded_fits (single _) Half _ _ _))
+    (λ c κs. subst (Fits decoded_parts) (sym c.before.before.decode_half.ensures) (decoded_fits (single _) Half _ _ _))
     (λ c. search rules)
-    (λ c. numbered-answer decoded_parts c.decoded-answer.ensures c.before.before.before.decode-half.ensures))
+    (λ c. numbered-answer decoded_parts c.decoded_answer.ensures c.before.before.before.decode_half.ensures))

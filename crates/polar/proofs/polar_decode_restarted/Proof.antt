@@ -9,11 +9,11 @@ use Rattle.polar.proofs.Fitting.{Fits, decoded_fits}
 use Rattle.polar.proofs.polar_decode_restarted.Statement.{statement}
 use Rattle.polar.proofs.polar_decode_restarted.Tie as tie
 
-pub polar-decode-restarted-spec : {M : Type 1} → statement M
-polar-decode-restarted-spec =
+pub polar_decode_restarted_spec : {M : Type 1} → statement M
+polar_decode_restarted_spec =
     tie.close
     (tie.spec
     (λ c κs. search rules)
-    (λ c κs. subst (Fits decoded_parts) (sym c.before.before.decode-restarted.ensures) (decoded_fits (single _) AfterFlip _ _ _))
+    (λ c κs. subst (Fits decoded_parts) (sym c.before.before.decode_restarted.ensures) (decoded_fits (single _) AfterFlip _ _ _))
     (λ c. search rules)
-    (λ c. numbered-answer decoded_parts c.decoded-answer.ensures c.before.before.before.decode-restarted.ensures))
+    (λ c. numbered-answer decoded_parts c.decoded_answer.ensures c.before.before.before.decode_restarted.ensures))

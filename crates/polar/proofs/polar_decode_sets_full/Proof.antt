@@ -9,11 +9,11 @@ use Rattle.polar.proofs.Fitting.{Fits, decoded_fits}
 use Rattle.polar.proofs.polar_decode_sets_full.Statement.{statement}
 use Rattle.polar.proofs.polar_decode_sets_full.Tie as tie
 
-pub polar-decode-sets-full-spec : {M : Type 1} → statement M
-polar-decode-sets-full-spec =
+pub polar_decode_sets_full_spec : {M : Type 1} → statement M
+polar_decode_sets_full_spec =
     tie.close
     (tie.spec
     (λ c κs. search rules)
-    (λ c κs. subst (Fits decoded_parts) (sym c.before.before.decode-sets-full.ensures) (decoded_fits (sets _ _) Root _ _ _))
+    (λ c κs. subst (Fits decoded_parts) (sym c.before.before.decode_sets_full.ensures) (decoded_fits (sets _ _) Root _ _ _))
     (λ c. search rules)
-    (λ c. numbered-answer decoded_parts c.decoded-answer.ensures c.before.before.before.decode-sets-full.ensures))
+    (λ c. numbered-answer decoded_parts c.decoded_answer.ensures c.before.before.before.decode_sets_full.ensures))

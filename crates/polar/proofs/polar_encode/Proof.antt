@@ -7,11 +7,11 @@ use Rattle.polar.proofs.Fitting.{Fits, encoded-fits}
 use Rattle.polar.proofs.polar_encode.Statement.{statement}
 use Rattle.polar.proofs.polar_encode.Tie as tie
 
-pub polar-encode-spec : {M : Type 1} → statement M
-polar-encode-spec =
+pub polar_encode_spec : {M : Type 1} → statement M
+polar_encode_spec =
     tie.close
     (tie.spec
     (λ c κs. search rules)
     (λ c κs. subst (Fits encoded_parts) (sym c.before.before.encode.ensures) (encoded-fits _ _ _))
     (λ c. search rules)
-    (λ c. numbered-answer encoded_parts c.encoded-answer.ensures c.before.before.before.encode.ensures))
+    (λ c. numbered-answer encoded_parts c.encoded_answer.ensures c.before.before.before.encode.ensures))

@@ -7,11 +7,11 @@ use Rattle.polar.proofs.Fitting.{Fits, added-fits}
 use Rattle.polar.proofs.polar_hearing_add.Statement.{statement}
 use Rattle.polar.proofs.polar_hearing_add.Tie as tie
 
-pub polar-hearing-add-spec : {M : Type 1} → statement M
-polar-hearing-add-spec =
+pub polar_hearing_add_spec : {M : Type 1} → statement M
+polar_hearing_add_spec =
     tie.close
     (tie.spec
     (λ c κs. search rules)
-    (λ c κs. let x = c.before.before.before.before.before.before.args in subst (Fits kept_parts) (sym c.before.before.add.ensures) (added-fits x.state.now x.channel.now))
+    (λ c κs. let x = c.before.before.before.before.before.before.args in subst (Fits kept_parts) (sym c.before.before.add.ensures) (added-fits x.state-1.now x.channel.now))
     (λ c. search rules)
-    (λ c. numbered-answer kept_parts c.kept-answer.ensures c.before.before.before.add.ensures))
+    (λ c. numbered-answer kept_parts c.kept_answer.ensures c.before.before.before.add.ensures))

@@ -7,11 +7,11 @@ use Rattle.polar.proofs.Fitting.{Fits, cleared-fits}
 use Rattle.polar.proofs.polar_hearing_clear.Statement.{statement}
 use Rattle.polar.proofs.polar_hearing_clear.Tie as tie
 
-pub polar-hearing-clear-spec : {M : Type 1} → statement M
-polar-hearing-clear-spec =
+pub polar_hearing_clear_spec : {M : Type 1} → statement M
+polar_hearing_clear_spec =
     tie.close
     (tie.spec
     (λ c κs. search rules)
-    (λ c κs. let x = c.before.before.before.before.before.args in subst (Fits kept_parts) (sym c.before.before.clear.ensures) (cleared-fits x.state.now))
+    (λ c κs. let x = c.before.before.before.before.before.args in subst (Fits kept_parts) (sym c.before.before.clear.ensures) (cleared-fits x.state-1.now))
     (λ c. search rules)
-    (λ c. numbered-answer kept_parts c.kept-answer.ensures c.before.before.before.clear.ensures))
+    (λ c. numbered-answer kept_parts c.kept_answer.ensures c.before.before.before.clear.ensures))

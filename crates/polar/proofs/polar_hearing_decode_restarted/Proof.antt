@@ -9,11 +9,11 @@ use Rattle.polar.proofs.Fitting.{Fits, held_fits}
 use Rattle.polar.proofs.polar_hearing_decode_restarted.Statement.{statement}
 use Rattle.polar.proofs.polar_hearing_decode_restarted.Tie as tie
 
-pub polar-hearing-decode-restarted-spec : {M : Type 1} → statement M
-polar-hearing-decode-restarted-spec =
+pub polar_hearing_decode_restarted_spec : {M : Type 1} → statement M
+polar_hearing_decode_restarted_spec =
     tie.close
     (tie.spec
     (λ c κs. search rules)
-    (λ c κs. let x = c.before.before.before.before.before.before.args in subst (Fits decoded_parts) (sym c.before.before.decode-restarted.ensures) (held_fits AfterFlip (state_in x.state.now) x.limit x.payload.now))
+    (λ c κs. let x = c.before.before.before.before.before.before.args in subst (Fits decoded_parts) (sym c.before.before.decode_restarted.ensures) (held_fits AfterFlip (state_in x.state.now) x.limit x.payload-1.now))
     (λ c. search rules)
-    (λ c. numbered-answer decoded_parts c.decoded-answer.ensures c.before.before.before.decode-restarted.ensures))
+    (λ c. numbered-answer decoded_parts c.decoded_answer.ensures c.before.before.before.decode_restarted.ensures))

@@ -7,11 +7,11 @@ use Rattle.polar.proofs.Fitting.{Fits, opened-fits}
 use Rattle.polar.proofs.polar_hearing_open.Statement.{statement}
 use Rattle.polar.proofs.polar_hearing_open.Tie as tie
 
-pub polar-hearing-open-spec : {M : Type 1} → statement M
-polar-hearing-open-spec =
+pub polar_hearing_open_spec : {M : Type 1} → statement M
+polar_hearing_open_spec =
     tie.close
     (tie.spec
     (λ c κs. search rules)
-    (λ c κs. let x = c.before.before.before.before.before.before.args in subst (Fits kept_parts) (sym c.before.before.open.ensures) (opened-fits x.description.now x.state.now))
+    (λ c κs. let x = c.before.before.before.before.before.before.args in subst (Fits kept_parts) (sym c.before.before.open.ensures) (opened-fits x.description.now x.state-1.now))
     (λ c. search rules)
-    (λ c. numbered-answer kept_parts c.kept-answer.ensures c.before.before.before.open.ensures))
+    (λ c. numbered-answer kept_parts c.kept_answer.ensures c.before.before.before.open.ensures))

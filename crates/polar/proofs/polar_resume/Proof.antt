@@ -7,11 +7,11 @@ use Rattle.polar.proofs.Fitting.{Fits, resumed-fits}
 use Rattle.polar.proofs.polar_resume.Statement.{statement}
 use Rattle.polar.proofs.polar_resume.Tie as tie
 
-pub polar-resume-spec : {M : Type 1} → statement M
-polar-resume-spec =
+pub polar_resume_spec : {M : Type 1} → statement M
+polar_resume_spec =
     tie.close
     (tie.spec
     (λ c κs. search rules)
     (λ c κs. subst (Fits resumed_parts) (sym c.before.before.resume.ensures) (resumed-fits _ _ _ _))
     (λ c. search rules)
-    (λ c. numbered-answer resumed_parts c.resumed-answer.ensures c.before.before.before.resume.ensures))
+    (λ c. numbered-answer resumed_parts c.resumed_answer.ensures c.before.before.before.resume.ensures))

@@ -5,13 +5,13 @@ use Rattle.polar_number.proofs.Told.{told_fits, told_number}
 use Rattle.polar_number.proofs.encoded_answer.Statement.{statement}
 use Rattle.polar_number.proofs.encoded_answer.Tie as tie
 
-pub encoded-answer-spec : {M : Type 1} → statement M
-encoded-answer-spec =
+pub encoded_answer_spec : {M : Type 1} → statement M
+encoded_answer_spec =
     tie.close
     (tie.spec
     (λ c. search rules)
     (λ c κs. search rules)
     (λ c. search rules)
-    (λ c κs. told_fits encoded_parts c.before.before.before.requires c.before.encoded.given.1)
-    (λ c. told_number encoded_parts c.answer.ensures c.before.enum_told.given.1)
-    (λ c. told_number encoded_parts c.refusal-answer.ensures c.before.before.encoded.given.1))
+    (λ c κs. told_fits encoded_parts c.before.before.before.requires c.before.encoded-1.given.1)
+    (λ c. told_number encoded_parts c.answer.ensures c.before.enum_told-1.given.1)
+    (λ c. told_number encoded_parts c.refusal_answer.ensures c.before.before.encoded-1.given.1))

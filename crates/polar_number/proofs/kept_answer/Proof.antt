@@ -8,16 +8,16 @@ use Rattle.polar_number.proofs.kept_answer.Tie as tie
 
 answer-requires : tie.Need-answer-requires
 answer-requires c κs =
-    let f = told_fits kept_parts c.before.before.before.requires c.before.kept.given.1 in omega (arith, f.value_fits)
+    let f = told_fits kept_parts c.before.before.before.requires c.before.kept-1.given.1 in omega (arith, f.value_fits)
 
-pub kept-answer-spec : {M : Type 1} → statement M
-kept-answer-spec =
+pub kept_answer_spec : {M : Type 1} → statement M
+kept_answer_spec =
     tie.close
     (tie.spec
     (λ c. search rules)
     (λ c. search rules)
     answer-requires
     (λ c. search rules)
-    (λ c κs. told_fits kept_parts c.before.before.before.requires c.before.kept2.given.1)
-    (λ c. told_number kept_parts c.answer.ensures c.before.before.kept.given.1)
-    (λ c. told_number kept_parts c.refusal-answer.ensures c.before.before.kept2.given.1))
+    (λ c κs. told_fits kept_parts c.before.before.before.requires c.before.kept-in-Refused-1.given.1)
+    (λ c. told_number kept_parts c.answer.ensures c.before.before.kept-1.given.1)
+    (λ c. told_number kept_parts c.refusal_answer.ensures c.before.before.kept-in-Refused-1.given.1))

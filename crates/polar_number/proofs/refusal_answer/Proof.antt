@@ -6,17 +6,17 @@ use Rattle.polar_number.proofs.Told.{told_fits, told_number}
 use Rattle.polar_number.proofs.refusal_answer.Statement.{statement}
 use Rattle.polar_number.proofs.refusal_answer.Tie as tie
 
-answer-requires-2 : tie.Need-answer-requires-2
+answer-requires-2 : tie.Need-answer-requires-in-At
 answer-requires-2 c κs =
-    let f = told_fits refusal_parts c.before.before.before.requires c.before.refused2.given.1 in omega (arith, f.value_fits)
+    let f = told_fits refusal_parts c.before.before.before.requires c.before.refused-in-At-1.given.1 in omega (arith, f.value_fits)
 
-pub refusal-answer-spec : {M : Type 1} → statement M
-refusal-answer-spec =
+pub refusal_answer_spec : {M : Type 1} → statement M
+refusal_answer_spec =
     tie.close
     (tie.spec
     (λ c. search rules)
     (λ c κs. search rules)
     (λ c. search rules)
     answer-requires-2
-    (λ c. told_number refusal_parts c.answer.ensures c.before.before.refused.given.1)
-    (λ c. told_number refusal_parts c.answer2.ensures c.before.before.refused2.given.1))
+    (λ c. told_number refusal_parts c.answer.ensures c.before.before.refused-1.given.1)
+    (λ c. told_number refusal_parts c.answer-in-At.ensures c.before.before.refused-in-At-1.given.1))

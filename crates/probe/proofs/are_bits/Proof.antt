@@ -9,29 +9,29 @@ use Rattle.probe.proofs.AllBits.{all-next, all_stop}
 use Rattle.probe.proofs.are_bits.Statement.{statement}
 use Rattle.probe.proofs.are_bits.Tie as tie
 
-abbrev invariant-loop : tie.invariant-loop
+abbrev invariant-loop : tie.invariant-loop-i
 invariant-loop bits i₀ i = (i ≤ length bits) × (all_bits (drop i bits) ≡ all_bits bits)
 
-abbrev decreases-loop : tie.decreases-loop
+abbrev decreases-loop : tie.decreases-loop-i
 decreases-loop bits i₀ i = length bits - i
 
-returns : tie.Need-returns invariant-loop decreases-loop
+returns : tie.Need-returns-then-bits-i-gt1 invariant-loop decreases-loop
 returns c =
-    let l = c.before.before.before.loop in
+    let l = c.before.before.before.loop-i in
     all_stop c.before.before.before.before.args.bits.now l.i (omega arith) (omega arith) ∙ l.invariant.1
 
-loop-again : tie.Need-loop-preserved invariant-loop decreases-loop
+loop-again : tie.Need-loop-i-preserved invariant-loop decreases-loop
 loop-again c =
-    let l = c.before.before.before.loop in
+    let l = c.before.before.before.loop-i in
     (omega arith, all-next c.before.before.before.before.args.bits.now l.i (omega arith) (omega arith) ∙ l.invariant.1)
 
-returns-2 : tie.Need-returns-2 invariant-loop decreases-loop
+returns-2 : tie.Need-returns invariant-loop decreases-loop
 returns-2 c =
-    let l = c.before.loop in
+    let l = c.before.loop-i in
     sym (ap all_bits (drop_of_length-le c.before.before.args.bits.now {i = l.i} (omega arith))) ∙ l.invariant.1
 
-pub are-bits-spec : {M : Type 1} → statement M
-are-bits-spec =
+pub are_bits_spec : {M : Type 1} → statement M
+are_bits_spec =
     tie.close
     (tie.spec
     invariant-loop

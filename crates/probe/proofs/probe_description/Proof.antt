@@ -12,21 +12,21 @@ use Rattle.probe.proofs.probe_description.Tie as tie
 abbrev by : List ℕ → Description → ℕ × List ℕ
 by numbers x = description_numbers x numbers
 
-returns : tie.Need-returns
+returns : tie.Need-returns-in-Accepted
 returns c =
     let a = c.before.before.before.before.before in
     let r = a.before.before in
-    ap (by r.before.before.args.numbers.now) (sym a.code.given.1 ∙ r.read-description.ensures)
+    ap (by r.before.before.args.numbers.now) (sym a.code-1.given.1 ∙ r.read_description.ensures)
 
-returns-2 : tie.Need-returns-2
+returns-2 : tie.Need-returns-in-Refused
 returns-2 c =
     let x = c.before.before in
     let r = x.before.before in
     let numbers = r.before.before.args.numbers.now in
-    ap (λ (i : ℕ). (i, numbers)) c.refusal-number.ensures ∙ ap (by numbers) (sym x.x.given.1 ∙ r.read-description.ensures)
+    ap (λ (i : ℕ). (i, numbers)) c.refusal_number.ensures ∙ ap (by numbers) (sym x.x-1.given.1 ∙ r.read_description.ensures)
 
-pub probe-description-spec : {M : Type 1} → statement M
-probe-description-spec =
+pub probe_description_spec : {M : Type 1} → statement M
+probe_description_spec =
     tie.close
     (tie.spec
     (λ c κs. search rules)

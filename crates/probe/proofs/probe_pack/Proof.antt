@@ -12,25 +12,25 @@ use Rattle.probe.proofs.AllBits.{all-bits}
 use Rattle.probe.proofs.probe_pack.Statement.{statement}
 use Rattle.probe.proofs.probe_pack.Tie as tie
 
-are-bits : (c : tie.Else1) → all_bits c.before.before.before.before.args.bits.now ≡ true
-are-bits c = sym c.before.are-bits.ensures ∙ not-false _ c.if1.false
+are-bits : (c : tie.Else-not-are_bits) → all_bits c.before.before.before.before.args.bits.now ≡ true
+are-bits c = sym c.before.are_bits.ensures ∙ not-false _ c.if-not-are_bits.false
 
-full : (c : tie.Else2) → length c.before.before.before.before.before.before.args.bytes.now ≡ bytes_for (length c.before.before.before.before.before.before.args.bits.now)
-full c = c.if2.false ∙ c.before.bytes-for.ensures
+full : (c : tie.Else-bytes-bytes_for) → length c.before.before.before.before.before.before.args.bytes-1.now ≡ bytes_for (length c.before.before.before.before.before.before.args.bits.now)
+full c = c.if-bytes-bytes_for.false ∙ c.before.bytes_for.ensures
 
-returns : tie.Need-returns
-returns c = rw (sym c.before.are-bits.ensures ∙ not-true _ c.if1.true)
+returns : tie.Need-returns-then-not-are_bits
+returns c = rw (sym c.before.are_bits.ensures ∙ not-true _ c.if-not-are_bits.true)
 
-returns-2 : tie.Need-returns-2
-returns-2 c = rw (are-bits c.before.before, ne_eqb _ _ (λ e. c.if2.true (e ∙ sym c.before.bytes-for.ensures)))
+returns-2 : tie.Need-returns-then-bytes-bytes_for
+returns-2 c = rw (are-bits c.before.before, ne_eqb _ _ (λ e. c.if-bytes-bytes_for.true (e ∙ sym c.before.bytes_for.ensures)))
 
-returns-3 : tie.Need-returns-3
+returns-3 : tie.Need-returns
 returns-3 c =
     let p = c.before.before.before.before in
     rw (are-bits p.before.before, eq-eqb _ _ (full p)) (ap (λ (bytes : List ℕ). (0, bytes)) c.before.before.pack.ensures)
 
-pub probe-pack-spec : {M : Type 1} → statement M
-probe-pack-spec =
+pub probe_pack_spec : {M : Type 1} → statement M
+probe_pack_spec =
     tie.close
     (tie.spec
     (λ c κs. search rules)

@@ -15,23 +15,23 @@ by : {a b : Quantised} {left : List ℕ} {x : Quantised × List ℕ} (numbers : 
 by numbers e f =
     (ap (λ (a : Quantised). quantised_numbers a numbers) (sym e ∙ ap (λ (y : Quantised × List ℕ). y.0) f), ap (λ (y : Quantised × List ℕ). y.1) f)
 
-returns : tie.Need-returns
+returns : tie.Need-returns-in-Done
 returns c =
     let s = c.before in
     let q = s.before.before.before.before in
-    by q.before.before.before.before.args.numbers.now s.s.given.1 q.quantise.ensures
+    by q.before.before.before.before.args.numbers.now s.s-1.given.1 q.quantise.ensures
 
-returns-2 : tie.Need-returns-2
+returns-2 : tie.Need-returns-in-Refused
 unfolding of_bits
 returns-2 c =
     let n = c.before in
     let x = n.before.before in
     let q = x.before.before.before.before in
     let numbers = q.before.before.before.before.args.numbers.now in
-    rw (n.refusal-number.ensures, c.refusal-index.ensures) (by numbers x.x.given.1 q.quantise.ensures)
+    rw (n.refusal_number.ensures, c.refusal_index.ensures) (by numbers x.x-1.given.1 q.quantise.ensures)
 
-pub probe-quantise-spec : {M : Type 1} → statement M
-probe-quantise-spec =
+pub probe_quantise_spec : {M : Type 1} → statement M
+probe_quantise_spec =
     tie.close
     (tie.spec
     (λ c κs. search rules)

@@ -10,32 +10,32 @@ use Rattle.probe.proofs.probe_take_out.Statement.{statement}
 use Rattle.probe.proofs.probe_take_out.Tie as tie
 
 -- there is a bit for each index
-bits : (c : tie.Else1) → 8 * length c.before.before.before.before.args.mask.now ≤ length c.before.before.before.before.args.u.now
+bits : (c : tie.Else-u-mask) → 8 * length c.before.before.before.before.args.mask.now ≤ length c.before.before.before.before.args.u.now
 bits c = omega arith
 
 -- and room for it
-room : (c : tie.Else2) → 8 * length c.before.before.before.before.before.args.mask.now ≤ length c.before.before.before.before.before.args.message.now
+room : (c : tie.Else-message-mask) → 8 * length c.before.before.before.before.before.args.mask.now ≤ length c.before.before.before.before.before.args.message-1.now
 room c = omega arith
 
-returns : tie.Need-returns
+returns : tie.Need-returns-then-u-mask
 returns c =
     let s = c.before.before.before.before in
     rw (lt-ltb (length s.args.u.now) (8 * length s.args.mask.now) (omega arith))
 
-returns-2 : tie.Need-returns-2
+returns-2 : tie.Need-returns-then-message-mask
 returns-2 c =
     let s = c.before.before.before.before.before in
-    rw (le-ltb _ _ (bits c.before), lt-ltb (length s.args.message.now) (8 * length s.args.mask.now) (omega arith))
+    rw (le-ltb _ _ (bits c.before), lt-ltb (length s.args.message-1.now) (8 * length s.args.mask.now) (omega arith))
 
-returns-3 : tie.Need-returns-3
+returns-3 : tie.Need-returns
 returns-3 c =
     let t = c.before.before in
     let e = t.before.before in
     rw (le-ltb _ _ (bits e.before), le-ltb _ _ (room e))
     (ap₂ (λ (x : ℕ) (message : List ℕ). (x, message)) t.take_out.ensures.0 t.take_out.ensures.1)
 
-pub probe-take-out-spec : {M : Type 1} → statement M
-probe-take-out-spec =
+pub probe_take_out_spec : {M : Type 1} → statement M
+probe_take_out_spec =
     tie.close
     (tie.spec
     returns

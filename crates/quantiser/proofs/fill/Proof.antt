@@ -17,51 +17,51 @@ use Rattle.quantiser.proofs.Totals.{clipped_le}
 use Rattle.quantiser.proofs.fill.Statement.{statement}
 use Rattle.quantiser.proofs.fill.Tie as tie
 
-abbrev invariant-loop : tie.invariant-loop
+abbrev invariant-loop : tie.invariant-loop-i
 invariant-loop scale samples output₀ peak₀ clipped₀ i₀ output peak clipped i =
     Filling (λ k. (level_of (product scale samples k)).byte) 0 (length output₀) output₀ output i
     × (peak ≡ peak_of (product scale samples) i)
     × (clipped ≡ clipped_of (product scale samples) i)
 
-abbrev decreases-loop : tie.decreases-loop
+abbrev decreases-loop : tie.decreases-loop-i
 decreases-loop scale samples output₀ peak₀ clipped₀ i₀ output peak clipped i = length samples - i
 
-loop-holds : tie.Need-loop-init invariant-loop decreases-loop
+loop-holds : tie.Need-loop-i-init invariant-loop decreases-loop
 unfolding peak_of clipped_of of_bits
 loop-holds c = (filling_none, refl, refl)
 
 -- the products
-abbrev p : tie.In-loop invariant-loop decreases-loop → ℕ → Float
+abbrev p : tie.In-loop-i invariant-loop decreases-loop → ℕ → Float
 p c = let s = c.before.before.before.before in product s.args.scale s.args.samples.now
 
 -- each that is made is a number
-number : (c : tie.In-loop invariant-loop decreases-loop) → T (not (is_nan (p c c.before.loop.i)))
-number c = admitted-number c.before.before.before.before.requires c.before.loop.i (omega arith)
+number : (c : tie.In-loop-i invariant-loop decreases-loop) → T (not (is_nan (p c c.before.loop-i.i)))
+number c = admitted-number c.before.before.before.before.requires c.before.loop-i.i (omega arith)
 
-counted : (c : tie.After-quantise-one invariant-loop decreases-loop) → let l = c.before.before in l.before.loop.clipped + c.quantise-one.result.clipped ≡ clipped_of (p l) (suc l.before.loop.i)
+counted : (c : tie.After-quantise_one-level invariant-loop decreases-loop) → let l = c.before.before in l.before.loop-i.clipped + c.quantise_one-level.result.clipped ≡ clipped_of (p l) (suc l.before.loop-i.i)
 unfolding clipped_of
-counted c = ap₂ (λ (x y : ℕ). x + y) c.before.before.before.loop.invariant.2 (ap (λ (x : Level). x.clipped) c.quantise-one.ensures)
+counted c = ap₂ (λ (x y : ℕ). x + y) c.before.before.before.loop-i.invariant.2 (ap (λ (x : Level). x.clipped) c.quantise_one-level.ensures)
 
-add-clipped : tie.Need-overflow-add-clipped invariant-loop decreases-loop
+add-clipped : tie.Need-overflow_add-clipped invariant-loop decreases-loop
 add-clipped c =
     let l = c.before.before.before in
-    omega (arith, counted c.before, clipped_le (p l) (suc l.before.loop.i))
+    omega (arith, counted c.before, clipped_le (p l) (suc l.before.loop-i.i))
 
-loop-again : tie.Need-loop-preserved invariant-loop decreases-loop
+loop-again : tie.Need-loop-i-preserved invariant-loop decreases-loop
 unfolding peak_of
 loop-again c =
     let q = c.before.before in
     let l = q.before.before in
-    let k = l.before.loop in
-    let e = q.quantise-one.ensures in (
-      filling_more k.invariant.0 k.i q.quantise-one.result.byte (omega (arith, l)) (omega arith) (ap (λ (x : Level). x.byte) e),
-      rw add-one (c.larger-of.ensures ∙ ap₂ larger k.invariant.1 (ap (λ (x : Level). x.magnitude) e)),
+    let k = l.before.loop-i in
+    let e = q.quantise_one-level.ensures in (
+      filling_more k.invariant.0 k.i q.quantise_one-level.result.byte (omega (arith, l)) (omega arith) (ap (λ (x : Level). x.byte) e),
+      rw add-one (c.larger_of-peak.ensures ∙ ap₂ larger k.invariant.1 (ap (λ (x : Level). x.magnitude) e)),
       rw add-one (counted q),
     )
 
 returns : tie.Need-returns invariant-loop decreases-loop
 returns c =
-    let k = c.before.loop in
+    let k = c.before.loop-i in
     let s = c.before.before.before.before in
     let p : ℕ → Float = product s.args.scale s.args.samples.now in
     let e : k.i ≡ length s.args.samples.now = omega arith in
@@ -78,7 +78,7 @@ fill_spec =
     (λ c. search rules)
     (λ c. search rules)
     (λ c κs. number c.before)
-    (λ c. omega (arith, c.before.before.before.before.before.before.requires, c.before.before.before.loop.invariant.0))
+    (λ c. omega (arith, c.before.before.before.before.before.before.requires, c.before.before.before.loop-i.invariant.0))
     add-clipped
     (λ c κs. search rules)
     (λ c. search rules)

@@ -12,27 +12,27 @@ use Rattle.quantiser.proofs.Numbers.{differs_nan, same_number}
 use Rattle.quantiser.proofs.first_nan.Statement.{statement}
 use Rattle.quantiser.proofs.first_nan.Tie as tie
 
-abbrev invariant-loop : tie.invariant-loop
+abbrev invariant-loop : tie.invariant-loop-i
 invariant-loop samples i₀ i = (i ≤ length samples) × ((k : ℕ) → k < i → is_nan (get_or samples k nan) ≡ false)
 
-abbrev decreases-loop : tie.decreases-loop
+abbrev decreases-loop : tie.decreases-loop-i
 decreases-loop samples i₀ i = length samples - i
 
-returns : tie.Need-returns invariant-loop decreases-loop
+returns : tie.Need-returns-then-y invariant-loop decreases-loop
 returns c =
     let l = c.before.before.before in
-    sym (first-is _ (length l.before.args.samples.now) l.loop.i l.loop.invariant.0 l.loop.invariant.1 (λ h. differs_nan _ c.if1.true))
+    sym (first-is _ (length l.before.args.samples.now) l.loop-i.i l.loop-i.invariant.0 l.loop-i.invariant.1 (λ h. differs_nan _ c.if-y.true))
 
-loop-again : tie.Need-loop-preserved invariant-loop decreases-loop
-loop-again c = (search rules, below_more _ _ c.before.before.before.loop.invariant.1 (same_number _ c.if1.false))
+loop-again : tie.Need-loop-i-preserved invariant-loop decreases-loop
+loop-again c = (search rules, below_more _ _ c.before.before.before.loop-i.invariant.1 (same_number _ c.if-y.false))
 
-returns-2 : tie.Need-returns-2 invariant-loop decreases-loop
+returns-2 : tie.Need-returns invariant-loop decreases-loop
 returns-2 c =
     let l = c.before in
-    sym (first-is _ (length l.before.args.samples.now) l.loop.i l.loop.invariant.0 l.loop.invariant.1 (λ h. absurd (omega arith)))
+    sym (first-is _ (length l.before.args.samples.now) l.loop-i.i l.loop-i.invariant.0 l.loop-i.invariant.1 (λ h. absurd (omega arith)))
 
-pub first-nan-spec : {M : Type 1} → statement M
-first-nan-spec =
+pub first_nan_spec : {M : Type 1} → statement M
+first_nan_spec =
     tie.close
     (tie.spec
     invariant-loop

@@ -22,41 +22,41 @@ abbrev from : ℕ → tie.Start → List (Bool × Refusal)
 from i s = drop i (quantising_refusals s.args.scale s.args.samples.now s.args.output.now)
 
 -- the call's start, after each test
-abbrev s1 : tie.Else1 → tie.Start
+abbrev s1 : tie.Else-samples-output → tie.Start
 s1 c = c.before.before.before
 
-abbrev s2 : tie.Else2 → tie.Start
+abbrev s2 : tie.Else-not-is_valid → tie.Start
 s2 c = s1 c.before.before
 
-abbrev s3 : tie.Else3 → tie.Start
+abbrev s3 : tie.Else-index-samples → tie.Start
 s3 c = s2 c.before.before
 
-past-1 : (c : tie.Else1) → judge (from 0 (s1 c)) ≡ judge (from 1 (s1 c))
-past-1 c = judge_no _ _ _ (differs_no _ _ c.if1.false)
+past-1 : (c : tie.Else-samples-output) → judge (from 0 (s1 c)) ≡ judge (from 1 (s1 c))
+past-1 c = judge_no _ _ _ (differs_no _ _ c.if-samples-output.false)
 
-past-2 : (c : tie.Else2) → judge (from 0 (s2 c)) ≡ judge (from 2 (s2 c))
-past-2 c = past-1 c.before.before ∙ judge_no _ _ _ (ap not (sym c.before.is-valid.ensures) ∙ c.if2.false)
+past-2 : (c : tie.Else-not-is_valid) → judge (from 0 (s2 c)) ≡ judge (from 2 (s2 c))
+past-2 c = past-1 c.before.before ∙ judge_no _ _ _ (ap not (sym c.before.is_valid.ensures) ∙ c.if-not-is_valid.false)
 
-past-3 : (c : tie.Else3) → judge (from 0 (s3 c)) ≡ judge (from 3 (s3 c))
+past-3 : (c : tie.Else-index-samples) → judge (from 0 (s3 c)) ≡ judge (from 3 (s3 c))
 past-3 c =
     let samples = (s3 c).args.samples.now in
     past-2 c.before.before ∙ judge_no _ _ _ (le-ltb (first_nan samples) (length samples) (omega arith))
 
-returns : tie.Need-returns
-returns c = sym (judge_yes _ _ _ (ap not (ne_eqb _ _ c.if1.true)))
+returns : tie.Need-returns-then-samples-output
+returns c = sym (judge_yes _ _ _ (ap not (ne_eqb _ _ c.if-samples-output.true)))
 
-returns-2 : tie.Need-returns-2
-returns-2 c = sym (past-1 c.before.before ∙ judge_yes _ _ _ (ap not (sym c.before.is-valid.ensures) ∙ c.if2.true))
+returns-2 : tie.Need-returns-then-not-is_valid
+returns-2 c = sym (past-1 c.before.before ∙ judge_yes _ _ _ (ap not (sym c.before.is_valid.ensures) ∙ c.if-not-is_valid.true))
 
-returns-3 : tie.Need-returns-3
+returns-3 : tie.Need-returns-then-index-samples
 returns-3 c =
     let e = c.before.before in
     let samples = (s2 e).args.samples.now in
-    ap (λ (k : ℕ). Refused (At 22 k)) c.before.first-nan.ensures
+    ap (λ (k : ℕ). Refused (At 22 k)) c.before.first_nan-index.ensures
     ∙ sym (past-2 e ∙ judge_yes _ _ _ (lt-ltb (first_nan samples) (length samples) (omega arith)))
 
-pub judge-quantising-spec : {M : Type 1} → statement M
-judge-quantising-spec =
+pub judge_quantising_spec : {M : Type 1} → statement M
+judge_quantising_spec =
     tie.close
     (tie.spec
     returns

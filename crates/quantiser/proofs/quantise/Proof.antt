@@ -10,27 +10,27 @@ use Rattle.quantiser.proofs.quantise.Statement.{statement}
 use Rattle.quantiser.proofs.quantise.Tie as tie
 
 -- the call's start, from the judgement
-abbrev start : tie.After-judge-quantising → tie.Start
+abbrev start : tie.After-judge_quantising → tie.Start
 start j = j.before.before.before.before
 
 -- no refusal applies
-fine : (t : tie.After-enum-told) → let s = (start t.before.before).args in judge (quantising_refusals s.scale s.samples.now s.output.now) ≡ Fine
-fine t = sym t.before.before.judge-quantising.ensures ∙ t.enum_told.given.1
+fine : (t : tie.In-Fine) → let s = (start t.before.before).args in judge (quantising_refusals s.scale s.samples.now s.output-1.now) ≡ Fine
+fine t = sym t.before.before.judge_quantising.ensures ∙ t.enum_told-1.given.1
 
-returns : tie.Need-returns
+returns : tie.Need-returns-in-Fine
 unfolding quantised
 returns c =
     let f = c.before.before in
     f.fill.ensures ∙ sym (refused_fine _ _ _ (fine f.before.before))
 
-returns-2 : tie.Need-returns-2
+returns-2 : tie.Need-returns-in-Refused
 unfolding quantised
 returns-2 c =
     let x = c.before in
-    sym (refused_by _ _ _ _ (sym x.before.before.judge-quantising.ensures ∙ x.x.given.1))
+    sym (refused_by _ _ _ _ (sym x.before.before.judge_quantising.ensures ∙ x.x-1.given.1))
 
-pub quantise-spec : {M : Type 1} → statement M
-quantise-spec =
+pub quantise_spec : {M : Type 1} → statement M
+quantise_spec =
     tie.close
     (tie.spec
     (λ c κs. search rules)

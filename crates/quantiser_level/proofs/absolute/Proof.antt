@@ -11,8 +11,8 @@ use Rattle.quantiser_level.proofs.absolute.Tie as tie
 held : (c : tie.Start) → T (fits binary32 c.args.p)
 held c = subst T (sym c.well_formed.0.1) tt
 
-pub absolute-spec : {M : Type 1} → statement M
-absolute-spec =
+pub absolute_spec : {M : Type 1} → statement M
+absolute_spec =
     tie.close
     (tie.spec
     (λ c. search rules)

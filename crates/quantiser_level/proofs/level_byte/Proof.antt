@@ -9,16 +9,16 @@ use Rattle.quantiser_level.proofs.Levels.{level-signed}
 use Rattle.quantiser_level.proofs.level_byte.Statement.{statement}
 use Rattle.quantiser_level.proofs.level_byte.Tie as tie
 
-returns : tie.Need-returns
+returns : tie.Need-returns-then-p
 unfolding of_bits
-returns c = rw (level-signed, c.if1.true) (minus_byte _ (min 31 (quarters c.before.args.p)) (omega arith) (omega arith))
+returns c = rw (level-signed, c.if-p.true) (minus_byte _ (min 31 (quarters c.before.args.p)) (omega arith) (omega arith))
 
-returns-2 : tie.Need-returns-2
+returns-2 : tie.Need-returns-else-p
 unfolding of_bits
-returns-2 c = rw (level-signed, c.if1.false) (omega arith)
+returns-2 c = rw (level-signed, c.if-p.false) (omega arith)
 
-pub level-byte-spec : {M : Type 1} → statement M
-level-byte-spec =
+pub level_byte_spec : {M : Type 1} → statement M
+level_byte_spec =
     tie.close
     (tie.spec
     (λ c. search rules)

@@ -9,19 +9,19 @@ use Rattle.quantiser_level.proofs.Pattern.{shifted, shifted_lt, quarters-bits}
 use Rattle.quantiser_level.proofs.nearest_quarters.Statement.{statement}
 use Rattle.quantiser_level.proofs.nearest_quarters.Tie as tie
 
-small : (c : tie.After-clamped) → shifted c.clamped.result < 0x4000_0000
-small c = shifted_lt c.clamped.result (omega arith)
+small : (c : tie.After-clamped-bits) → shifted c.clamped-bits.result < 0x4000_0000
+small c = shifted_lt c.clamped-bits.result (omega arith)
 
 returns : tie.Need-returns
 returns c =
     let s = c.before.before in
-    let v = shifted c.before.clamped.result in
+    let v = shifted c.before.clamped-bits.result in
     let whole : v % 0x1_0000_0000 ≡ v = omega (arith, small c.before) in
-    c.rounded.ensures ∙ ap (λ (x : ℕ). nearest x 0x200_0000) (whole ∙ ap shifted c.before.clamped.ensures)
+    c.rounded.ensures ∙ ap (λ (x : ℕ). nearest x 0x200_0000) (whole ∙ ap shifted c.before.clamped-bits.ensures)
     ∙ quarters-bits s.args.p (subst T (sym s.well_formed.0.1) tt) s.requires
 
-pub nearest-quarters-spec : {M : Type 1} → statement M
-nearest-quarters-spec =
+pub nearest_quarters_spec : {M : Type 1} → statement M
+nearest_quarters_spec =
     tie.close
     (tie.spec
     (λ c. search rules)

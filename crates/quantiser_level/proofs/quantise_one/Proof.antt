@@ -17,10 +17,10 @@ returns : tie.Need-returns
 returns c =
     let b = c.before in
     let s = b.before.before.args in
-    made b.level-byte.ensures (one_if _ (mul binary32 s.scale s.y) (λ h. omega arith) (λ h. omega arith)) c.absolute.ensures
+    made b.level_byte-byte.ensures (one_if _ (mul binary32 s.scale s.y) (λ h. omega arith) (λ h. omega arith)) c.absolute-magnitude.ensures
 
-pub quantise-one-spec : {M : Type 1} → statement M
-quantise-one-spec =
+pub quantise_one_spec : {M : Type 1} → statement M
+quantise_one_spec =
     tie.close
     (tie.spec
     (λ c κs. c.requires)

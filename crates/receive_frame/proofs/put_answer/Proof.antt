@@ -13,23 +13,23 @@ use Rattle.receive_frame.proofs.put_answer.Tie as tie
 case : (payload : List ℕ) {a b : Decoded} → a ≡ b → answer_line b payload ≡ answer_line a payload
 case payload e = ap (λ (x : Decoded). answer_line x payload) (sym e)
 
-returns : tie.Need-returns
+returns : tie.Need-returns-in-Accepted
 returns c =
     let a = c.before.before.before.before.before in
-    put_as c.before.before.put-ok.ensures _ (case a.before.before.before.before.args.payload.now a.answer.given.1)
+    put_as c.before.before.put_ok.ensures _ (case a.before.before.before.before.args.payload.now a.answer-1.given.1)
 
-returns-2 : tie.Need-returns-2
+returns-2 : tie.Need-returns-in-Refused16
 returns-2 c =
     let a = c.before.before.before.before.before in
-    put_as c.before.before.put-line.ensures _ (case a.before.before.before.before.args.payload.now a.enum_told.given.1)
+    put_as c.before.before.put_line.ensures _ (case a.before.before.before.before.args.payload.now a.enum_told-1.given.1)
 
-returns-3 : tie.Need-returns-3
+returns-3 : tie.Need-returns-in-Refused
 returns-3 c =
     let a = c.before.before.before.before.before in
-    put_as c.before.before.put-refusal.ensures _ (case a.before.before.before.before.args.payload.now a.answer2.given.1)
+    put_as c.before.before.put_refusal.ensures _ (case a.before.before.before.before.args.payload.now a.answer-in-Refused-1.given.1)
 
-pub put-answer-spec : {M : Type 1} → statement M
-put-answer-spec =
+pub put_answer_spec : {M : Type 1} → statement M
+put_answer_spec =
     tie.close
     (tie.spec
     (λ c. search rules)

@@ -7,10 +7,10 @@ use Rattle.receive_frame.proofs.put_decoded.Statement.{statement}
 use Rattle.receive_frame.proofs.put_decoded.Tie as tie
 
 returns : tie.Need-returns
-returns c = put_as c.before.before.put-answer.ensures _ (ap line_of_answer c.before.before.before.before.before.before.before.decode-by.ensures)
+returns c = put_as c.before.before.put_answer.ensures _ (ap line_of_answer c.before.before.before.before.before.before.before.decode_by-answer.ensures)
 
-pub put-decoded-spec : {M : Type 1} → statement M
-put-decoded-spec =
+pub put_decoded_spec : {M : Type 1} → statement M
+put_decoded_spec =
     tie.close
     (tie.spec
     (λ c κs. search rules)

@@ -36,64 +36,64 @@ by held channel limit a =
     on_description a (λ x. no_line (number_of x)) (λ c. line_of_answer (decoded_restarted held channel limit (replicate (bytes_for c.k) 0)))
 
 -- the code that was accepted
-module _ (c : tie.After-code) where
+module _ (c : tie.In-Accepted-2) where
   abbrev held : List ℕ
   held = c.before.before.before.before.before.before.args.held.now
 
   abbrev code : Code
-  code = c.code.given.0.0
+  code = c.code-1.given.0.0
 
   accepted : Accepted code ≡ describe held
-  accepted = sym c.code.given.1 ∙ c.before.before.read-description.ensures
+  accepted = sym c.code-1.given.1 ∙ c.before.before.read_description.ensures
 
   facts : Described held code
   facts = described held code (sym accepted)
 
 -- the part of the zeros that is lent for the payload
-module _ (c : tie.After-bytes-for) where
+module _ (c : tie.After-bytes_for-size) where
   abbrev zeros : List ℕ
   zeros = replicate longest_bytes 0
 
-  fits : c.bytes-for.result ≤ longest_bytes
-  fits = omega (arith, c.bytes-for.ensures, payload-most (facts c.before.before))
+  fits : c.bytes_for-size.result ≤ longest_bytes
+  fits = omega (arith, c.bytes_for-size.ensures, payload-most (facts c.before.before))
 
-  part_length : length (take c.bytes-for.result zeros) ≡ c.bytes-for.result
-  part_length = length-take-le c.bytes-for.result zeros fits
+  part_length : length (take c.bytes_for-size.result zeros) ≡ c.bytes_for-size.result
+  part_length = length-take-le c.bytes_for-size.result zeros fits
 
-  part-is : take c.bytes-for.result zeros ≡ replicate (bytes_for (code c.before.before).k) 0
-  part-is = take-replicate c.bytes-for.result longest_bytes 0 fits ∙ ap (λ (size : ℕ). replicate size 0) c.bytes-for.ensures
+  part-is : take c.bytes_for-size.result zeros ≡ replicate (bytes_for (code c.before.before).k) 0
+  part-is = take-replicate c.bytes_for-size.result longest_bytes 0 fits ∙ ap (λ (size : ℕ). replicate size 0) c.bytes_for-size.ensures
 
-put-decoded-requires : tie.Need-put-decoded-requires
+put-decoded-requires : tie.Need-put_decoded-requires
 put-decoded-requires c κs =
     let m = c.before.before in
     let a = m.before.before.before in (
-      subst (λ (mask : List ℕ). Coded mask (code a)) (sym m.mask-of.ensures) (facts a).coded,
+      subst (λ (mask : List ℕ). Coded mask (code a)) (sym m.mask_of-mask.ensures) (facts a).coded,
       omega (arith, part_length m.before, fits m.before),
       a.before.before.before.before.before.before.requires,
     )
 
-returns : tie.Need-returns
+returns : tie.Need-returns-in-Accepted
 unfolding decoding_line
 returns c =
     let m = c.before.before.before.before.before.before in
     let a = m.before.before.before in
     let s = a.before.before.before.before.before.before in
     let channel = s.args.channel.now in
-    put_as c.before.before.before.put-decoded.ensures _
-    (ap₂ (λ (mask output : List ℕ). under mask (code a) channel s.args.limit output) m.mask-of.ensures (part-is m.before)
+    put_as c.before.before.before.put_decoded.ensures _
+    (ap₂ (λ (mask output : List ℕ). under mask (code a) channel s.args.limit output) m.mask_of-mask.ensures (part-is m.before)
     ∙ ap line_of_answer (sym (under-code (single s.args.limit) AfterFlip (held a) channel (replicate (bytes_for (code a).k) 0) (code a) (sym (accepted a))))
     ∙ ap (by (held a) channel s.args.limit) (accepted a))
 
-returns-2 : tie.Need-returns-2
+returns-2 : tie.Need-returns-in-Refused
 unfolding decoding_line
 returns-2 c =
     let a = c.before.before.before.before.before in
     let s = a.before.before.before.before.before.before in
-    put_as c.before.before.put-refusal.ensures _
-    (ap (by s.args.held.now s.args.channel.now s.args.limit) (sym a.x.given.1 ∙ a.before.before.read-description.ensures))
+    put_as c.before.before.put_refusal.ensures _
+    (ap (by s.args.held.now s.args.channel.now s.args.limit) (sym a.x-1.given.1 ∙ a.before.before.read_description.ensures))
 
-pub put-decoding-spec : {M : Type 1} → statement M
-put-decoding-spec =
+pub put_decoding_spec : {M : Type 1} → statement M
+put_decoding_spec =
     tie.close
     (tie.spec
     (λ c κs. search rules)

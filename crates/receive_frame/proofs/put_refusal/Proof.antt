@@ -9,10 +9,10 @@ use Rattle.receive_frame.proofs.put_refusal.Tie as tie
 returns : tie.Need-returns
 returns c =
     let p = c.before.before in
-    put_as p.put-line.ensures _ (ap no_line p.before.number.ensures)
+    put_as p.put_line.ensures _ (ap no_line p.before.number.ensures)
 
-pub put-refusal-spec : {M : Type 1} → statement M
-put-refusal-spec =
+pub put_refusal_spec : {M : Type 1} → statement M
+put_refusal_spec =
     tie.close
     (tie.spec
     (λ c. search rules)

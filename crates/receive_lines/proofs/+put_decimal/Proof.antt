@@ -29,37 +29,37 @@ Q t = (put-decimal-below t, put-decimal.Post)
 
 module _ (t : ℕ) where
   -- room for the one digit
-  one-fits : (c : put-decimal-lts.Then1 (Q t) (put-decimal-at t) put-decimal.Post) → c.before.before.args.at < length c.before.before.args.line.now
-  one-fits c = omega (arith, c.before.before.requires.1, length-small c.before.before.args.n c.if1.true)
+  one-fits : (c : put-decimal-lts.Then-n-lt10 (Q t) (put-decimal-at t) put-decimal.Post) → c.before.before.args.at < length c.before.before.args.line-1.now
+  one-fits c = omega (arith, c.before.before.requires.1, length-small c.before.before.args.n c.if-n-lt10.true)
 
-  returns : put-decimal-lts.Need-returns (Q t) (put-decimal-at t) put-decimal.Post
-  returns c = put_as (put_byte (one-fits c)) _ (sym (decimal-small c.before.before.args.n c.if1.true))
+  returns : put-decimal-lts.Need-returns-then-n-lt10 (Q t) (put-decimal-at t) put-decimal.Post
+  returns c = put_as (put_byte (one-fits c)) _ (sym (decimal-small c.before.before.args.n c.if-n-lt10.true))
 
-  put-decimal-requires : put-decimal-lts.Need-put-decimal-requires (Q t) (put-decimal-at t) put-decimal.Post
+  put-decimal-requires : put-decimal-lts.Need-put_decimal-next-requires (Q t) (put-decimal-at t) put-decimal.Post
   put-decimal-requires c κs =
       let s = c.before.before.before in
       let big : 10 ≤ s.args.n = omega arith in
       (omega (arith, s.requires.0), omega (arith, s.requires.1, length_more s.args.n big))
 
-  module _ (c : put-decimal-lts.After-slice-known2 (Q t) (put-decimal-at t) put-decimal.Post) where
+  module _ (c : put-decimal-lts.After-slice_known-2-1 (Q t) (put-decimal-at t) put-decimal.Post) where
     abbrev s : put-decimal-lts.Start (Q t) (put-decimal-at t) put-decimal.Post
     s = c.before.before.before.before.before.before
 
     big : 10 ≤ s.args.n
-    big = c.before.before.before.before.if1.false
+    big = c.before.before.before.before.if-n-lt10.false
 
     -- room for the last digit
-    last_fits : c.before.before.put-decimal.result < length c.before.before.put-decimal.new.0
+    last_fits : c.before.before.put_decimal-next.result < length c.before.before.put_decimal-next.new.0
     last_fits =
-        let p = c.before.before.put-decimal.ensures in
-        omega (arith, s.pre.1, length_more s.args.n big, p.next_is, length_put p)
+        let p = c.before.before.put_decimal-next.ensures in
+        omega (arith, s.requires.1, length_more s.args.n big, p.next_is, length_put p)
 
-  returns-2 : put-decimal-lts.Need-returns-2 (Q t) (put-decimal-at t) put-decimal.Post
+  returns-2 : put-decimal-lts.Need-returns (Q t) (put-decimal-at t) put-decimal.Post
   returns-2 c =
-      put_as (put_more c.before.before.put-decimal.ensures (put_byte (last_fits c))) _ (sym (decimal-more (s c).args.n (big c)))
+      put_as (put_more c.before.before.put_decimal-next.ensures (put_byte (last_fits c))) _ (sym (decimal-more (s c).args.n (big c)))
 
-pub +put-decimal-spec : {M : Type 1} → statement M
-+put-decimal-spec = close μ-put-decimal λ t. put-decimal-lts.spec (Q t)
+pub +put_decimal_spec : {M : Type 1} → statement M
++put_decimal_spec = close μ-put-decimal λ t. put-decimal-lts.spec (Q t)
     (put-decimal-at t)
     put-decimal.Post
     (λ c. search rules)

@@ -16,11 +16,11 @@ returns c =
     record {
       next_is = refl;
       fits = omega (arith, s.requires);
-      after_is = k.copy.ensures ∙ ap (splice s.args.buffer.now s.args.at) (take_all (length bytes) bytes (omega arith));
+      after_is = k.copy.ensures ∙ ap (splice s.args.buffer-1.now s.args.at) (take_all (length bytes) bytes (omega arith));
     }
 
-pub put-bytes-spec : {M : Type 1} → statement M
-put-bytes-spec =
+pub put_bytes_spec : {M : Type 1} → statement M
+put_bytes_spec =
     tie.close
     (tie.spec
     (λ c κs. search rules)

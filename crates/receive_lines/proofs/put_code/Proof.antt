@@ -8,14 +8,14 @@ returns : tie.Need-returns
 returns c =
     let n3 = c.before.before.before.before.before.before.before in
     let n1 = n3.before.before.before.before.before.before.before.before in
-    put_more n1.before.before.before.before.put-bytes.ensures
-    (put_more n1.put-number.ensures.0
-    (put_more n3.before.before.before.before.put-number2.ensures.0
-    (put_more n3.put-number3.ensures.0
-    c.before.before.put-bytes2.ensures)))
+    put_more n1.before.before.before.before.put_bytes-at.ensures
+    (put_more n1.put_number-at.ensures.0
+    (put_more n3.before.before.before.before.put_number-at-2.ensures.0
+    (put_more n3.put_number-at-3.ensures.0
+    c.before.before.put_bytes.ensures)))
 
-pub put-code-spec : {M : Type 1} → statement M
-put-code-spec =
+pub put_code_spec : {M : Type 1} → statement M
+put_code_spec =
     tie.close
     (tie.spec
     (λ c. search rules)

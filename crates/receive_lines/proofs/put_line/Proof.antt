@@ -6,12 +6,12 @@ use Rattle.receive_lines.proofs.put_line.Tie as tie
 
 returns : tie.Need-returns
 returns c =
-    put_more c.before.before.before.before.before.before.before.before.before.before.before.put-bytes.ensures
-    (put_more c.before.before.before.before.before.before.before.put-number.ensures.0
-    c.before.before.put-bytes2.ensures)
+    put_more c.before.before.before.before.before.before.before.before.before.before.before.put_bytes-at.ensures
+    (put_more c.before.before.before.before.before.before.before.put_number-at.ensures.0
+    c.before.before.put_bytes.ensures)
 
-pub put-line-spec : {M : Type 1} → statement M
-put-line-spec =
+pub put_line_spec : {M : Type 1} → statement M
+put_line_spec =
     tie.close
     (tie.spec
     (λ c κs. search rules)

@@ -9,32 +9,32 @@ use Rattle.receive_lines.proofs.put_ok.Statement.{statement}
 use Rattle.receive_lines.proofs.put_ok.Tie as tie
 
 -- what was put before the line feed, and where each part ends
-module _ (h : tie.After-put-hex) where
-  abbrev n2 : tie.After-put-number2
+module _ (h : tie.After-put_hex-at) where
+  abbrev n2 : tie.After-put_number-at-2
   n2 = h.before.before.before.before.before.before.before.before.before
 
-  abbrev word : tie.After-put-bytes
+  abbrev word : tie.After-put_bytes-at
   word = n2.before.before.before.before.before.before.before.before
 
   abbrev s : tie.Start
   s = word.before.before.before.before.before
 
-  room : h.put-hex.result + 1 ≤ length h.put-hex.last.0
+  room : h.put_hex-at.result + 1 ≤ length h.put_hex-at.last.0
   room =
-      let trial = n2.before.before.before.before.put-number.ensures in
-      let steps = n2.put-number2.ensures in
-      let space = h.before.before.before.before.put-bytes2.ensures in
-      let payload = h.put-hex.ensures in
+      let trial = n2.before.before.before.before.put_number-at.ensures in
+      let steps = n2.put_number-at-2.ensures in
+      let space = h.before.before.before.before.put_bytes-at-2.ensures in
+      let payload = h.put_hex-at.ensures in
       omega (
         arith,
-        s.pre,
-        word.put-bytes.ensures.next_is,
+        s.requires,
+        word.put_bytes-at.ensures.next_is,
         trial.1,
         steps.1,
         space.next_is,
         payload.next_is,
         length-hex s.args.payload.now,
-        length_put word.put-bytes.ensures,
+        length_put word.put_bytes-at.ensures,
         length_put trial.0,
         length_put steps.0,
         length_put space,
@@ -44,15 +44,15 @@ module _ (h : tie.After-put-hex) where
 returns : tie.Need-returns
 returns c =
     let h = c.before.before.before.before.before.before.before in
-    put_more (word h).put-bytes.ensures
-    (put_more (n2 h).before.before.before.before.put-number.ensures.0
-    (put_more (n2 h).put-number2.ensures.0
-    (put_more h.before.before.before.before.put-bytes2.ensures
-    (put_more h.put-hex.ensures
-    c.before.before.put-bytes3.ensures))))
+    put_more (word h).put_bytes-at.ensures
+    (put_more (n2 h).before.before.before.before.put_number-at.ensures.0
+    (put_more (n2 h).put_number-at-2.ensures.0
+    (put_more h.before.before.before.before.put_bytes-at-2.ensures
+    (put_more h.put_hex-at.ensures
+    c.before.before.put_bytes.ensures))))
 
-pub put-ok-spec : {M : Type 1} → statement M
-put-ok-spec =
+pub put_ok_spec : {M : Type 1} → statement M
+put_ok_spec =
     tie.close
     (tie.spec
     (λ c. search rules)

@@ -12,11 +12,11 @@ made length kind = record { length = length; kind = kind }
 
 returns : tie.Need-returns
 returns c =
-    let known = c.before.before.shared-slice-known.given in
-    (ap₂ made c.before.read_word.ensures c.read-word2.ensures, omega (arith, c.before.read_word.ensures, known 0, known 1))
+    let known = c.before.before.shared_slice_known-1.given in
+    (ap₂ made c.before.read_word.ensures c.read_word-2.ensures, omega (arith, c.before.read_word.ensures, known 0, known 1))
 
-pub read-header-spec : {M : Type 1} → statement M
-read-header-spec =
+pub read_header_spec : {M : Type 1} → statement M
+read_header_spec =
     tie.close
     (tie.spec
     (λ c κs. search rules)

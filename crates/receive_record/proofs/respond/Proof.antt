@@ -27,48 +27,48 @@ past held bytes = by_2 held bytes (eqb (word bytes 2) 2)
 abbrev by-1 : List ℕ → List ℕ → Bool → List ℕ × List ℕ
 by-1 held bytes t = cond t (description_response held bytes) (past held bytes)
 
-module _ (c : tie.After-read-header) where
+module _ (c : tie.After-read_header-kind) where
   abbrev held : List ℕ
-  held = let a = c.before.before.before.before.args in take a.size a.held.now
+  held = let a = c.before.before.before.before.args in take a.size a.held-1.now
 
   abbrev bytes : List ℕ
   bytes = c.before.before.before.before.args.bytes.now
 
-  kind-is : c.read-header.result.kind ≡ word bytes 2
-  kind-is = ap (λ (h : Header). h.kind) c.read-header.ensures.0
+  kind-is : c.read_header-kind.result.kind ≡ word bytes 2
+  kind-is = ap (λ (h : Header). h.kind) c.read_header-kind.ensures.0
 
 -- whether the record is a description
-described : (c : tie.After-is-description) → c.is-description.result ≡ is_description (word (bytes c.before) 2)
-described c = c.is-description.ensures ∙ ap is_description (kind-is c.before)
+described : (c : tie.After-is_description) → c.is_description.result ≡ is_description (word (bytes c.before) 2)
+described c = c.is_description.ensures ∙ ap is_description (kind-is c.before)
 
-past-1 : (c : tie.Else1) → let h = c.before.before in responded (held h) (bytes h) ≡ past (held h) (bytes h)
+past-1 : (c : tie.Else-is_description) → let h = c.before.before in responded (held h) (bytes h) ≡ past (held h) (bytes h)
 unfolding responded
-past-1 c = let h = c.before.before in ap (by-1 (held h) (bytes h)) (sym (described c.before) ∙ c.if1.false)
+past-1 c = let h = c.before.before in ap (by-1 (held h) (bytes h)) (sym (described c.before) ∙ c.if-is_description.false)
 
-returns : tie.Need-returns
+returns : tie.Need-returns-then-is_description
 unfolding responded
 returns c =
     let t = c.before.before.before.before.before.before.before in
     let h = t.before.before in
-    answers_as c.before.before.before.before.respond-description.ensures _ (ap (by-1 (held h) (bytes h)) (sym t.if1.true ∙ described t.before))
+    answers_as c.before.before.before.before.respond_description.ensures _ (ap (by-1 (held h) (bytes h)) (sym t.if-is_description.true ∙ described t.before))
 
-returns-2 : tie.Need-returns-2
+returns-2 : tie.Need-returns-then-kind-eq2
 returns-2 c =
     let t = c.before.before.before.before.before in
     let h = t.before.before.before in
-    answers_as (answers-line c.before.before.put-channel.ensures h.before.before.before.before.requires.size_most) _
-    (sym (past-1 t.before ∙ ap (by_2 (held h) (bytes h)) (eq-eqb _ _ (sym (kind-is h) ∙ t.if2.true))))
+    answers_as (answers-line c.before.before.put_channel-end.ensures h.before.before.before.before.requires.size_most) _
+    (sym (past-1 t.before ∙ ap (by_2 (held h) (bytes h)) (eq-eqb _ _ (sym (kind-is h) ∙ t.if-kind-eq2.true))))
 
-returns-3 : tie.Need-returns-3
+returns-3 : tie.Need-returns
 returns-3 c =
     let e = c.before.before.before.before.before in
     let h = e.before.before.before in
-    answers_as (answers-line c.before.before.put-line.ensures h.before.before.before.before.requires.size_most) _
+    answers_as (answers-line c.before.before.put_line-end.ensures h.before.before.before.before.requires.size_most) _
     (ap (λ (kind : ℕ). (skip_line kind, held h)) (kind-is h)
-    ∙ sym (past-1 e.before ∙ ap (by_2 (held h) (bytes h)) (ne_eqb _ _ (λ q. e.if2.false (kind-is h ∙ q)))))
+    ∙ sym (past-1 e.before ∙ ap (by_2 (held h) (bytes h)) (ne_eqb _ _ (λ q. e.if-kind-eq2.false (kind-is h ∙ q)))))
 
-pub respond-spec : {M : Type 1} → statement M
-respond-spec =
+pub respond_spec : {M : Type 1} → statement M
+respond_spec =
     tie.close
     (tie.spec
     (λ c κs. search rules)

@@ -27,27 +27,27 @@ abbrev by : List ℕ → List ℕ → Description → List ℕ × List ℕ
 by held bytes a = on_description a (λ x. (no_line (number_of x), held)) (λ c. (code_line (code_length c) c.k c.r, bytes))
 
 -- the code that was accepted
-module _ (c : tie.After-code) where
+module _ (c : tie.In-Accepted-2) where
   abbrev d : List ℕ
   d = c.before.before.before.before.before.before.args.bytes.now
 
   abbrev code : Code
-  code = c.code.given.0.0
+  code = c.code-1.given.0.0
 
   accepted : Accepted code ≡ describe d
-  accepted = sym c.code.given.1 ∙ c.before.before.read-description.ensures
+  accepted = sym c.code-1.given.1 ∙ c.before.before.read_description.ensures
 
   facts : Described d code
   facts = described d code (sym accepted)
 
-put-bytes-requires : tie.Need-put-bytes-requires
+put-bytes-requires : tie.Need-put_bytes-requires
 put-bytes-requires c κs = omega (arith, description-most (facts c.before.before), c.before.before.before.before.before.before.before.before.requires.held_room)
 
-returns : tie.Need-returns
+returns : tie.Need-returns-in-Accepted
 unfolding description_response
 returns c =
-    let kept = c.before.before.before.before.before.before.before.before.put-bytes.ensures in
-    let line = c.before.before.put-code.ensures in
+    let kept = c.before.before.before.before.before.before.before.before.put_bytes.ensures in
+    let line = c.before.before.put_code.ensures in
     let a = c.before.before.before.before.before.before.before.before.before.before.before in
     let s = a.before.before.before.before.before.before in
     record {
@@ -55,20 +55,20 @@ returns c =
       held_fits = omega (arith, kept.fits, length_put kept);
       answer_is = ap₂ (λ (x y : List ℕ). (x, y)) (take_put line) (take_put kept)
           ∙ ap (λ (size : ℕ). (code_line size (code a).k (code a).r, d a)) (one_shl (code a).n 64 (omega (arith, (facts a).coded.n_most)))
-          ∙ ap (by (take s.args.size s.args.held.now) (d a)) (accepted a);
+          ∙ ap (by (take s.args.size s.args.held-1.now) (d a)) (accepted a);
     }
 
-returns-2 : tie.Need-returns-2
+returns-2 : tie.Need-returns-in-Refused
 unfolding description_response
 returns-2 c =
     let a = c.before.before.before.before.before in
     let s = a.before.before.before.before.before.before in
-    let held = take s.args.size s.args.held.now in
-    answers_as (answers-line c.before.before.put-refusal.ensures s.requires.size_most) _
-    (ap (by held s.args.bytes.now) (sym a.x.given.1 ∙ a.before.before.read-description.ensures))
+    let held = take s.args.size s.args.held-1.now in
+    answers_as (answers-line c.before.before.put_refusal.ensures s.requires.size_most) _
+    (ap (by held s.args.bytes.now) (sym a.x-1.given.1 ∙ a.before.before.read_description.ensures))
 
-pub respond-description-spec : {M : Type 1} → statement M
-respond-description-spec =
+pub respond_description_spec : {M : Type 1} → statement M
+respond_description_spec =
     tie.close
     (tie.spec
     (λ c κs. search rules)

@@ -13,7 +13,7 @@ use Rattle.receive_stream.proofs.advance.Statement.{statement}
 use Rattle.receive_stream.proofs.advance.Tie as tie
 
 -- the bytes of the record read so far, and what is known from them
-module _ (c : tie.After-ahead-of) where
+module _ (c : tie.After-ahead_of) where
   abbrev there : List ℕ
   there = let a = c.before.before.before.before.before.before.args in take (a.stream.there + a.got) a.bytes.now
 
@@ -23,12 +23,12 @@ module _ (c : tie.After-ahead-of) where
   fits : (a : Ahead) → c.ahead_of_lem.result ≡ a → Fits there a
   fits a e = subst (Fits there) e c.ahead_of_lem.ensures.1
 
-respond-to-requires : tie.Need-respond-to-requires
+respond-to-requires : tie.Need-respond_to-requires
 respond-to-requires c κs =
     let a = c.before.before.before.before.before.before.before.before.before.before.before in
     let pre = a.requires in
     record {
-      header = (record_there a.args.stream a.args.got a.args.bytes.now a.args.held.now a.args.output.now pre (says c.before.before.before.before.before Whole c.before.before.before.enum_told.given.1)).least;
+      header = (record_there a.args.stream a.args.got a.args.bytes.now a.args.held-1.now a.args.output-1.now pre (says c.before.before.before.before.before Whole c.before.before.before.enum_told-1.given.1)).least;
       held_most = pre.between.held_most;
       held_room = pre.held_room;
       output_room = pre.between.output_room;
@@ -36,34 +36,34 @@ respond-to-requires c κs =
       turns_most = pre.turns_most;
     }
 
-returns : tie.Need-returns
+returns : tie.Need-returns-then-there-eq0
 returns c =
     let a = c.before.before.before.before.before.before.before.before.before.before.before.before.before.before in
-    advance_end a.args.stream a.args.got a.args.bytes.now a.args.held.now a.args.output.now a.requires c.before.before.before.before.if1.true c.before.before.finish.ensures
+    advance_end a.args.stream a.args.got a.args.bytes.now a.args.held-1.now a.args.output-1.now a.requires c.before.before.before.before.if-there-eq0.true c.before.before.finish.ensures
 
-returns-2 : tie.Need-returns-2
+returns-2 : tie.Need-returns-then-got-eq0
 returns-2 c =
     let a = c.before.before.before.before.before.before.before.before.before.before.before.before.before.before.before in
-    advance_cut a.args.stream a.args.got a.args.bytes.now a.args.held.now a.args.output.now a.requires (says c.before.before.before.before.before.before.before.before.before _ c.before.before.before.before.before.before.before.missing.given.1) c.before.before.before.before.if2.true c.before.before.before.before.before.if1.false c.before.before.cut2.ensures
+    advance_cut a.args.stream a.args.got a.args.bytes.now a.args.held-1.now a.args.output-1.now a.requires (says c.before.before.before.before.before.before.before.before.before _ c.before.before.before.before.before.before.before.missing-1.given.1) c.before.before.before.before.if-got-eq0.true c.before.before.before.before.before.if-there-eq0.false c.before.before.cut-then-got-eq0.ensures
 
-returns-3 : tie.Need-returns-3
+returns-3 : tie.Need-returns-in-Whole
 returns-3 c =
     let a = c.before.before.before.before.before.before.before.before.before.before.before.before.before.before.before.before in
-    advance_whole a.args.stream a.args.got a.args.bytes.now a.args.held.now a.args.output.now a.requires (says c.before.before.before.before.before.before.before.before.before.before Whole c.before.before.before.before.before.before.before.before.enum_told.given.1) c.before.before.before.before.respond-to.ensures
+    advance_whole a.args.stream a.args.got a.args.bytes.now a.args.held-1.now a.args.output-1.now a.requires (says c.before.before.before.before.before.before.before.before.before.before Whole c.before.before.before.before.before.before.before.before.enum_told-1.given.1) c.before.before.before.before.respond_to.ensures
 
-returns-4 : tie.Need-returns-4
+returns-4 : tie.Need-returns-in-Short
 returns-4 c =
     let a = c.before.before.before.before.before.before.before.before.before.before.before.before in
-    advance_short a.args.stream a.args.got a.args.bytes.now a.args.held.now a.args.output.now a.requires (says c.before.before.before.before.before.before Short c.before.before.before.before.enum-told2.given.1) c.before.before.cut.ensures
+    advance_short a.args.stream a.args.got a.args.bytes.now a.args.held-1.now a.args.output-1.now a.requires (says c.before.before.before.before.before.before Short c.before.before.before.before.enum_told-in-Short-1.given.1) c.before.before.cut.ensures
 
-returns-5 : tie.Need-returns-5
+returns-5 : tie.Need-returns-else-got-eq0
 returns-5 c =
     let a = c.before.before.before.before.before.before.before.before.before.before.before.before in
-    let told = c.before.before.before.before.missing.given in
-    advance_more a.args.stream a.args.got a.args.bytes.now a.args.held.now a.args.output.now a.requires (says c.before.before.before.before.before.before _ told.1) (fits c.before.before.before.before.before.before _ told.1) c.before.if2.false
+    let told = c.before.before.before.before.missing-1.given in
+    advance_more a.args.stream a.args.got a.args.bytes.now a.args.held-1.now a.args.output-1.now a.requires (says c.before.before.before.before.before.before _ told.1) (fits c.before.before.before.before.before.before _ told.1) c.before.if-got-eq0.false
 
-pub advance-spec : {M : Type 1} → statement M
-advance-spec =
+pub advance_spec : {M : Type 1} → statement M
+advance_spec =
     tie.close
     (tie.spec
     (λ c. search rules)

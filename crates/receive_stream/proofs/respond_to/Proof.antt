@@ -9,13 +9,13 @@ use Rattle.receive_stream.proofs.Output.{take_behind}
 use Rattle.receive_stream.proofs.respond_to.Statement.{statement}
 use Rattle.receive_stream.proofs.respond_to.Tie as tie
 
-sub-waiting : tie.Need-overflow-sub-t12
+sub-waiting : tie.Need-overflow_sub-result
 sub-waiting c = c.before.before.Ready-of.ensures.most
 
 returns : tie.Need-returns
 returns c =
     let a = c.before.before.before.before.before.before.before.before.before.before.before.before.before.before.args in
-    let r = c.before.before.before.before.before.before.before.before.respond.ensures in
+    let r = c.before.before.before.before.before.before.before.before.respond-response.ensures in
     let ready = c.before.before.Ready-of.ensures in
     let before = a.stream.waiting in
     record {
@@ -27,11 +27,11 @@ returns c =
       held_is = ap (λ (z : List ℕ × List ℕ). z.1) r.answer_is;
       ready_most = search rules;
       output_room = ready.leaves (search rules);
-      lines_are = ready.splits _ ∙ take_behind a.output.now _ before (length a.output.now - before) _ (omega arith) r.line_fits ∙ ap (λ (z : List ℕ × List ℕ). take before a.output.now ++ z.0) r.answer_is;
+      lines_are = ready.splits _ ∙ take_behind a.output-1.now _ before (length a.output-1.now - before) _ (omega arith) r.line_fits ∙ ap (λ (z : List ℕ × List ℕ). take before a.output-1.now ++ z.0) r.answer_is;
     }
 
-pub respond-to-spec : {M : Type 1} → statement M
-respond-to-spec =
+pub respond_to_spec : {M : Type 1} → statement M
+respond_to_spec =
     tie.close
     (tie.spec
     (λ c. search rules)

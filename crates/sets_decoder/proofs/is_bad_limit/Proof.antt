@@ -5,11 +5,11 @@ use Rattle.refusal.specs.Judge.{outside}
 use Rattle.sets_decoder.proofs.is_bad_limit.Statement.{statement}
 use Rattle.sets_decoder.proofs.is_bad_limit.Tie as tie
 
-pub is-bad-limit-spec : {M : Type 1} → statement M
-is-bad-limit-spec =
+pub is_bad_limit_spec : {M : Type 1} → statement M
+is_bad_limit_spec =
     tie.close
     (tie.spec
     (λ c. search rules)
     (λ c κs. search rules)
     (λ c κs. search rules)
-    (λ c. c.is-outside.ensures ∙ ap (outside c.before.before.before.args.search.limit 1) c.before.most-limit.ensures))
+    (λ c. c.is_outside.ensures ∙ ap (outside c.before.before.before.args.search.limit 1) c.before.most_limit.ensures))

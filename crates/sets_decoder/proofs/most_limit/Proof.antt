@@ -12,12 +12,12 @@ use Rattle.sets_decoder.proofs.most_limit.Tie as tie
 abbrev chosen : Code → Bool → ℕ
 chosen code t = cond t (information_count code + 1) 512
 
-pub most-limit-spec : {M : Type 1} → statement M
-most-limit-spec =
+pub most_limit_spec : {M : Type 1} → statement M
+most_limit_spec =
     tie.close
     (tie.spec
     (λ c. search rules)
     (λ c. search rules)
     (λ c. search rules)
-    (λ c. let t = c.before.before in sym (ap (chosen t.before.args.code) (eq-eqb _ _ t.if1.true)))
-    (λ c. sym (ap (chosen c.before.args.code) (ne_eqb _ _ c.if1.false))))
+    (λ c. let t = c.before.before in sym (ap (chosen t.before.args.code) (eq-eqb _ _ t.if-w-eq1.true)))
+    (λ c. sym (ap (chosen c.before.args.code) (ne_eqb _ _ c.if-w-eq1.false))))

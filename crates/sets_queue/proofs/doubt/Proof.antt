@@ -9,32 +9,32 @@ use Rattle.sets_queue.proofs.doubt.Statement.{statement}
 use Rattle.sets_queue.proofs.doubt.Tie as tie
 
 -- an information index
-module _ (c : tie.Else1) where
+module _ (c : tie.Else-mask_bit-eq0) where
   abbrev s : tie.Start
   s = c.before.before.before
 
   one : mask_bit s.args.mask.now s.args.j ≡ 1
-  one = omega (arith, c.if1.false, c.before.mask-bit.ensures, mask_bit_lt s.args.mask.now s.args.j)
+  one = omega (arith, c.if-mask_bit-eq0.false, c.before.mask_bit.ensures, mask_bit_lt s.args.mask.now s.args.j)
 
-returns : tie.Need-returns
+returns : tie.Need-returns-then-mask_bit-eq0
 returns c =
     let a = c.before.before.before.args in
-    sym (doubt-frozen a.mask.now a.leaves.now a.j (sym c.before.mask-bit.ensures ∙ c.if1.true))
+    sym (doubt-frozen a.mask.now a.leaves.now a.j (sym c.before.mask_bit.ensures ∙ c.if-mask_bit-eq0.true))
 
-returns-2 : tie.Need-returns-2
+returns-2 : tie.Need-returns-then-magnitude_at-le20
 returns-2 c =
     let e = c.before.before in
     let a = (s e).args in
-    sym (doubt-low a.mask.now a.leaves.now a.j (one e) (omega (arith, c.before.magnitude-at.ensures, c.if2.true)))
+    sym (doubt-low a.mask.now a.leaves.now a.j (one e) (omega (arith, c.before.magnitude_at.ensures, c.if-magnitude_at-le20.true)))
 
-returns-3 : tie.Need-returns-3
+returns-3 : tie.Need-returns
 returns-3 c =
     let e = c.before.before in
     let a = (s e).args in
-    sym (doubt_high a.mask.now a.leaves.now a.j (one e) (omega (arith, c.before.magnitude-at.ensures, c.if2.false)))
+    sym (doubt_high a.mask.now a.leaves.now a.j (one e) (omega (arith, c.before.magnitude_at.ensures, c.if-magnitude_at-le20.false)))
 
-pub doubt-spec : {M : Type 1} → statement M
-doubt-spec =
+pub doubt_spec : {M : Type 1} → statement M
+doubt_spec =
     tie.close
     (tie.spec
     (λ c κs. search rules)

@@ -10,47 +10,47 @@ use Rattle.sets_queue.proofs.Pools.{pool_put, pool_full}
 use Rattle.sets_queue.proofs.insert.Statement.{statement}
 use Rattle.sets_queue.proofs.insert.Tie as tie
 
-returns : tie.Need-returns
+returns : tie.Need-returns-then-at-room
 returns c =
     let s = c.before.before.before.before in
-    record { places = s.requires; holds = λ ks pool. pool_full pool c.before.place_of.ensures s.requires c.if1.true }
+    record { places = s.requires; holds = λ ks pool. pool_full pool c.before.place_of-at.ensures s.requires c.if-at-room.true }
 
 -- there is room for it
-module _ (c : tie.Else1) where
+module _ (c : tie.Else-at-room) where
   abbrev s : tie.Start
   s = c.before.before.before.before
 
   abbrev at : ℕ
-  at = c.before.place_of.result
+  at = c.before.place_of-at.result
 
   below : at < s.args.room
-  below = omega (arith, c.if1.false, c.before.place_of.ensures.most, s.pre.count_most)
+  below = omega (arith, c.if-at-room.false, c.before.place_of-at.ensures.most, s.requires.count_most)
 
 shift-requires : tie.Need-shift-requires
 shift-requires c κs =
     let e = c.before.before in
     let l = c.before.min.ensures in
-    (omega (arith, l, below e, e.before.place_of.ensures.most), omega (arith, l, below e, (s e).requires.room_most))
+    (omega (arith, l, below e, e.before.place_of-at.ensures.most), omega (arith, l, below e, (s e).requires.room_most))
 
-returns-2 : tie.Need-returns-2
+returns-2 : tie.Need-returns
 returns-2 c =
     let h = c.before.before.before in
     let e = h.before.before.before in
     let x = (s e).args in
-    let shifted : Shifted (at e) (min x.count (x.room - 1)) x.keys.now h.shift.new.1.1.0 =
-    subst (λ (k : ℕ). Shifted (at e) k x.keys.now h.shift.new.1.1.0) h.before.before.min.ensures h.shift.ensures in
-    subst (λ (r : ℕ). Inserted x.low x.count x.room r (x.key ∷ []) x.keys.now (set h.shift.new.1.1.0 (at e) x.key)) (sym c.min2.ensures)
+    let shifted : Shifted (at e) (min x.count (x.room - 1)) x.keys-1.now h.shift.new.1.1.0 =
+    subst (λ (k : ℕ). Shifted (at e) k x.keys-1.now h.shift.new.1.1.0) h.before.before.min.ensures h.shift.ensures in
+    subst (λ (r : ℕ). Inserted x.low x.count x.room r (x.key ∷ []) x.keys-1.now (set h.shift.new.1.1.0 (at e) x.key)) (sym c.min-2.ensures)
     (record {
       places = record {
-        low_most = omega (arith, (s e).requires.low_most, (s e).requires.count_most, below e, e.before.place_of.ensures.least);
+        low_most = omega (arith, (s e).requires.low_most, (s e).requires.count_most, below e, e.before.place_of-at.ensures.least);
         count_most = omega arith;
         room_most = omega (arith, length-set h.shift.new.1.1.0 (at e) x.key, shifted.whole, (s e).requires.room_most);
       };
-      holds = λ ks pool. pool_put pool e.before.place_of.ensures (s e).requires (below e) shifted;
+      holds = λ ks pool. pool_put pool e.before.place_of-at.ensures (s e).requires (below e) shifted;
     })
 
-pub insert-spec : {M : Type 1} → statement M
-insert-spec =
+pub insert_spec : {M : Type 1} → statement M
+insert_spec =
     tie.close
     (tie.spec
     (λ c κs. let p = c.before.before.requires in (p.low_most, omega (arith, p.count_most, p.room_most)))

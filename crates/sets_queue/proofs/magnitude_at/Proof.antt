@@ -19,8 +19,8 @@ magnitude-back c =
     let s = c.before.before in
     back_is w32 c.magnitude.result (record { sfits = c.magnitude.type-inv }) ∙ c.magnitude.ensures ∙ ap (λ (z : ℤ). pos (nat_abs z)) (leaf-back s)
 
-pub magnitude-at-spec : {M : Type 1} → statement M
-magnitude-at-spec =
+pub magnitude_at_spec : {M : Type 1} → statement M
+magnitude_at_spec =
     tie.close
     (tie.spec
     (λ c. search rules)

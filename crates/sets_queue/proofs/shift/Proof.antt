@@ -6,32 +6,32 @@ use Rattle.sets_queue.proofs.Pools.{Shifting, shift_none, shift_more, shift_done
 use Rattle.sets_queue.proofs.shift.Statement.{statement}
 use Rattle.sets_queue.proofs.shift.Tie as tie
 
-abbrev invariant-loop : tie.invariant-loop
+abbrev invariant-loop : tie.invariant-loop-j
 invariant-loop at end keys₀ j₀ keys j = Shifting at end keys₀ keys j
 
-abbrev decreases-loop : tie.decreases-loop
+abbrev decreases-loop : tie.decreases-loop-j
 decreases-loop at end keys₀ j₀ keys j = j - at
 
-loop-again : tie.Need-loop-preserved invariant-loop decreases-loop
+loop-again : tie.Need-loop-j-preserved invariant-loop decreases-loop
 loop-again c =
     let l = c.before.before in
     let s = l.before in
-    shift_more l.loop.invariant c.before.loop-test.true (omega (arith, l.loop.invariant.most, s.requires.1))
+    shift_more l.loop-j.invariant c.before.loop-j-test.true (omega (arith, l.loop-j.invariant.most, s.requires.1))
 
-pub shift-spec : {M : Type 1} → statement M
-shift-spec =
+pub shift_spec : {M : Type 1} → statement M
+shift_spec =
     tie.close
     (tie.spec
     invariant-loop
     decreases-loop
     (λ c. shift_none _ _ _ c.requires.0)
-    (λ c. omega (arith, c.loop-test.true))
-    (λ c. omega (arith, c.before.loop.invariant.most, c.before.before.requires.1))
+    (λ c. omega (arith, c.loop-j-test.true))
+    (λ c. omega (arith, c.before.loop-j.invariant.most, c.before.before.requires.1))
     (λ c. search rules)
     (λ c. search rules)
     (λ c. search rules)
-    (λ c. omega (arith, c.before.loop-test.true))
+    (λ c. omega (arith, c.before.loop-j-test.true))
     (λ c. search rules)
     loop-again
-    (λ c. c.before.loop.invariant.whole)
-    (λ c. shift_done c.before.loop.invariant c.loop-test.false))
+    (λ c. c.before.loop-j.invariant.whole)
+    (λ c. shift_done c.before.loop-j.invariant c.loop-j-test.false))

@@ -19,10 +19,10 @@ returns c =
     let a = m.before.args in
     ap {B = Stem}
     (λ (x : ℕ). record { sum = a.stem.sum + x; digits = a.stem.digits + (a.i + 1) * a.stem.weight; weight = a.stem.weight / base; from = a.i + 1 })
-    m.magnitude-at.ensures
+    m.magnitude_at.ensures
 
-pub stem-with-spec : {M : Type 1} → statement M
-stem-with-spec =
+pub stem_with_spec : {M : Type 1} → statement M
+stem_with_spec =
     tie.close
     (tie.spec
     (λ c κs. (omega (arith, c.requires.0), omega (arith, c.requires.1)))

@@ -15,17 +15,17 @@ use Rattle.laws.proofs.Filling.{Filling, filling_none, filling_more, filling_don
 use Rattle.sets_run.proofs.copy_values.Statement.{statement}
 use Rattle.sets_run.proofs.copy_values.Tie as tie
 
-abbrev invariant-loop : tie.invariant-loop
+abbrev invariant-loop : tie.invariant-loop-j
 invariant-loop source target₀ count j₀ target j = Filling (λ i. get_or (take count source) i (pos 0)) 0 count target₀ target j
 
-abbrev decreases-loop : tie.decreases-loop
+abbrev decreases-loop : tie.decreases-loop-j
 decreases-loop source target₀ count j₀ target j = count - j
 
-loop-again : tie.Need-loop-preserved invariant-loop decreases-loop
+loop-again : tie.Need-loop-j-preserved invariant-loop decreases-loop
 loop-again c =
     let s = c.before.before.before in
-    let l = c.before.before.loop in
-    let here = c.before.loop-test.true in
+    let l = c.before.before.loop-j in
+    let here = c.before.loop-j-test.true in
     let source = s.args.source.now in
     filling_more l.invariant _ _ here (omega arith)
     (back-small w32 (get_or source l.j (pos 0)) (omega (arith, s.requires.2.at l.j here)) ∙ sym (get_or-take s.args.count source l.j (pos 0) here))
@@ -36,23 +36,23 @@ returns c =
     let source = s.args.source.now in
     let count = s.args.count in
     let long = length-take-le count source (omega (arith, s.requires)) in
-    filling_done c.before.loop.invariant (omega arith) (omega (arith, s.requires))
-    ∙ ap (λ (n : ℕ). splice s.args.target.now 0 (table (λ i. get_or (take count source) i (pos 0)) n)) (sym long)
-    ∙ ap (splice s.args.target.now 0) (table-get_or (take count source) (pos 0))
+    filling_done c.before.loop-j.invariant (omega arith) (omega (arith, s.requires))
+    ∙ ap (λ (n : ℕ). splice s.args.target-1.now 0 (table (λ i. get_or (take count source) i (pos 0)) n)) (sym long)
+    ∙ ap (splice s.args.target-1.now 0) (table-get_or (take count source) (pos 0))
 
-pub copy-values-spec : {M : Type 1} → statement M
-copy-values-spec =
+pub copy_values_spec : {M : Type 1} → statement M
+copy_values_spec =
     tie.close
     (tie.spec
     invariant-loop
     decreases-loop
     (λ c. filling_none)
     (λ c. search rules)
-    (λ c. omega (arith, c.loop-test.true, c.before.before.requires.0))
+    (λ c. omega (arith, c.loop-j-test.true, c.before.before.requires.0))
     (λ c. search rules)
-    (λ c. omega (arith, c.before.loop-test.true, c.before.before.before.requires.0))
+    (λ c. omega (arith, c.before.loop-j-test.true, c.before.before.before.requires.0))
     (λ c. search rules)
     (λ c. search rules)
     loop-again
-    (λ c. c.before.loop.invariant.same)
+    (λ c. c.before.loop-j.invariant.same)
     returns)

@@ -15,13 +15,13 @@ use Rattle.sets_run.proofs.Leaves.{leaf-before}
 use Rattle.sets_run.proofs.generate.Statement.{statement}
 use Rattle.sets_run.proofs.generate.Tie as tie
 
-returns : tie.Need-returns
+returns : tie.Need-returns-then-search-flips
 returns c =
     let s = c.before.before.before.before.before in
-    rw (le-ltb _ _ c.if1.true) (inserted-none s.requires.3)
+    rw (le-ltb _ _ c.if-search-flips.true) (inserted-none s.requires.3)
 
 -- the set is not the largest
-module _ (c : tie.Else1) where
+module _ (c : tie.Else-search-flips) where
   abbrev s : tie.Start
   s = c.before.before.before.before.before
 
@@ -32,18 +32,18 @@ module _ (c : tie.Else1) where
   values = s.args.values.now
 
   abbrev leaves : List ℤ
-  leaves = s.args.leaves.now
+  leaves = s.args.leaves-1.now
 
   more : length s.args.flips.now < s.args.search.w
-  more = omega (arith, c.if1.false)
+  more = omega (arith, c.if-search-flips.false)
 
   there : HeldLeaves size s.args.q values leaves
-  there = s.pre.2.held more
+  there = s.requires.2.held more
 
   room : s.args.q ≤ length values
   room = omega (arith, there.q_most, there.values_there)
 
-copy-values-requires : tie.Need-copy-values-requires
+copy-values-requires : tie.Need-copy_values-requires
 copy-values-requires c κs =
     let r = c.before in
     let q = (s r).args.q in (
@@ -53,43 +53,43 @@ copy-values-requires c κs =
     )
 
 -- the leaf values are in place
-module _ (c : tie.After-copy-values) where
-  abbrev r : tie.Else1
+module _ (c : tie.After-copy_values) where
+  abbrev r : tie.Else-search-flips
   r = c.before.before
 
-  held : c.copy-values.new.1.0 ≡ leaves_from (s r).args.q (values r) (leaves r)
-  held = c.copy-values.ensures
+  held : c.copy_values.new.1.0 ≡ leaves_from (s r).args.q (values r) (leaves r)
+  held = c.copy_values.ensures
 
-  small : Small (size r) c.copy-values.new.1.0
+  small : Small (size r) c.copy_values.new.1.0
   small = subst (Small (size r)) (sym held) (there r).small
 
-  same-room : length c.copy-values.new.1.0 ≡ length (leaves r)
-  same-room = c.copy-values.auto.1.0
+  same-room : length c.copy_values.new.1.0 ≡ length (leaves r)
+  same-room = c.copy_values.auto.1.0
 
 extend-requires : tie.Need-extend-requires
 extend-requires c κs =
     let k = c.before.before.before.before in
-    let p = (s (r k)).pre in (
+    let p = (s (r k)).requires in (
       record { there = omega (arith, same-room k, (there (r k)).leaves_there); fits = p.0; small = small k },
       record { few = omega (arith, more (r k), p.2.flips_most); below = p.1.below; past = past-most p.1; small = λ a m. (small k).at _ (p.1.below a m) },
       p.3,
     )
 
-returns-2 : tie.Need-returns-2
+returns-2 : tie.Need-returns
 returns-2 c =
     let w = c.before.before in
     let k = w.before.before.before.before.before in
     rw (lt-ltb _ _ (more (r k)), ← held k) w.extend.ensures
 
-pub generate-spec : {M : Type 1} → statement M
-generate-spec =
+pub generate_spec : {M : Type 1} → statement M
+generate_spec =
     tie.close
     (tie.spec
     (λ c. search rules)
     returns
     copy-values-requires
     (λ c. search rules)
-    (λ c. let k = c.before.before in omega (arith, (s (r k)).pre.2.limit_least))
+    (λ c. let k = c.before.before in omega (arith, (s (r k)).requires.2.limit_least))
     extend-requires
     (λ c. search rules)
     (λ c. search rules)

@@ -33,24 +33,24 @@ use Rattle.sets_run.proofs.Held.{leaves_pre, generated-is}
 use Rattle.sets_run.proofs.set_trials.Statement.{statement}
 use Rattle.sets_run.proofs.set_trials.Tie as tie
 
-abbrev invariant-loop : tie.invariant-loop
+abbrev invariant-loop : tie.invariant-loop-at
 invariant-loop search mask code channel first values rules₀ work₀ sums₀ leaves₀ keys₀ restart bits₀ end₀ at₀ steps₀ rules work sums leaves keys bits end at steps =
     ((untried : List Candidate) × Searching search mask code (channel_values channel) steps₀ at end steps keys untried)
     × PlainRules longest mask code rules
     × Whole longest (arrays work bits sums leaves)
     × (length keys ≡ length keys₀)
 
-abbrev decreases-loop : tie.decreases-loop
+abbrev decreases-loop : tie.decreases-loop-at
 decreases-loop search mask code channel first values rules₀ work₀ sums₀ leaves₀ keys₀ restart bits₀ end₀ at₀ steps₀ rules work sums leaves keys bits end at steps =
     search.limit - 1 - at
 
-loop-holds : tie.Need-loop-init invariant-loop decreases-loop
+loop-holds : tie.Need-loop-at-init invariant-loop decreases-loop
 loop-holds c =
     let p = c.before.before.before.requires in
     ((_, search_starts (steps_fit p.0.frame.coded.n_most p.1.start_most) p.3), p.1.plain, record { work = p.4.work; bits = refl; sums = p.4.sums; leaves = p.4.leaves }, refl)
 
 -- at the loop's head
-module _ (c : tie.At-loop invariant-loop decreases-loop) where
+module _ (c : tie.At-loop-at invariant-loop decreases-loop) where
   abbrev s : tie.Start invariant-loop decreases-loop
   s = c.before.before.before.before
 
@@ -64,85 +64,85 @@ module _ (c : tie.At-loop invariant-loop decreases-loop) where
   later is = later_trial s.args.search.restart mask s.args.code v is
 
   size_fits : code_length s.args.code ≤ longest
-  size_fits = fits s.pre.0.frame.coded.n_most
+  size_fits = fits s.requires.0.frame.coded.n_most
 
-  going : Searching s.args.search mask s.args.code v s.args.started.steps c.loop.at c.loop.end c.loop.steps c.loop.keys c.loop.invariant.0.0
-  going = c.loop.invariant.0.1
+  going : Searching s.args.search mask s.args.code v s.args.started.steps c.loop-at.at c.loop-at.end c.loop-at.steps c.loop-at.keys-1 c.loop-at.invariant.0.0
+  going = c.loop-at.invariant.0.1
 
-  at_most : c.loop.at ≤ longest
+  at_most : c.loop-at.at ≤ longest
   at_most =
-      let on = s.pre.0 in
+      let on = s.requires.0 in
       omega (arith, going.places.low_most, going.places.count_most, on.limit_most, limit_fits s.args.search.w s.args.code (omega (arith, on.frame.coded.K_most, size_fits)))
 
 -- the next set
-module _ (c : tie.In-loop invariant-loop decreases-loop) where
-  abbrev l : tie.At-loop invariant-loop decreases-loop
+module _ (c : tie.In-loop-at invariant-loop decreases-loop) where
+  abbrev l : tie.At-loop-at invariant-loop decreases-loop
   l = c.before
 
-  next : (x : Candidate) × (xs : List Candidate) × Searching (s l).args.search (mask l) (s l).args.code (v l) (s l).args.started.steps l.loop.at l.loop.end l.loop.steps l.loop.keys (x ∷ xs)
-  next = search_next (going l) c.loop-test.true
+  next : (x : Candidate) × (xs : List Candidate) × Searching (s l).args.search (mask l) (s l).args.code (v l) (s l).args.started.steps l.loop-at.at l.loop-at.end l.loop-at.steps l.loop-at.keys-1 (x ∷ xs)
+  next = search_next (going l) c.loop-at-test.true
 
-indices-of-requires : tie.Need-indices-of-requires invariant-loop decreases-loop
+indices-of-requires : tie.Need-indices_of-size-requires invariant-loop decreases-loop
 indices-of-requires c κs =
     let i = c.before.before in
-    (next_some (s (l i)).pre.0 (next i).2, refl)
+    (next_some (s (l i)).requires.0 (next i).2, refl)
 
 -- its indices
-module _ (c : tie.After-indices-of invariant-loop decreases-loop) where
-  abbrev i : tie.In-loop invariant-loop decreases-loop
+module _ (c : tie.After-indices_of-size invariant-loop decreases-loop) where
+  abbrev i : tie.In-loop-at invariant-loop decreases-loop
   i = c.before.before.before
 
-  abbrev h : tie.At-loop invariant-loop decreases-loop
+  abbrev h : tie.At-loop-at invariant-loop decreases-loop
   h = l i
 
   abbrev set : List ℕ
-  set = take c.indices-of.result c.indices-of.new.1.0
+  set = take c.indices_of-size.result c.indices_of-size.new.1.0
 
-  size_is : c.indices-of.result ≡ length set
-  size_is = c.indices-of.ensures.1 ∙ ap length (sym c.indices-of.ensures.0)
+  size_is : c.indices_of-size.result ≡ length set
+  size_is = c.indices_of-size.ensures.1 ∙ ap length (sym c.indices_of-size.ensures.0)
 
   set_is : set ≡ (next i).0.flips
-  set_is = c.indices-of.ensures.0 ∙ next_indices (s h).pre.0 (next i).2
+  set_is = c.indices_of-size.ensures.0 ∙ next_indices (s h).requires.0 (next i).2
 
   set-flips : Flips (mask h) (code_length (s h).args.code) set
-  set-flips = (next_flips (s h).pre.0 (next i).2 set_is).flips
+  set-flips = (next_flips (s h).requires.0 (next i).2 set_is).flips
 
-  room : c.indices-of.result ≤ length c.indices-of.new.1.0
-  room = omega (arith, size_is, length-take c.indices-of.result c.indices-of.new.1.0)
+  room : c.indices_of-size.result ≤ length c.indices_of-size.new.1.0
+  room = omega (arith, size_is, length-take c.indices_of-size.result c.indices_of-size.new.1.0)
 
   -- its lowest index is the first
-  low-is : get_or c.indices-of.new.1.0 0 0 ≡ get_or set 0 0
-  low-is = sym (get_or-take c.indices-of.result c.indices-of.new.1.0 0 0 (omega (arith, size_is, set-flips.some)))
+  low-is : get_or c.indices_of-size.new.1.0 0 0 ≡ get_or set 0 0
+  low-is = sym (get_or-take c.indices_of-size.result c.indices_of-size.new.1.0 0 0 (omega (arith, size_is, set-flips.some)))
 
-restart-index-requires : tie.Need-restart-index-requires invariant-loop decreases-loop
+restart-index-requires : tie.Need-restart_index-q-requires invariant-loop decreases-loop
 restart-index-requires c κs =
-    let coded = (s (h c)).pre.0.frame.coded in
+    let coded = (s (h c)).requires.0.frame.coded in
     (omega (arith, coded.mask_size, size_fits (h c)), omega (arith, coded.mask_size, low-is c, (set-flips c).below 0 (set-flips c).some))
 
 -- where its trial resumes
-module _ (c : tie.After-restart-index invariant-loop decreases-loop) where
-  abbrev j : tie.After-indices-of invariant-loop decreases-loop
+module _ (c : tie.After-restart_index-q invariant-loop decreases-loop) where
+  abbrev j : tie.After-indices_of-size invariant-loop decreases-loop
   j = c.before
 
-  abbrev m : tie.At-loop invariant-loop decreases-loop
+  abbrev m : tie.At-loop-at invariant-loop decreases-loop
   m = h j
 
-  resumes : c.restart-index.result ≡ restart_at (s m).args.search.restart (mask m) (8 * length (mask m)) (get_or (set j) 0 0)
-  resumes = c.restart-index.ensures ∙ ap (restart_at (s m).args.search.restart (mask m) (8 * length (mask m))) (low-is j)
+  resumes : c.restart_index-q.result ≡ restart_at (s m).args.search.restart (mask m) (8 * length (mask m)) (get_or (set j) 0 0)
+  resumes = c.restart_index-q.ensures ∙ ap (restart_at (s m).args.search.restart (mask m) (8 * length (mask m))) (low-is j)
 
-later-trial-requires : tie.Need-later-trial-requires invariant-loop decreases-loop
+later-trial-requires : tie.Need-later_trial-done-requires invariant-loop decreases-loop
 later-trial-requires c κs =
     let r = c.before.before.before.before.before.before in
-    let p = (s (m r)).pre in
-    let inv = (m r).loop.invariant in
+    let p = (s (m r)).requires in
+    let inv = (m r).loop-at.invariant in
     (trial_on p.0.frame inv.1.whole inv.2, later_pre inv.1 p.1.first_bits (set-flips (j r)) (s (m r)).args.search.restart p.0.frame.coded.mask_size (resumes r))
 
 -- its trial
-module _ (c : tie.After-later-trial invariant-loop decreases-loop) where
-  abbrev r : tie.After-restart-index invariant-loop decreases-loop
+module _ (c : tie.After-later_trial-done invariant-loop decreases-loop) where
+  abbrev r : tie.After-restart_index-q invariant-loop decreases-loop
   r = c.before.before.before.before.before.before.before
 
-  abbrev a : tie.At-loop invariant-loop decreases-loop
+  abbrev a : tie.At-loop-at invariant-loop decreases-loop
   a = m r
 
   abbrev is : List ℕ
@@ -155,102 +155,102 @@ module _ (c : tie.After-later-trial invariant-loop decreases-loop) where
   q = resumed_at (s a).args.search (mask a) (s a).args.code is
 
   abbrev after : Arrays
-  after = let last = c.later-trial.new.1.1.1.1.1.1 in arrays last.0 last.1.0 last.1.1.0 last.1.1.1.0
+  after = let last = c.later_trial-done.new.1.1.1.1.1.1 in arrays last.0 last.1.0 last.1.1.0 last.1.1.1.0
 
-  made-is : TrialPost longest (s a).args.code q o after c.later-trial.result
-  made-is = later_made a.loop.inv.1 (s a).pre.1.first_bits (set-flips (j r)) (s a).args.search.restart (s a).pre.0.frame.coded.mask_size (resumes r) c.later-trial.ensures.0
+  made-is : TrialPost longest (s a).args.code q o after c.later_trial-done.result
+  made-is = later_made a.loop-at.invariant.1 (s a).requires.1.first_bits (set-flips (j r)) (s a).args.search.restart (s a).requires.0.frame.coded.mask_size (resumes r) c.later_trial-done.ensures.0
 
-  took : c.later-trial.result.steps ≡ o.work.steps
+  took : c.later_trial-done.result.steps ≡ o.work.steps
   took = ap (λ (w : Work). w.steps) made-is.work
 
-  few : c.later-trial.result.steps ≤ most_steps
-  few = steps_fit (s a).pre.0.frame.coded.n_most (omega (arith, took, later_steps (mask a) (s a).args.code (v a) is q))
+  few : c.later_trial-done.result.steps ≤ most_steps
+  few = steps_fit (s a).requires.0.frame.coded.n_most (omega (arith, took, later_steps (mask a) (s a).args.code (v a) is q))
 
-trial-passes-requires : tie.Need-trial-passes-requires invariant-loop decreases-loop
+trial-passes-requires : tie.Need-trial_passes-requires invariant-loop decreases-loop
 trial-passes-requires c κs =
     let k = c.before.before.before in
     let w = (made-is k).whole in
-    ((s (a k)).pre.0.frame.coded, omega (arith, w.bits, size_fits (a k)), omega (arith, w.sums, size_fits (a k)))
+    ((s (a k)).requires.0.frame.coded, omega (arith, w.bits-1, size_fits (a k)), omega (arith, w.sums, size_fits (a k)))
 
 -- its check
-module _ (c : tie.After-trial-passes invariant-loop decreases-loop) where
-  abbrev k : tie.After-later-trial invariant-loop decreases-loop
+module _ (c : tie.After-trial_passes invariant-loop decreases-loop) where
+  abbrev k : tie.After-later_trial-done invariant-loop decreases-loop
   k = c.before.before.before.before
 
-  ok-is : c.trial-passes.result ≡ trial_passes (mask (a k)) (s (a k)).args.code (o k).bits
-  ok-is = c.trial-passes.ensures.0 ∙ ap (trial_passes (mask (a k)) (s (a k)).args.code) (made-is k).bits
+  ok-is : c.trial_passes.result ≡ trial_passes (mask (a k)) (s (a k)).args.code (o k).bits-1
+  ok-is = c.trial_passes.ensures.0 ∙ ap (trial_passes (mask (a k)) (s (a k)).args.code) (made-is k).bits-1
 
   -- the message stands in the place of the sums
-  same-room : length c.trial-passes.new.1.1.1.0 ≡ longest
-  same-room = c.trial-passes.auto.1.1.1.0 ∙ (made-is k).whole.sums
+  same-room : length c.trial_passes.new.1.1.1.0 ≡ longest
+  same-room = c.trial_passes.auto.1.1.1.0 ∙ (made-is k).whole.sums
 
-returns : tie.Need-returns invariant-loop decreases-loop
+returns : tie.Need-returns-then-trial_passes invariant-loop decreases-loop
 returns c =
     let p = c.before in
     let t = k p in
     let b = a t in
-    let on = (s b).pre in (
-      subst (λ (w : Verdict). Ran (mask b) (s b).args.code w (Passed (b.loop.at + 1 + 1) (b.loop.steps + t.later-trial.result.steps)) p.trial-passes.new.1.1.1.0)
-          (sym (on.1.goes_on _ ∙ search_passes on.0 (next (i (j (r t)))).2 (set_is (j (r t))) (took t) (sym (ok-is p) ∙ c.if1.true)))
-          (ran_passed on.0.frame.coded _ _ (made-is t).bits p.trial-passes.ensures.1 (later-bits (mask b) (s b).args.code (v b) (is t) (q t))),
+    let on = (s b).requires in (
+      subst (λ (w : Verdict). Ran (mask b) (s b).args.code w (Passed (b.loop-at.at + 1 + 1) (b.loop-at.steps + t.later_trial-done.result.steps)) p.trial_passes.new.1.1.1.0)
+          (sym (on.1.goes_on _ ∙ search_passes on.0 (next (i (j (r t)))).2 (set_is (j (r t))) (took t) (sym (ok-is p) ∙ c.if-trial_passes.true)))
+          (ran_passed on.0.frame.coded _ _ (made-is t).bits-1 p.trial_passes.ensures.1 (later-bits (mask b) (s b).args.code (v b) (is t) (q t))),
       same-room p,
     )
 
 -- what its failed trial generates
-module _ (c : tie.After-later-trial invariant-loop decreases-loop) where
+module _ (c : tie.After-later_trial-done invariant-loop decreases-loop) where
   abbrev coded-size : 8 * length (mask (a c)) ≡ code_length (s (a c)).args.code
-  coded-size = (s (a c)).pre.0.frame.coded.mask_size
+  coded-size = (s (a c)).requires.0.frame.coded.mask_size
 
-  resumes-at : (r c).restart-index.result ≡ q c
-  resumes-at = q_is (a c).loop.invariant.1 (s (a c)).pre.1.first_bits (set-flips (j (r c))) (s (a c)).args.search.restart coded-size (resumes (r c))
+  resumes-at : (r c).restart_index-q.result ≡ q c
+  resumes-at = q_is (a c).loop-at.invariant.1 (s (a c)).requires.1.first_bits (set-flips (j (r c))) (s (a c)).args.search.restart coded-size (resumes (r c))
 
-generate-requires : tie.Need-generate-requires invariant-loop decreases-loop
+generate-requires : tie.Need-generate-end-requires invariant-loop decreases-loop
 generate-requires c κs =
     let t = k c.before.before.before.before in
-    let p = (s (a t)).pre in (
+    let p = (s (a t)).requires in (
       omega (arith, coded-size t, size_fits (a t)),
       subst (λ (n : ℕ). Flips (mask (a t)) n (is t)) (sym (coded-size t)) (set-flips (j (r t))),
       leaves_pre p.0 (set-flips (j (r t))) p.2 (made-is t) (coded-size t) (resumes-at t),
       next_places p.0 (next (i (j (r t)))).2,
     )
 
-loop-again : tie.Need-loop-preserved invariant-loop decreases-loop
+loop-again : tie.Need-loop-at-preserved invariant-loop decreases-loop
 loop-again c =
     let w = c.before.before in
     let e = w.before.before.before.before in
     let p = e.before in
     let t = k p in
     let b = a t in
-    let on = (s b).pre in
+    let on = (s b).requires in
     let whole = (made-is t).whole in (
       (
         _,
-        search_goes_on on.0 (next (i (j (r t)))).2 (set_is (j (r t))) (took t) (sym (ok-is p) ∙ e.if1.false) (few t)
-            (subst (λ (new : List Candidate). Inserted (b.loop.at + 1) b.loop.end ((s b).args.search.limit - 1) w.generate.result (map set_key new) b.loop.keys w.generate.new.1.1.1.1.1.1.1.1.0)
-            (generated-is on.0 (set-flips (j (r t))) on.2 (made-is t) (coded-size t) (resumes-at t)) w.generate.ensures),
+        search_goes_on on.0 (next (i (j (r t)))).2 (set_is (j (r t))) (took t) (sym (ok-is p) ∙ e.if-trial_passes.false) (few t)
+            (subst (λ (new : List Candidate). Inserted (b.loop-at.at + 1) b.loop-at.end ((s b).args.search.limit - 1) w.generate-end.result (map set_key new) b.loop-at.keys-1 w.generate-end.new.1.1.1.1.1.1.1.1.0)
+            (generated-is on.0 (set-flips (j (r t))) on.2 (made-is t) (coded-size t) (resumes-at t)) w.generate-end.ensures),
       ),
-      plain_after b.loop.inv.1 on.1.first_bits (set-flips (j (r t))) (s b).args.search.restart (coded-size t) (resumes (r t)) t.later-trial.ensures.1 (size_fits b),
-      record { work = whole.work; bits = whole.bits; sums = same-room p; leaves = w.generate.auto.1.1.1.1.1.0 ∙ whole.leaves },
-      w.generate.auto.1.1.1.1.1.1.1.1.0 ∙ b.loop.inv.3,
+      plain_after b.loop-at.invariant.1 on.1.first_bits (set-flips (j (r t))) (s b).args.search.restart (coded-size t) (resumes (r t)) t.later_trial-done.ensures.1 (size_fits b),
+      record { work = whole.work; bits = whole.bits-1; sums = same-room p; leaves = w.generate-end.auto.1.1.1.1.1.0 ∙ whole.leaves },
+      w.generate-end.auto.1.1.1.1.1.1.1.1.0 ∙ b.loop-at.invariant.3,
     )
 
-returns-2 : tie.Need-returns-2 invariant-loop decreases-loop
+returns-2 : tie.Need-returns invariant-loop decreases-loop
 returns-2 c =
     let b = c.before in (
-      subst (λ (w : Verdict). Ran (mask b) (s b).args.code w (Failed (b.loop.at + 1) b.loop.steps) b.loop.sums)
-          (sym ((s b).requires.1.goes_on _ ∙ search_ends (going b) c.loop-test.false)) refl,
-      b.loop.invariant.2.sums,
+      subst (λ (w : Verdict). Ran (mask b) (s b).args.code w (Failed (b.loop-at.at + 1) b.loop-at.steps) b.loop-at.sums)
+          (sym ((s b).requires.1.goes_on _ ∙ search_ends (going b) c.loop-at-test.false)) refl,
+      b.loop-at.invariant.2.sums,
     )
 
-pub set-trials-spec : {M : Type 1} → statement M
-set-trials-spec =
+pub set_trials_spec : {M : Type 1} → statement M
+set_trials_spec =
     tie.close
     (tie.spec
     invariant-loop
     decreases-loop
     loop-holds
     (λ c. search rules)
-    (λ c. let i = c.before in omega (arith, i.loop-test.true, (going (l i)).places.count_most, (going (l i)).places.room_most))
+    (λ c. let i = c.before in omega (arith, i.loop-at-test.true, (going (l i)).places.count_most, (going (l i)).places.room_most))
     indices-of-requires
     (λ c. search rules)
     restart-index-requires
@@ -262,7 +262,7 @@ set-trials-spec =
     (λ c. omega (arith, at_most (a c.before)))
     (λ c. omega (arith, at_most (a c.before)))
     trial-passes-requires
-    (λ c. (a (k c.before)).loop.inv.3)
+    (λ c. (a (k c.before)).loop-at.invariant.3)
     returns
     (λ c. room (j (r (k c.before))))
     (λ c. size_is (j (r (k c.before.before))))
@@ -270,9 +270,9 @@ set-trials-spec =
     (λ c.
     let t = k c.before.before.before.before.before.before.before in
     let i' = i (j (r t)) in
-    omega (arith, i'.loop-test.taken, (going (l i')).places.count_most))
+    omega (arith, i'.loop-at-test.true, (going (l i')).places.count_most))
     loop-again
     (λ c. omega (arith, at_most c.before))
     (λ c. omega (arith, at_most c.before))
-    (λ c. c.before.loop.invariant.3)
+    (λ c. c.before.loop-at.invariant.3)
     returns-2)

@@ -6,14 +6,14 @@ use Rattle.transform.proofs.Folded.{xor_bytes-bits}
 use Rattle.transform.proofs.combine.Statement.{statement}
 use Rattle.transform.proofs.combine.Tie as tie
 
-xor-halves-requires : tie.Need-xor-halves-requires
+xor-halves-requires : tie.Need-xor_halves-requires
 xor-halves-requires c κs = let p = c.before.requires in record { whole = p.whole; fits = p.fits }
 
 returns : tie.Need-returns
 returns c =
     let s = c.before.before in
-    c.xor-halves.ensures
+    c.xor_halves.ensures
     ∙ ap (splice s.args.bits.now s.args.base) (xor_bytes-bits s.args.h _ _ (left-half s.requires).bits (right-half s.requires).bits)
 
-pub combine-spec : {M : Type 1} → statement M
-combine-spec = tie.close (tie.spec xor-halves-requires returns)
+pub combine_spec : {M : Type 1} → statement M
+combine_spec = tie.close (tie.spec xor-halves-requires returns)

@@ -20,5 +20,5 @@ returns c =
     let long = length-segment w s.args.base s.args.size (omega (arith, p.whole, p.fits)) ∙ s.requires.0 in
     c.fold.ensures ∙ ap (splice w s.args.base) (folded-bits s.args.layer _ long p.bits)
 
-pub transform-spec : {M : Type 1} → statement M
-transform-spec = tie.close (tie.spec fold-requires returns)
+pub transform_spec : {M : Type 1} → statement M
+transform_spec = tie.close (tie.spec fold-requires returns)

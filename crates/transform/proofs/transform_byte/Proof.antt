@@ -41,5 +41,5 @@ all-bytes = refl
 returns : tie.Need-returns
 returns c = eqb-true _ _ (each_at (λ x. eqb (computed x) (transformed_byte x)) 256 c.args.byte all-bytes c.ranges.byte.fits)
 
-pub transform-byte-spec : {M : Type 1} → statement M
-transform-byte-spec = tie.close (tie.spec returns)
+pub transform_byte_spec : {M : Type 1} → statement M
+transform_byte_spec = tie.close (tie.spec returns)

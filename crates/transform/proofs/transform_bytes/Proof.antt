@@ -9,22 +9,22 @@ use Rattle.transform.specs.Clauses.{transformed_byte}
 use Rattle.transform.proofs.transform_bytes.Statement.{statement}
 use Rattle.transform.proofs.transform_bytes.Tie as tie
 
-abbrev invariant-loop : tie.invariant-loop
+abbrev invariant-loop : tie.invariant-loop-m
 invariant-loop size bytes₀ m₀ bytes m = Filling (λ i. transformed_byte (get_or bytes₀ i 0)) 0 size bytes₀ bytes m
 
-abbrev decreases-loop : tie.decreases-loop
+abbrev decreases-loop : tie.decreases-loop-m
 decreases-loop size bytes₀ m₀ bytes m = size - m
 
-loop-again : tie.Need-loop-preserved invariant-loop decreases-loop
+loop-again : tie.Need-loop-m-preserved invariant-loop decreases-loop
 loop-again c =
-    let l = c.before.before.before.loop in
-    filling_more l.invariant l.m _ (omega arith) (omega arith) (c.transform-byte.ensures ∙ ap transformed_byte (filling_past l.invariant l.m 0 (omega arith)))
+    let l = c.before.before.before.loop-m in
+    filling_more l.invariant l.m _ (omega arith) (omega arith) (c.transform_byte.ensures ∙ ap transformed_byte (filling_past l.invariant l.m 0 (omega arith)))
 
 returns : tie.Need-returns invariant-loop decreases-loop
-returns c = filling_done c.before.loop.invariant (omega arith) (omega (arith, c.before.before.requires.whole, c.before.before.requires.fits))
+returns c = filling_done c.before.loop-m.invariant (omega arith) (omega (arith, c.before.before.requires.whole, c.before.before.requires.fits))
 
-pub transform-bytes-spec : {M : Type 1} → statement M
-transform-bytes-spec =
+pub transform_bytes_spec : {M : Type 1} → statement M
+transform_bytes_spec =
     tie.close
     (tie.spec
     invariant-loop

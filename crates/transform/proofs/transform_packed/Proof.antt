@@ -43,12 +43,12 @@ module _ {room size : ℕ} {w w₁ : List ℕ} (layer : ℕ) (pow : size ≡ 2 ^
 fold-requires : tie.Need-fold-requires
 fold-requires c κs =
     let s = c.before.before.before in
-    (s.requires.0, each-whole s.args.layer s.requires.0 s.requires.1 c.before.transform-bytes.ensures)
+    (s.requires.0, each-whole s.args.layer s.requires.0 s.requires.1 c.before.transform_bytes.ensures)
 
 returns : tie.Need-returns
 returns c =
     let s = c.before.before.before.before in
-    then-folded s.args.layer s.requires.0 s.requires.1 c.before.before.transform-bytes.ensures c.fold.ensures
+    then-folded s.args.layer s.requires.0 s.requires.1 c.before.before.transform_bytes.ensures c.fold.ensures
 
-pub transform-packed-spec : {M : Type 1} → statement M
-transform-packed-spec = tie.close (tie.spec (λ c κs. c.before.requires.1) fold-requires returns)
+pub transform_packed_spec : {M : Type 1} → statement M
+transform_packed_spec = tie.close (tie.spec (λ c κs. c.before.requires.1) fold-requires returns)

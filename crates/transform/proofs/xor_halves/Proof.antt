@@ -17,31 +17,31 @@ use Rattle.transform.proofs.xor_halves.Tie as tie
 abbrev xor_at : List ℕ → ℕ → ℕ → ℕ → ℕ
 xor_at bytes base h j = bit_xor (get_or (segment bytes base h) j 0) (get_or (segment bytes (base + h) h) j 0)
 
-abbrev invariant-loop : tie.invariant-loop
+abbrev invariant-loop : tie.invariant-loop-j
 invariant-loop bytes₀ base h j₀ bytes j = Filling (xor_at bytes₀ base h) base h bytes₀ bytes j
 
-abbrev decreases-loop : tie.decreases-loop
+abbrev decreases-loop : tie.decreases-loop-j
 decreases-loop bytes₀ base h j₀ bytes j = h - j
 
-loop-again : tie.Need-loop-preserved invariant-loop decreases-loop
+loop-again : tie.Need-loop-j-preserved invariant-loop decreases-loop
 loop-again c =
-    let l = c.before.before.before.loop in
+    let l = c.before.before.before.loop-j in
     let s = c.before.before.before.before in
-    let w = s.args.bytes.now in
+    let w = s.args.bytes-1.now in
     let base = s.args.base in
     let h = s.args.h in
     let j = l.j in
-    let old : (at : ℕ) → base + j ≤ at + j → get_or l.bytes (at + j) 0 ≡ get_or (segment w at h) j 0 =
+    let old : (at : ℕ) → base + j ≤ at + j → get_or l.bytes-1 (at + j) 0 ≡ get_or (segment w at h) j 0 =
     λ at k. filling_past l.invariant (at + j) 0 k ∙ sym (get_or-segment w at h j 0 (omega arith)) in
     filling_more l.invariant (base + j) _ (omega arith) (omega arith)
     (ap₂ bit_xor (old base (omega arith)) (old (base + h) (omega arith)))
 
 returns : tie.Need-returns invariant-loop decreases-loop
 unfolding xor_bytes
-returns c = filling_done c.before.loop.invariant (omega arith) (omega (arith, c.before.before.requires.whole, c.before.before.requires.fits))
+returns c = filling_done c.before.loop-j.invariant (omega arith) (omega (arith, c.before.before.requires.whole, c.before.before.requires.fits))
 
-pub xor-halves-spec : {M : Type 1} → statement M
-xor-halves-spec =
+pub xor_halves_spec : {M : Type 1} → statement M
+xor_halves_spec =
     tie.close
     (tie.spec
     invariant-loop

@@ -34,5 +34,5 @@ returns c =
     ap₂ bit_and a x ∙ and_bits (bit rule 0) ((hard v + bit rule 1) % 2) (bit_lt rule 0) (omega arith)
     ∙ by_bits v (bit rule 0) (bit rule 1) (bit_lt rule 0) (bit_lt rule 1)
 
-pub decide-spec : {M : Type 1} → statement M
-decide-spec = tie.close (tie.spec (λ c κs. search rules) returns)
+pub decide_spec : {M : Type 1} → statement M
+decide_spec = tie.close (tie.spec (λ c κs. search rules) returns)

@@ -5,9 +5,9 @@ use Rattle.values.proofs.Signs.{below-zero, not_below_zero}
 use Rattle.values.proofs.hard.Statement.{statement}
 use Rattle.values.proofs.hard.Tie as tie
 
-pub hard-spec : {M : Type 1} → statement M
-hard-spec =
+pub hard_spec : {M : Type 1} → statement M
+hard_spec =
     tie.close
     (tie.spec
-    (λ c. sym (below-zero w32 _ c.before.ranges.a c.if1.true))
-    (λ c. sym (not_below_zero w32 _ c.before.ranges.a c.if1.false)))
+    (λ c. sym (below-zero w32 _ c.before.ranges.a c.if-a-lt0.true))
+    (λ c. sym (not_below_zero w32 _ c.before.ranges.a c.if-a-lt0.false)))

@@ -14,19 +14,19 @@ use Rattle.values.proofs.smaller.Tie as tie
 test : (s : tie.Start) → lt_z (back w32 s.args.x) (back w32 s.args.y) ≡ ltb (nat_abs s.args.x) (nat_abs s.args.y)
 test s = less_is w32 _ _ s.ranges.x s.ranges.y ∙ ap₂ lt_z s.requires.0 s.requires.1
 
-returns : tie.Need-returns
+returns : tie.Need-returns-then-x-y
 returns c =
     let s = c.before in
-    let l = ltb-true (nat_abs s.args.x) (nat_abs s.args.y) (sym (test s) ∙ c.if1.true) in
+    let l = ltb-true (nat_abs s.args.x) (nat_abs s.args.y) (sym (test s) ∙ c.if-x-y.true) in
     let e : nat_abs s.args.x ≡ min (nat_abs s.args.x) (nat_abs s.args.y) = omega arith in
     back_is w32 _ s.ranges.x ∙ s.requires.0 ∙ ap pos e
 
-returns-2 : tie.Need-returns-2
+returns-2 : tie.Need-returns-else-x-y
 returns-2 c =
     let s = c.before in
-    let l = ltb-false (nat_abs s.args.x) (nat_abs s.args.y) (sym (test s) ∙ c.if1.false) in
+    let l = ltb-false (nat_abs s.args.x) (nat_abs s.args.y) (sym (test s) ∙ c.if-x-y.false) in
     let e : nat_abs s.args.y ≡ min (nat_abs s.args.x) (nat_abs s.args.y) = omega arith in
     back_is w32 _ s.ranges.y ∙ s.requires.1 ∙ ap pos e
 
-pub smaller-spec : {M : Type 1} → statement M
-smaller-spec = tie.close (tie.spec returns returns-2)
+pub smaller_spec : {M : Type 1} → statement M
+smaller_spec = tie.close (tie.spec returns returns-2)

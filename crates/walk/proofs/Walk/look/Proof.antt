@@ -13,7 +13,7 @@ more w bit = record { looks = w.looks + 1; ones = w.ones + bit }
 returns : tie.Need-returns
 returns c =
     let k = c.before.before in
-    let seen = k.mask-bit.ensures in
+    let seen = k.mask_bit-bit.ensures in
     (seen, ap (more k.before.before.args.self) seen)
 
 pub look_spec : {M : Type 1} → statement M
