@@ -26,4 +26,4 @@ is_bad_polynomial_spec =
     (tie.spec
     (λ c κs. search rules)
     (λ c. bad-is c.before.args.p c.before.args.r _ (or_first _ _ (eq-eqb _ _ c.if-p-eq0.true)))
-    (λ c. bad-is c.before.before.args.p c.before.before.args.r _ (c.is_IsWide.ensures ∙ or_second _ _ (ne_eqb _ _ c.before.if-p-eq0.false))))
+    (λ c. bad-is c.before.before.args.p c.before.before.args.r _ (c.is_wide.ensures ∙ or_second _ _ (ne_eqb _ _ c.before.if-p-eq0.false))))

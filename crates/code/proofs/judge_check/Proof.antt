@@ -34,8 +34,8 @@ r_small c = (outside-past _ 1 16 (sym c.before.is_outside.ensures ∙ c.if-is_ou
 bad-is : (c : tie.After-is_bad_polynomial) → c.is_bad_polynomial.result ≡ bad_polynomial (word (d1 c.before.before) 6) (get_or (d1 c.before.before) 5 0)
 bad-is c = c.is_bad_polynomial.ensures ∙ ap (λ (p : ℕ). bad_polynomial p (get_or (d1 c.before.before) 5 0)) c.before.read_word.ensures
 
-wide_is : (c : tie.After-is_wide) → c.is_IsWide.result ≡ is_wide (start_of (d2 c.before.before)) (get_or (d2 c.before.before) 5 0)
-wide_is c = c.is_IsWide.ensures ∙ ap (λ (s : ℕ). is_wide s (get_or (d2 c.before.before) 5 0)) c.before.start_of_lem.ensures
+wide_is : (c : tie.After-is_wide) → c.is_wide.result ≡ is_wide (start_of (d2 c.before.before)) (get_or (d2 c.before.before) 5 0)
+wide_is c = c.is_wide.ensures ∙ ap (λ (s : ℕ). is_wide s (get_or (d2 c.before.before) 5 0)) c.before.start_of.ensures
 
 past-1 : (c : tie.Else-is_outside) → past 0 (d1 c) ≡ past 1 (d1 c)
 past-1 c = judge_no _ _ _ (sym c.before.is_outside.ensures ∙ c.if-is_outside.false)

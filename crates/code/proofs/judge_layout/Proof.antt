@@ -66,7 +66,7 @@ past-2 : (c : tie.Else-read_word-d) → past 0 (d2 c) ≡ past 2 (d2 c)
 past-2 c = past-1 c.before.before ∙ judge_no _ _ _ (ap not (eq-eqb _ _ (sym c.before.read_word.ensures ∙ c.if-read_word-d.false)))
 
 past-3 : (c : tie.Else-not-is_description) → past 0 (d3 c) ≡ past 3 (d3 c)
-past-3 c = past-2 c.before.before.before ∙ judge_no _ _ _ (sym (ap not (kind-is c.before)) ∙ c.if-not-is_description.false)
+past-3 c = past-2 c.before.before.before ∙ judge_no _ _ _ (sym (ap not (kind-is c.before)) ∙ ap not c.if-not-is_description.false)
 
 past-4 : (c : tie.Else-is_outside) → past 0 (d4 c) ≡ past 4 (d4 c)
 past-4 c = past-3 c.before.before.before ∙ judge_no _ _ _ (sym c.before.is_outside.ensures ∙ c.if-is_outside.false)
@@ -82,7 +82,7 @@ judge_layout_spec =
     (λ c. sym (past-1 c.before.before ∙ judge_yes _ _ _ (ap not (ne_eqb _ _ (λ e. c.if-read_word-d.true (c.before.read_word.ensures ∙ e))))))
     (λ c κs. omega (arith, fields c.before.before))
     (λ c κs. search rules)
-    (λ c. sym (past-2 c.before.before.before ∙ judge_yes _ _ _ (sym (ap not (kind-is c.before)) ∙ c.if-not-is_description.true)))
+    (λ c. sym (past-2 c.before.before.before ∙ judge_yes _ _ _ (sym (ap not (kind-is c.before)) ∙ ap not c.if-not-is_description.true)))
     (λ c. omega (arith, fields c.before.before.before.before.before.before))
     (λ c. omega (arith, c.shared_slice_known-2-1.given 4))
     (λ c. omega (arith, c.shared_slice_known-2-1.given 4))

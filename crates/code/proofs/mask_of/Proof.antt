@@ -16,10 +16,10 @@ module _ (c : tie.After-mask_at-at) where
   abbrev d : List ℕ
   d = c.before.before.before.args.d.now
 
-  at-is : c.mask_at-at.result-1 ≡ mask_at (word d 2)
+  at-is : c.mask_at-at.result ≡ mask_at (word d 2)
   at-is = c.mask_at-at.ensures ∙ ap mask_at c.before.read_word.ensures
 
-  at-fits : c.mask_at-at.result-1 ≤ length d
+  at-fits : c.mask_at-at.result ≤ length d
   at-fits = omega (arith, at-is, c.before.before.before.requires)
 
 pub mask_of_spec : {M : Type 1} → statement M
@@ -31,4 +31,4 @@ mask_of_spec =
     at-fits
     at-fits
     (λ c. search rules)
-    (λ c. take_all _ _ (le_of_eq (length-drop c.before.mask_at-at.result-1 (d c.before))) ∙ ap (λ (at : ℕ). drop at (d c.before)) (at-is c.before)))
+    (λ c. take_all _ _ (le_of_eq (length-drop c.before.mask_at-at.result (d c.before))) ∙ ap (λ (at : ℕ). drop at (d c.before)) (at-is c.before)))

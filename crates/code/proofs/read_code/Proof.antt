@@ -38,7 +38,7 @@ returns-2 : tie.Need-returns
 returns-2 c =
     let e = c.before.before.before.before in
     let o = e.before in
-    rw (c.before.read_word.ensures, c.start_of_lem.ensures, count_is o)
+    rw (c.before.read_word.ensures, c.start_of.ensures, count_is o)
     (sym (past-test _ _ _ _ _ (le-ltb _ _ (subst (λ (x : ℕ). get_or (d o) 5 0 + 1 ≤ x) (count_is o) e.if-count-r.false)) ∙ past_all _ _))
 
 pub read_code_spec : {M : Type 1} → statement M

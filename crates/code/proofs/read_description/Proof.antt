@@ -37,10 +37,10 @@ module _ (d : List ℕ) where
 -- the bytes, and that the layout is fine
 module _ (c : tie.In-Fine) where
   abbrev d : List ℕ
-  d = c.before.before.before.before.args.d.now
+  d = c.args.d.now
 
   layout-fine : judge (layout d) ≡ Fine
-  layout-fine = sym c.before.before.judge_layout.ensures ∙ c.enum_told-1.given.1
+  layout-fine = sym c.judge_layout.ensures ∙ c.in-Fine.is
 
   laid : Laid d
   laid = fine_laid d layout-fine
@@ -49,30 +49,30 @@ returns : tie.Need-returns-in-Fine-judge_check
 unfolding describe_up_to
 returns c =
     let t = c.before in
-    let k = t.before.before in
+    let k = t.before in
     let a = k.before in
     c.read_code.ensures
     ∙ sym (ap (by (d a)) (append-fine (layout (d a)) (check (d a) ++ ones (d a)) (layout-fine a)
-    ∙ append-fine (check (d a)) (ones (d a)) (sym k.judge_check.ensures ∙ t.enum_told-in-Fine-judge_check-1.given.1)))
+    ∙ append-fine (check (d a)) (ones (d a)) (sym k.judge_check.ensures ∙ t.in-Fine-judge_check.is)))
 
 returns-2 : tie.Need-returns-in-Refused-judge_check
 unfolding describe_up_to
 returns-2 c =
-    let x = c.before in
-    let k = x.before.before in
+    let x = c in
+    let k = x.before in
     let a = k.before in
     sym (refused_by Refused (Accepted (code_of (d a))) _ _
     (append-fine (layout (d a)) (check (d a) ++ ones (d a)) (layout-fine a)
-    ∙ append_refused (check (d a)) (ones (d a)) _ (sym k.judge_check.ensures ∙ x.x-1.given.1)))
+    ∙ append_refused (check (d a)) (ones (d a)) _ (sym k.judge_check.ensures ∙ x.in-Refused-judge_check.is)))
 
 returns-3 : tie.Need-returns-in-Refused
 unfolding describe_up_to
 returns-3 c =
-    let x = c.before in
-    let l = x.before.before in
-    let d = l.before.before.args.d.now in
+    let x = c in
+    let l = x.before in
+    let d = l.args.d.now in
     sym (refused_by Refused (Accepted (code_of d)) _ _
-    (append_refused (layout d) (check d ++ ones d) _ (sym l.judge_layout.ensures ∙ x.x-in-Refused-judge_layout-1.given.1)))
+    (append_refused (layout d) (check d ++ ones d) _ (sym l.judge_layout.ensures ∙ x.in-Refused.is)))
 
 pub read_description_spec : {M : Type 1} → statement M
 read_description_spec =
@@ -82,7 +82,7 @@ read_description_spec =
     (λ c. search rules)
     (λ c κs. (laid c).header)
     (λ c. search rules)
-    (λ c κs. laid c.before.before.before)
+    (λ c κs. laid c.before.before)
     (λ c. search rules)
     (λ c. search rules)
     returns

@@ -39,5 +39,5 @@ record_in_spec =
     (λ c κs. search rules)
     (λ c. search rules)
     (λ c κs. search rules)
-    (λ c. sym (length-take-le c.before.min-size.result (bytes c.before) (omega (arith, size_is c.before))))
-    (λ c. ap (λ (k : ℕ). take k (bytes c.before)) (size_is c.before) ∙ take_min (word (bytes c.before) 0) (bytes c.before)))
+    (λ c. sym (length-take-le c.min-size.result (bytes c) (omega (arith, size_is c))))
+    (λ c. ap (λ (k : ℕ). take k (bytes c)) (size_is c) ∙ take_min (word (bytes c) 0) (bytes c)))

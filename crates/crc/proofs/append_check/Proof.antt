@@ -13,12 +13,12 @@ use Rattle.crc.proofs.append_check.Statement.{statement}
 use Rattle.crc.proofs.append_check.Tie as tie
 
 slice-aggregate-check : tie.Need-slice_bounds-check-end-2
-slice-aggregate-check c = let s = c.before.before in sym (length-take-le s.args.k s.args.message-1.now (omega arith))
+slice-aggregate-check c = let s = c.before.before in sym (length-take-le s.args.k s.args.message.now (omega arith))
 
 returns : tie.Need-returns
 returns c =
     let s = c.before.before.before.before.before.before.before in
-    let m = s.args.message-1.now in
+    let m = s.args.message.now in
     let register = c.before.before.before.before.check-register in
     c.before.before.put_bits.ensures
     ∙ splice-end m s.args.k (bits_of s.args.r register.result) (s.requires.1 ∙ ap (λ (n : ℕ). s.args.k + n) (sym (length-bits_of s.args.r register.result)))

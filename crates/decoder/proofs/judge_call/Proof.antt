@@ -21,16 +21,16 @@ module _ (s : tie.Start) (p : Decoder) where
 
 returns : tie.Need-returns-in-Fine
 returns c p own =
-    let j = c.before.before.before in
+    let j = c.before.before in
     let s = j.before.before.before in
     c.judge_rest.ensures p own
-    ∙ sym (append-fine (first s p) (second s p) (sym j.judge_channel.ensures ∙ c.before.enum_told-1.given.1))
+    ∙ sym (append-fine (first s p) (second s p) (sym j.judge_channel.ensures ∙ c.in-Fine.is))
 
 returns-2 : tie.Need-returns-in-Refused
 returns-2 c p own =
-    let j = c.before.before.before in
+    let j = c.before in
     let s = j.before.before.before in
-    sym (append_refused (first s p) (second s p) _ (sym j.judge_channel.ensures ∙ c.before.x-1.given.1))
+    sym (append_refused (first s p) (second s p) _ (sym j.judge_channel.ensures ∙ c.in-Refused.is))
 
 pub judge_call_spec : {M : Type 1} → statement M
 judge_call_spec =

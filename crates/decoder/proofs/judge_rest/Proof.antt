@@ -9,14 +9,14 @@ use Rattle.decoder.proofs.judge_rest.Tie as tie
 
 returns : tie.Need-returns-in-Fine
 returns c p own =
-    let x = c.before.before.before.before.args in
+    let x = c.args in
     c.judge_output.ensures
-    ∙ sym (append-fine (own_refusals p x.code) (output_refusals x.code x.output.now) (sym own ∙ c.before.enum_told-1.given.1))
+    ∙ sym (append-fine (own_refusals p x.code) (output_refusals x.code x.output.now) (sym own ∙ c.in-Fine.is))
 
 returns-2 : tie.Need-returns-in-Refused
 returns-2 c p own =
-    let x = c.before.before.before.before.args in
-    sym (append_refused (own_refusals p x.code) (output_refusals x.code x.output.now) _ (sym own ∙ c.before.own-1.given.1))
+    let x = c.args in
+    sym (append_refused (own_refusals p x.code) (output_refusals x.code x.output.now) _ (sym own ∙ c.in-Refused.is))
 
 pub judge_rest_spec : {M : Type 1} → statement M
 judge_rest_spec =

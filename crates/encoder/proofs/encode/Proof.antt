@@ -22,13 +22,13 @@ by d payload output a = on_description a (λ x. (Refused x, output)) (λ c. enco
 -- the code that was accepted
 module _ (c : tie.In-Accepted) where
   abbrev d : List ℕ
-  d = c.before.before.before.before.before.before.before.args.description.now
+  d = c.args.description.now
 
   abbrev code : Code
-  code = c.before.code-1.given.0.0
+  code = c.in-Accepted.FIELD0
 
   accepted : Accepted code ≡ describe d
-  accepted = sym c.before.code-1.given.1 ∙ c.before.before.before.read_description.ensures
+  accepted = sym c.in-Accepted.is ∙ c.read_description.ensures
 
   facts : Described d code
   facts = described d code (sym accepted)
@@ -36,22 +36,22 @@ module _ (c : tie.In-Accepted) where
 encode-by-requires : tie.Need-encode_by-requires
 encode-by-requires c κs =
     let a = c.before.before in
-    subst (λ (mask : List ℕ). Coded mask (code a)) (sym c.before.mask_of.ensures) (facts a).coded
+    subst (λ (mask : List ℕ). Coded mask (code a)) (sym c.mask_of.ensures) (facts a).coded
 
 returns : tie.Need-returns-in-Accepted
 unfolding encoded
 returns c =
     let a = c.before.before.before.before.before in
-    let s = a.before.before.before.before.before.before.before in
-    c.before.before.encode_by.ensures
-    ∙ ap (λ (mask : List ℕ). encoded_by mask (code a) s.args.payload.now s.args.output-1.now) c.before.before.before.before.mask_of.ensures
-    ∙ ap (by (d a) s.args.payload.now s.args.output-1.now) (accepted a)
+    let s = a.before.before.before.before.before in
+    c.encode_by.ensures
+    ∙ ap (λ (mask : List ℕ). encoded_by mask (code a) s.args.payload.now s.args.output.now) c.mask_of.ensures
+    ∙ ap (by (d a) s.args.payload.now s.args.output.now) (accepted a)
 
 returns-2 : tie.Need-returns-in-Refused
 unfolding encoded
 returns-2 c =
-    let s = c.before.before.before.before.before.before.before in
-    ap (by s.args.description.now s.args.payload.now s.args.output-1.now) (sym c.before.x-1.given.1 ∙ c.before.before.before.read_description.ensures)
+    let s = c.before.before.before.before.before in
+    ap (by s.args.description.now s.args.payload.now s.args.output.now) (sym c.in-Refused.is ∙ c.read_description.ensures)
 
 pub encode_spec : {M : Type 1} → statement M
 encode_spec =

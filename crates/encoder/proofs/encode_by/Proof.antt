@@ -16,10 +16,10 @@ module _ (c : tie.In-Fine) where
   abbrev s : tie.Start
   s = c.before.before.before.before.before.before.before
 
-  well_formed : WellFormed s.args.code s.args.payload.now s.args.output-1.now
+  well_formed : WellFormed s.args.code s.args.payload.now s.args.output.now
   well_formed =
-      fine_well_formed s.args.code s.args.payload.now s.args.output-1.now
-      (sym c.before.before.judge_encoding.ensures ∙ c.enum_told-1.given.1)
+      fine_well_formed s.args.code s.args.payload.now s.args.output.now
+      (sym c.judge_encoding.ensures ∙ c.in-Fine.is)
 
 write-codeword-requires : tie.Need-write_codeword-requires
 write-codeword-requires c κs = let e = c.before in ((s e).requires, well_formed e)
@@ -30,15 +30,15 @@ returns c =
     let e = k.before.before in
     let x = (s e).args in
     ap (λ (bytes : List ℕ). (Done, bytes)) k.write_codeword.ensures
-    ∙ sym (well_formed_answer x.code x.payload.now x.output-1.now x.mask.now (well_formed e))
+    ∙ sym (well_formed_answer x.code x.payload.now x.output.now x.mask.now (well_formed e))
 
 returns-2 : tie.Need-returns-in-Refused
 unfolding encoded_by
 returns-2 c =
-    let j = c.before.before.before in
-    let x = j.before.before.before.before.before.args in
-    sym (refused_by (λ i. (Refused i, x.output-1.now)) (Done, codeword x.mask.now x.code x.payload.now) _ _
-    (sym j.judge_encoding.ensures ∙ c.before.x-1.given.1))
+    let j = c.before in
+    let x = j.args in
+    sym (refused_by (λ i. (Refused i, x.output.now)) (Done, codeword x.mask.now x.code x.payload.now) _ _
+    (sym j.judge_encoding.ensures ∙ c.in-Refused.is))
 
 pub encode_by_spec : {M : Type 1} → statement M
 encode_by_spec =

@@ -13,7 +13,7 @@ use Rattle.encoder.proofs.message_of.Statement.{statement}
 use Rattle.encoder.proofs.message_of.Tie as tie
 
 -- the part lent for the payload's bits
-part_length : (c : tie.After-unpack-arg-1) → length (take c.before.before.before.args.code.k c.before.before.before.args.message-1.now) ≡ c.before.before.before.args.code.k
+part_length : (c : tie.After-unpack-arg-1) → length (take c.before.before.before.args.code.k c.before.before.before.args.message.now) ≡ c.before.before.before.args.code.k
 part_length c = length-take-le _ _ (omega (arith, c.before.before.before.requires.message_size))
 
 -- the message with the payload's bits in it
@@ -22,7 +22,7 @@ module _ (c : tie.After-unpack) where
   k = c.before.before.before.before.args.code.k
 
   abbrev message : List ℕ
-  message = c.before.before.before.before.args.message-1.now
+  message = c.before.before.before.before.args.message.now
 
   payload-bits : c.unpack.new.1.0 ≡ unpacked c.before.before.before.before.args.payload.now k
   payload-bits = c.unpack.ensures ∙ ap (unpacked _) (part_length c.before)

@@ -23,7 +23,7 @@ use Rattle.encoder.proofs.place_message.Statement.{statement}
 use Rattle.encoder.proofs.place_message.Tie as tie
 
 -- the part of the room that is lent for the message
-part_length : (c : tie.After-message_of-arg-1) → length (take (c.before.before.before.before.before.before.before.args.code.k + c.before.before.before.before.before.before.before.args.code.r) c.before.before.before.before.before.before.before.args.room-1.now) ≡ c.before.before.before.before.before.before.before.args.code.k + c.before.before.before.before.before.before.before.args.code.r
+part_length : (c : tie.After-message_of-arg-1) → length (take (c.before.before.before.before.before.before.before.args.code.k + c.before.before.before.before.before.before.before.args.code.r) c.before.before.before.before.before.before.before.args.room.now) ≡ c.before.before.before.before.before.before.before.args.code.k + c.before.before.before.before.before.before.before.args.code.r
 part_length c =
     let p = c.before.before.before.before.before.before.before.requires in
     length-take-le _ _ (omega (arith, p.coded.K_most, p.room_size))
@@ -58,12 +58,12 @@ module _ (c : tie.After-message_of) where
 
   -- what follows it
   abbrev rest : List ℕ
-  rest = drop size s.args.room-1.now
+  rest = drop size s.args.room.now
 
-  room-length : length (message ++ rest) ≡ length s.args.room-1.now
+  room-length : length (message ++ rest) ≡ length s.args.room.now
   room-length =
       length-append message rest
-      ∙ omega (arith, message-length, length-drop size s.args.room-1.now, s.requires.coded.K_most, s.requires.room_size)
+      ∙ omega (arith, message-length, length-drop size s.args.room.now, s.requires.coded.K_most, s.requires.room_size)
 
 place-requires : tie.Need-place-requires
 place-requires c κs =
@@ -73,7 +73,7 @@ place-requires c κs =
       record {
         short = mask_fits p.coded.n_most p.coded.mask_size;
         room = omega (arith, room-length m, p.room_size, p.coded.mask_size);
-        bits = bits-append (message m) (rest m) bits (bits-drop (size m) (s m).args.room-1.now p.room_bits);
+        bits = bits-append (message m) (rest m) bits (bits-drop (size m) (s m).args.room.now p.room_bits);
       },
       omega (arith, p.well_formed.output_size, p.coded.mask_size),
     )
@@ -83,7 +83,7 @@ returns c =
     let m = c.before.before.before.before.before.before.before in
     let p = (s m).requires in
     let mask = (s m).args.mask.now in
-    let output = (s m).args.output-1.now in
+    let output = (s m).args.output.now in
     let u : List ℕ = placed_message mask (s m).args.code (s m).args.payload.now in
     let size : length u ≡ code_length (s m).args.code = length-placed mask _ _ in
     let placed-is : placed mask (message m ++ rest m) (8 * length mask) ≡ u =

@@ -68,7 +68,7 @@ module _ {size n : ℕ} {w output : List ℕ} (p : TransformPre size n w output)
       word-put = ap (splice output 0) word_at ∙ splice-whole output word word-long ∙ word-is
 
 -- a code's packed bits fit the array
-fits-room : (s : tie.Start) → length s.args.output-1.now ≤ longest
+fits-room : (s : tie.Start) → length s.args.output.now ≤ longest
 fits-room s = omega (arith, mask_fits s.requires.n_most s.requires.output_size)
 
 copy-requires : tie.Need-copy-requires

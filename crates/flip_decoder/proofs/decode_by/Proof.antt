@@ -24,8 +24,8 @@ module _ (c : tie.In-Fine) where
   abbrev p : Decoder
   p = single s.args.terms.limit
 
-  fine : judge (refusals_of p s.args.code s.args.channel.now s.args.output-1.now) ≡ Fine
-  fine = let j = c.before.before in sym (j.judge_call.ensures p j.before.before.judge_limit-own.ensures) ∙ c.enum_told-1.given.1
+  fine : judge (refusals_of p s.args.code s.args.channel.now s.args.output.now) ≡ Fine
+  fine = let j = c.before in sym (j.judge_call.ensures p j.judge_limit-own.ensures) ∙ c.in-Fine.is
 
 returns : tie.Need-returns-in-Fine
 returns c =
@@ -33,23 +33,23 @@ returns c =
     let t = d.before.before in
     let x = (s t).args in
     d.decode_in.ensures
-    ∙ ap (λ (os : List Out). answer_of x.mask.now x.code x.output-1.now (run (trial_passes x.mask.now x.code) 0 0 os)) (trials_are x.terms x.mask.now x.code (channel_values x.channel.now))
-    ∙ sym (fine-answer (p t) x.terms.restart x.mask.now x.code x.channel.now x.output-1.now (fine t))
+    ∙ ap (λ (os : List Out). answer_of x.mask.now x.code x.output.now (run (trial_passes x.mask.now x.code) 0 0 os)) (trials_are x.terms x.mask.now x.code (channel_values x.channel.now))
+    ∙ sym (fine-answer (p t) x.terms.restart x.mask.now x.code x.channel.now x.output.now (fine t))
 
 returns-2 : tie.Need-returns-in-Refused
 returns-2 c =
-    let j = c.before.before.before in
-    let x = j.before.before.before.before.before.before.args in
+    let j = c.before in
+    let x = j.args in
     let p : Decoder = single x.terms.limit in
-    sym (refused_answer p x.terms.restart x.mask.now x.code x.channel.now x.output-1.now _
-    (sym (j.judge_call.ensures p j.before.before.judge_limit-own.ensures) ∙ c.before.x-1.given.1))
+    sym (refused_answer p x.terms.restart x.mask.now x.code x.channel.now x.output.now _
+    (sym (j.judge_call.ensures p j.judge_limit-own.ensures) ∙ c.in-Refused.is))
 
 -- what the run asks
 decode-in-requires : tie.Need-decode_in-requires
 decode-in-requires c κs =
     let t = c.before in
     let x = (s t).args in
-    let w = (spelt_out (p t) x.code x.channel.now x.output-1.now).1 (fine t) in
+    let w = (spelt_out (p t) x.code x.channel.now x.output.now).1 (fine t) in
     record {
       frame = record { coded = (s t).requires; channel_size = w.channel_size; in_range = w.in_range };
       limits = record { least = w.allowed.0; most = w.allowed.1 };
@@ -60,8 +60,8 @@ pub decode_by_spec : {M : Type 1} → statement M
 decode_by_spec =
     tie.close
     (tie.spec
-    (λ c κs. let p = c.before.before.before.requires in omega (arith, p.K_most, fits p.n_most))
-    (λ c κs. c.before.before.before.before.before.requires.n_most)
+    (λ c κs. let p = c.requires in omega (arith, p.K_most, fits p.n_most))
+    (λ c κs. c.requires.n_most)
     (λ c. search rules)
     decode-in-requires
     (λ c. search rules)

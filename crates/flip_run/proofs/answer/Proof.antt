@@ -20,22 +20,22 @@ slice-aggregate-pack c = sym (part_length c.before.before.before.before.before.b
 
 pack-requires : tie.Need-pack-requires
 pack-requires c κs =
-    let t = c.before.before.before in
+    let t = c.before in
     let s = t.before.before.before.before in
-    (subst (λ (e : Ended). PassedBits e (take s.args.k s.args.message.now)) t.ended-1.given.1 s.requires.1, s.requires.2 ∙ ap bytes_for (sym (part_length s)))
+    (subst (λ (e : Ended). PassedBits e (take s.args.k s.args.message.now)) t.in-Passed.is s.requires.1, s.requires.2 ∙ ap bytes_for (sym (part_length s)))
 
 returns : tie.Need-returns-in-Passed
 returns c =
-    let t = c.before.before.before.before.before.before in
-    let x = t.before.before.before.before.args in
-    ap (λ (bytes : List ℕ). (Accepted t.ended-1.given.0.0 t.ended-1.given.0.1.0, bytes)) c.before.before.pack.ensures
-    ∙ sym (ap (λ (e : Ended). answered x.k e x.message.now x.output-1.now) t.ended-1.given.1)
+    let t = c.before.before.before.before in
+    let x = t.args in
+    ap (λ (bytes : List ℕ). (Accepted t.in-Passed.FIELD0 t.ended-1.given.0.1.0, bytes)) c.pack.ensures
+    ∙ sym (ap (λ (e : Ended). answered x.k e x.message.now x.output.now) t.in-Passed.is)
 
 returns-2 : tie.Need-returns-in-Failed
 returns-2 c =
-    let t = c.before in
-    let x = t.before.before.before.before.args in
-    sym (ap (λ (e : Ended). answered x.k e x.message.now x.output-1.now) t.ended-in-Failed-1.given.1)
+    let t = c in
+    let x = t.args in
+    sym (ap (λ (e : Ended). answered x.k e x.message.now x.output.now) t.in-Failed.is)
 
 pub answer_spec : {M : Type 1} → statement M
 answer_spec =

@@ -44,7 +44,7 @@ returns c =
     let r = a.before.before.before in
     let x = (s r).args in
     a.answer.ensures
-    ∙ ran_answers x.mask.now x.code x.output-1.now (verdict_by x.terms x.mask.now x.code x.channel.now) r.run_trials-ended.result (message r) (ran r)
+    ∙ ran_answers x.mask.now x.code x.output.now (verdict_by x.terms x.mask.now x.code x.channel.now) r.run_trials-ended.result (message r) (ran r)
 
 pub decode_in_spec : {M : Type 1} → statement M
 decode_in_spec =

@@ -37,7 +37,7 @@ abbrev invariant-loop : tie.invariant-loop-made
 invariant-loop mask code channel start first values rules₀ work₀ sums₀ bits₀ leaves₀ restart limit size made₀ steps₀ key₀ rules work sums bits leaves made steps key =
     let v = channel_values channel in
     LoopInvariant (trial_passes mask code) (λ i. later_trial restart mask code v (i ∷ [])) (flip_order mask code v) limit start made steps
-    × LastKey (first_trial mask code v).leaves-1 (flip_order mask code v) (made - 1) (to_z w32 key)
+    × LastKey (first_trial mask code v).leaves (flip_order mask code v) (made - 1) (to_z w32 key)
     × PlainRules longest mask code rules
     × Whole longest (arrays work bits sums leaves)
 
@@ -48,7 +48,7 @@ decreases-loop mask code channel start first values rules₀ work₀ sums₀ bit
 make-keys-requires : tie.Need-make_keys-requires invariant-loop decreases-loop
 make-keys-requires c κs =
     let p = c.before.before.before.requires in
-    keys_pre p.0 (fits p.0.coded.n_most) p.2.leaves-1
+    keys_pre p.0 (fits p.0.coded.n_most) p.2.leaves
 
 loop-holds : tie.Need-loop-made-init invariant-loop decreases-loop
 loop-holds c =
@@ -91,7 +91,7 @@ module _ (c : tie.At-loop-made invariant-loop decreases-loop) where
   keyed : FirstKeys mask s.args.code s.args.channel.now keys
   keyed =
       let on = s.requires.0 in
-      keys_made (keys_pre on size_fits s.requires.2.leaves-1) on.coded.mask_size s.requires.2.leaves-1.values c.before.make_keys.ensures
+      keys_made (keys_pre on size_fits s.requires.2.leaves) on.coded.mask_size s.requires.2.leaves.values c.before.make_keys.ensures
 
 -- the next key
 module _ (c : tie.After-next_key-key invariant-loop decreases-loop) where
@@ -173,7 +173,7 @@ trial-passes-requires : tie.Need-trial_passes-requires invariant-loop decreases-
 trial-passes-requires c κs =
     let t = c.before.before.before in
     let w = (made-is t).whole in
-    ((s (at t)).requires.0.coded, omega (arith, w.bits-1, size_fits (at t)), omega (arith, w.sums, size_fits (at t)))
+    ((s (at t)).requires.0.coded, omega (arith, w.bits, size_fits (at t)), omega (arith, w.sums, size_fits (at t)))
 
 -- its check
 module _ (c : tie.After-trial_passes invariant-loop decreases-loop) where
@@ -183,8 +183,8 @@ module _ (c : tie.After-trial_passes invariant-loop decreases-loop) where
   abbrev a : tie.At-loop-made invariant-loop decreases-loop
   a = at trial
 
-  ok-is : c.trial_passes.result ≡ trial_passes (mask a) (s a).args.code (o trial).bits-1
-  ok-is = c.trial_passes.ensures.0 ∙ ap (trial_passes (mask a) (s a).args.code) (made-is trial).bits-1
+  ok-is : c.trial_passes.result ≡ trial_passes (mask a) (s a).args.code (o trial).bits
+  ok-is = c.trial_passes.ensures.0 ∙ ap (trial_passes (mask a) (s a).args.code) (made-is trial).bits
 
   -- the message stands in the place of the sums
   same-room : length c.trial_passes.new.1.1.1.0 ≡ longest
@@ -197,7 +197,7 @@ returns c =
     let f = found (trial p) in (
       subst (λ (w : Verdict). Ran (mask l) (s l).args.code w (Passed (l.loop-made.made + 1) (l.loop-made.steps + (trial p).later_trial-done.result.steps)) p.trial_passes.new.1.1.1.0)
           (sym ((s l).requires.2.later.goes_on _ ∙ loop_passes (going l) (long l) (turn (k f)).loop-made-test.true (next f) (took (trial p)) (sym (ok-is p) ∙ c.if-trial_passes.true)))
-          (ran_passed (s l).requires.0.coded _ _ (made-is (trial p)).bits-1 p.trial_passes.ensures.1 (later-bits (mask l) (s l).args.code (v l) (i f ∷ []) (q (trial p)))),
+          (ran_passed (s l).requires.0.coded _ _ (made-is (trial p)).bits p.trial_passes.ensures.1 (later-bits (mask l) (s l).args.code (v l) (i f ∷ []) (q (trial p)))),
       same-room p,
     )
 
@@ -232,7 +232,7 @@ flip_trials_spec =
     loop-holds
     (λ c κs.
     let l = c.before.before.before in
-    omega (arith, (s l).requires.0.channel_size, size_fits l, l.before.make_keys.auto.1.0, (s l).requires.2.leaves-1.whole))
+    omega (arith, (s l).requires.0.channel_size, size_fits l, l.before.make_keys.auto.1.0, (s l).requires.2.leaves.whole))
     (λ c κs. next_positive (keyed (head c)) (head c).loop-made.invariant.1 (here c) (least c))
     restart-index-requires
     (λ c. search rules)

@@ -14,24 +14,24 @@ use Rattle.flip_run.proofs.run_trials.Tie as tie
 
 begin-requires : tie.Need-begin-requires
 begin-requires c κs =
-    let p = c.before.before.before.before.before.before.before.requires in
+    let p = c.requires in
     (p.0, refl, record { work = refl; bits = refl; sums = p.2; leaves = refl })
 
 returns-2 : tie.Need-returns-in-Passed
 returns-2 c =
-    let t = c.before in
-    let e = subst (BeginPost _ _ _ _ _ _) t.trial-1.given.1 t.before.before.begin.ensures in
+    let t = c in
+    let e = subst (BeginPost _ _ _ _ _ _) t.in-Passed.is t.begin.ensures in
     e _
 
 returns : tie.Need-returns-then-terms-eq1
 returns c =
-    let t = c.before.before.before in
-    let b = t.before.before in
+    let t = c.before.before in
+    let b = t.before in
     let s = b.before.before.before.before.before.before.before.before in
     let x = s.args in
     let on = s.requires.0 in
     let made = t.trials-1.given.0 in
-    let e = subst (BeginPost _ _ _ _ _ _) t.trials-1.given.1 b.begin.ensures in (
+    let e = subst (BeginPost _ _ _ _ _ _) t.in-Failed.is b.begin.ensures in (
       subst (λ (w : Verdict). Ran x.mask.now x.code w (Failed made.0 made.1.0) b.begin.new.1.1.1.1.1.1.1.0)
           (sym (e.1.later.goes_on _ ∙ loop_ends (loop_starts s.requires.1.least (steps_fit on.coded.n_most e.1.later.start_most)) (order_long on s.requires.1.most) (omega (arith, c.if-terms-eq1.true))))
           (ap (λ (m : ℕ). Failed m made.1.0) e.0),
@@ -40,10 +40,10 @@ returns c =
 
 flip-trials-requires : tie.Need-flip_trials-requires
 flip-trials-requires c κs =
-    let t = c.before.before.before.before.before.before.before.before in
-    let b = t.before.before in
+    let t = c.before.before.before.before.before.before.before in
+    let b = t.before in
     let s = b.before.before.before.before.before.before.before.before in
-    let e = subst (BeginPost _ _ _ _ _ _) t.trials-1.given.1 b.begin.ensures in
+    let e = subst (BeginPost _ _ _ _ _ _) t.in-Failed.is b.begin.ensures in
     (s.requires.0, s.requires.1, e.1)
 
 pub run_trials_spec : {M : Type 1} → statement M

@@ -35,12 +35,12 @@ module _ (bits first : List ℕ) (i x zeros : ℕ) (fits : i + 1 + zeros ≤ len
 returns : tie.Need-returns-then-q-i
 returns c =
     let s = c.before.before.before.before.args in
-    c.copy.ensures ∙ ap (splice s.bits-1.now 0) (sym (forced-before s.first.now s.i s.q (omega arith) (omega arith)))
+    c.copy.ensures ∙ ap (splice s.bits.now 0) (sym (forced-before s.first.now s.i s.q (omega arith) (omega arith)))
 
 clear-bits-requires : tie.Need-clear_bits-requires
 clear-bits-requires c κs =
     let s = c.before.before.before.before.before.before in
-    let e = copied-length s.args.bits-1.now s.args.first.now s.args.i 0 0 (omega arith) (omega arith) c.before.before.copy-2.ensures in
+    let e = copied-length s.args.bits.now s.args.first.now s.args.i 0 0 (omega arith) (omega arith) c.before.before.copy-2.ensures in
     (omega arith, simp length-set (omega arith))
 
 returns-2 : tie.Need-returns
@@ -49,8 +49,8 @@ returns-2 c =
     let first = s.args.first.now in
     let i = s.args.i in
     let q = s.args.q in
-    cleared s.args.bits-1.now first i _ (q - (i + 1)) (omega arith) (omega arith) c.before.before.before.copy-2.ensures c.clear_bits.ensures
-    ∙ ap (splice s.args.bits-1.now 0) (sym (forced-past first i q (omega arith) (omega arith)))
+    cleared s.args.bits.now first i _ (q - (i + 1)) (omega arith) (omega arith) c.before.before.before.copy-2.ensures c.clear_bits.ensures
+    ∙ ap (splice s.args.bits.now 0) (sym (forced-past first i q (omega arith) (omega arith)))
 
 pub put_prefix_spec : {M : Type 1} → statement M
 put_prefix_spec =

@@ -13,10 +13,10 @@ abbrev at : tie.Start → Restart → ℕ
 at s r = restart_at r s.args.mask.now (8 * length s.args.mask.now) s.args.lowest
 
 returns-2 : tie.Need-returns-in-Half
-returns-2 c = c.half_index.ensures ∙ ap (at c.before.before.before.before) (sym c.before.enum_told-in-Half-1.given.1)
+returns-2 c = c.half_index.ensures ∙ ap (at c.before.before.before) (sym c.in-Half.is)
 
 returns-3 : tie.Need-returns-in-AfterFlip
-returns-3 c = c.first_from.ensures ∙ ap (at c.before.before.before.before) (sym c.before.enum_told-in-AfterFlip-1.given.1)
+returns-3 c = c.first_from.ensures ∙ ap (at c.before.before.before) (sym c.in-AfterFlip.is)
 
 pub restart_index_spec : {M : Type 1} → statement M
 restart_index_spec =

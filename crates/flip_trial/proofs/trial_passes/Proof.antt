@@ -20,7 +20,7 @@ module _ (c : tie.After-take_out) where
   size = information_count s.args.code
 
   taken_is : take size c.take_out.new.1.1.0 ≡ message_in s.args.mask.now s.args.code (take (code_length s.args.code) s.args.bits.now)
-  taken_is = message-at s.requires.0 s.args.bits.now s.args.message-1.now _ s.requires.2 c.take_out.ensures.1
+  taken_is = message-at s.requires.0 s.args.bits.now s.args.message.now _ s.requires.2 c.take_out.ensures.1
 
   taken-length : length (take size c.take_out.new.1.1.0) ≡ size
   taken-length = ap length taken_is ∙ length-message s.requires.0 _

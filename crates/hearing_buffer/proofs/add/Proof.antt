@@ -16,21 +16,21 @@ use Rattle.hearing_buffer.proofs.add.Tie as tie
 -- the answer and the bytes, by the code of the state
 abbrev by : tie.Start → Description → Kept × List ℕ
 by s a =
-    let b = s.args.buffer-1.now in
+    let b = s.args.buffer.now in
     answer_in (on_description a (refused_in (state_in b)) (λ c. added_under c (state_in b) s.args.channel.now)) b
 
 returns : tie.Need-returns-in-Accepted
 returns c =
     let u = c.before.before in
     let t = u.before.before in
-    let r = t.before.before.before in
-    u.add_under.ensures ∙ sym (ap (by r.before.before.before.before) (sym r.Code-in.ensures ∙ t.before.code-1.given.1))
+    let r = t.before in
+    u.add_under.ensures ∙ sym (ap (by r.before.before.before.before) (sym r.Code-in.ensures ∙ t.in-Accepted.is))
 
 returns-2 : tie.Need-returns-in-Refused
 unfolding refused_or
 returns-2 c =
-    let r = c.before.before.before in
-    sym (ap (by r.before.before.before.before) (sym r.Code-in.ensures ∙ c.before.x-1.given.1))
+    let r = c.before in
+    sym (ap (by r.before.before.before.before) (sym r.Code-in.ensures ∙ c.in-Refused.is))
 
 pub add_spec : {M : Type 1} → statement M
 add_spec =
@@ -38,7 +38,7 @@ add_spec =
     (tie.spec
     (λ c κs. search rules)
     (λ c. search rules)
-    (λ c κs. let t = c.before in sym t.before.before.before.Code-in.ensures ∙ t.before.code-1.given.1)
+    (λ c κs. let t = c.before in sym t.Code-in.ensures ∙ t.in-Accepted.is)
     (λ c. search rules)
     (λ c. search rules)
     returns

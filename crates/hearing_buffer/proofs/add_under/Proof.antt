@@ -26,7 +26,7 @@ use Rattle.hearing_buffer.proofs.add_under.Tie as tie
 
 module _ (s : tie.Start) where
   abbrev b : List ℕ
-  b = s.args.buffer-1.now
+  b = s.args.buffer.now
 
   size : length b ≡ hearing_size
   size = code-size b s.args.code s.requires
@@ -59,10 +59,10 @@ module _ (s : tie.Start) where
 -- the answer and the bytes if no refusal applies
 module _ (c : tie.In-Fine) where
   abbrev start : tie.Start
-  start = c.before.before.before.before.before.before
+  start = c.before.before.before.before.before
 
   fine : judge (add_refusals start.args.code (count start) start.args.channel.now) ≡ Fine
-  fine = sym c.before.before.judge_add.ensures ∙ c.enum_told-1.given.1
+  fine = sym c.judge_add.ensures ∙ c.in-Fine.is
 
   room : count start < 255
   room =
@@ -83,10 +83,10 @@ returns c =
 returns-2 : tie.Need-returns-in-Refused
 unfolding refused_or
 returns-2 c =
-    let j = c.before.before.before in
+    let j = c.before in
     let s = j.before.before.before.before in
     let x = s.args in
-    sym (ap (by s (state s)) (sym j.judge_add.ensures ∙ c.before.x-1.given.1))
+    sym (ap (by s (state s)) (sym j.judge_add.ensures ∙ c.in-Refused.is))
     ∙ ap (λ (t : State). by s t (judge (add_refusals x.code t.hearing.count x.channel.now))) (state_parts (b s) (size s))
 
 pub add_under_spec : {M : Type 1} → statement M

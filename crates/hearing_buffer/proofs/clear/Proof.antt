@@ -21,27 +21,27 @@ use Rattle.hearing_buffer.proofs.clear.Tie as tie
 
 -- the answer and the bytes, by the code of the state
 abbrev by : tie.Start → Description → Kept × List ℕ
-by s a = let b = s.args.buffer-1.now in answer_in (on_description a (refused_in (state_in b)) (λ c. (Fine, with_hearing (state_in b) fresh))) b
+by s a = let b = s.args.buffer.now in answer_in (on_description a (refused_in (state_in b)) (λ c. (Fine, with_hearing (state_in b) fresh))) b
 
 -- a buffer whose state is not refused
-size : (t : tie.In-Accepted) → length t.before.before.before.before.before.args.buffer-1.now ≡ hearing_size
-size t = code-size t.before.before.before.before.before.args.buffer-1.now _ (sym t.before.before.Code-in.ensures ∙ t.enum_told-1.given.1)
+size : (t : tie.In-Accepted) → length t.args.buffer.now ≡ hearing_size
+size t = code-size t.args.buffer.now _ (sym t.Code-in.ensures ∙ t.in-Accepted.is)
 
 returns : tie.Need-returns-in-Accepted
 unfolding refused_or
 returns c =
     let z = c.before.before in
     let t = z.before.before in
-    let r = t.before.before in
+    let r = t.before in
     let s = r.before.before.before in
-    ap (λ (l : List ℕ). (Done 0, l)) (z.clear_from.ensures ∙ clear_bytes s.args.buffer-1.now (size t))
-    ∙ sym (ap (by s) (sym r.Code-in.ensures ∙ t.enum_told-1.given.1))
+    ap (λ (l : List ℕ). (Done 0, l)) (z.clear_from.ensures ∙ clear_bytes s.args.buffer.now (size t))
+    ∙ sym (ap (by s) (sym r.Code-in.ensures ∙ t.in-Accepted.is))
 
 returns-2 : tie.Need-returns-in-Refused
 unfolding refused_or
 returns-2 c =
-    let r = c.before.before.before in
-    sym (ap (by r.before.before.before) (sym r.Code-in.ensures ∙ c.before.x-1.given.1))
+    let r = c.before in
+    sym (ap (by r.before.before.before) (sym r.Code-in.ensures ∙ c.in-Refused.is))
 
 pub clear_spec : {M : Type 1} → statement M
 clear_spec =

@@ -19,19 +19,19 @@ abbrev by : tie.Start → Description → Decoded × List ℕ
 by s a =
     let x = s.args in
     let t = state_in x.buffer.now in
-    on_description a (λ r. (Refused r, x.output-1.now)) (λ c. decoded_as (single x.terms.limit) x.terms.restart (description_of t) (combined c t.hearing) x.output-1.now)
+    on_description a (λ r. (Refused r, x.output.now)) (λ c. decoded_as (single x.terms.limit) x.terms.restart (description_of t) (combined c t.hearing) x.output.now)
 
 returns : tie.Need-returns-in-Accepted
 returns c =
     let d = c.before.before in
     let t = d.before.before in
-    let r = t.before.before.before in
-    d.decode_under.ensures ∙ sym (ap (by r.before.before.before) (sym r.Code-in.ensures ∙ t.before.code-1.given.1))
+    let r = t.before in
+    d.decode_under.ensures ∙ sym (ap (by r.before.before.before) (sym r.Code-in.ensures ∙ t.in-Accepted.is))
 
 returns-2 : tie.Need-returns-in-Refused
 returns-2 c =
-    let r = c.before.before.before in
-    sym (ap (by r.before.before.before) (sym r.Code-in.ensures ∙ c.before.x-1.given.1))
+    let r = c.before in
+    sym (ap (by r.before.before.before) (sym r.Code-in.ensures ∙ c.in-Refused.is))
 
 pub decode_spec : {M : Type 1} → statement M
 decode_spec =
@@ -39,7 +39,7 @@ decode_spec =
     (tie.spec
     (λ c κs. search rules)
     (λ c. search rules)
-    (λ c κs. let t = c.before in sym t.before.before.before.Code-in.ensures ∙ t.before.code-1.given.1)
+    (λ c κs. let t = c.before in sym t.Code-in.ensures ∙ t.in-Accepted.is)
     (λ c. search rules)
     (λ c. search rules)
     returns

@@ -40,7 +40,7 @@ returns c =
     let s = d.before.before.before.before.before.before in
     let x = s.args in
     d.decode_values.ensures
-    ∙ ap (λ (t : State). decoded_as (single x.terms.limit) x.terms.restart (description_of t) (combined x.code t.hearing) x.output-1.now) (state_parts (b s) (size s))
+    ∙ ap (λ (t : State). decoded_as (single x.terms.limit) x.terms.restart (description_of t) (combined x.code t.hearing) x.output.now) (state_parts (b s) (size s))
 
 pub decode_under_spec : {M : Type 1} → statement M
 decode_under_spec =

@@ -23,7 +23,7 @@ use Rattle.hearing_buffer.proofs.open.Tie as tie
 -- the answer and the bytes, by the test of the size and what the description says
 abbrev by : tie.Start → Bool → Description → Kept × List ℕ
 by s t a =
-    let b = s.args.buffer-1.now in
+    let b = s.args.buffer.now in
     cond t (answer_in (on_description a (refused_in no_state) (λ c. (Fine, state_of s.args.description.now fresh))) b) (Refused (Alone 40), b)
 
 returns : tie.Need-returns-then-buffer-ne-HEARING_SIZE
@@ -34,21 +34,21 @@ module _ (r : tie.After-read_description) where
   abbrev start : tie.Start
   start = r.before.before.before.before
 
-  described-as : (a : Description) → r.read_description.result ≡ a → by start true a ≡ opened_in start.args.description.now start.args.buffer-1.now
+  described-as : (a : Description) → r.read_description.result ≡ a → by start true a ≡ opened_in start.args.description.now start.args.buffer.now
   described-as a e =
       ap (by start true) (sym e ∙ r.read_description.ensures)
-      ∙ ap (λ (t : Bool). by start t (describe start.args.description.now)) (sym (eq-eqb _ _ r.before.if-buffer-ne-HEARING_SIZE.left))
+      ∙ ap (λ (t : Bool). by start t (describe start.args.description.now)) (sym (eq-eqb _ _ r.if-buffer-ne-HEARING_SIZE.left))
 
 returns-2 : tie.Need-returns-in-Accepted
 unfolding refused_or
 returns-2 c =
     let w = c.before.before in
     let t = w.before.before in
-    ap (λ (l : List ℕ). (Done 0, l)) w.write_fresh.ensures ∙ described-as t.before.before _ t.enum_told-1.given.1
+    ap (λ (l : List ℕ). (Done 0, l)) w.write_fresh.ensures ∙ described-as t.before _ t.in-Accepted.is
 
 returns-3 : tie.Need-returns-in-Refused
 unfolding refused_or
-returns-3 c = described-as c.before.before.before _ c.before.x-1.given.1
+returns-3 c = described-as c.before _ c.in-Refused.is
 
 pub open_spec : {M : Type 1} → statement M
 open_spec =
@@ -60,7 +60,7 @@ open_spec =
     (λ c κs.
     let t = c.before in
     let r = t.before.before in
-    (description-most (described _ _ (sym r.read_description.ensures ∙ t.enum_told-1.given.1)), r.before.if-buffer-ne-HEARING_SIZE.false))
+    (description-most (described _ _ (sym r.read_description.ensures ∙ t.in-Accepted.is)), r.if-buffer-ne-HEARING_SIZE.false))
     (λ c. search rules)
     (λ c. search rules)
     returns-2

@@ -11,8 +11,8 @@ use Rattle.hearing_buffer.proofs.write_fresh.Statement.{statement}
 use Rattle.hearing_buffer.proofs.write_fresh.Tie as tie
 
 -- the buffer with the description at its beginning
-copied : (k : tie.After-copy) → let x = k.before.before.before.before.args in k.copy.new.1.1.0 ≡ splice x.buffer-1.now 0 x.description.now
-copied k = let x = k.before.before.before.before.args in k.copy.ensures ∙ ap (splice x.buffer-1.now 0) (take-length x.description.now)
+copied : (k : tie.After-copy) → let x = k.before.before.before.before.args in k.copy.new.1.1.0 ≡ splice x.buffer.now 0 x.description.now
+copied k = let x = k.before.before.before.before.args in k.copy.ensures ∙ ap (splice x.buffer.now 0) (take-length x.description.now)
 
 pub write_fresh_spec : {M : Type 1} → statement M
 write_fresh_spec =
@@ -27,4 +27,4 @@ write_fresh_spec =
     let s = k.before.before.before.before in
     let d : List ℕ = s.args.description.now in
     z.clear_from.ensures ∙ ap (λ (l : List ℕ). take (length d) l ++ replicate (length l - length d) 0) (copied k)
-    ∙ fresh-bytes s.args.buffer-1.now d s.requires.1 s.requires.0))
+    ∙ fresh-bytes s.args.buffer.now d s.requires.1 s.requires.0))

@@ -47,10 +47,10 @@ module _ (s : tie.Start) where
   record_is = ap (λ (t : State). description_of t) (sym (state_at_lem b size))
 
 -- the array holds the values, and then the sums
-copied : (k : tie.After-copy) → let s = k.before.before.before.before.before in k.copy.new.1.1.0 ≡ (state_in (b s)).hearing.values-1
+copied : (k : tie.After-copy) → let s = k.before.before.before.before.before in k.copy.new.1.1.0 ≡ (state_in (b s)).hearing.values
 copied k = let s = k.before.before.before.before.before in k.copy.ensures ∙ sums.copied (c s) (b s) (channel s) s.requires
 
-made : (a : tie.After-add_values) → let s = a.before.before.before.before.before.before.before.before in a.add_values.new.0 ≡ (added_to (c s) (state_in (b s)).hearing (channel s)).values-1
+made : (a : tie.After-add_values) → let s = a.before.before.before.before.before.before.before.before in a.add_values.new.0 ≡ (added_to (c s) (state_in (b s)).hearing (channel s)).values
 made a =
     let k = a.before.before.before in
     let s = k.before.before.before.before.before in
@@ -78,7 +78,7 @@ returns r =
     let d = r.before.before in
     let a = d.before.before.before.before.before in
     let s = a.before.before.before.before.before.before.before.before in
-    let output = s.args.output-1.now in
+    let output = s.args.output.now in
     d.decode_values.ensures
     ∙ ap₂ (λ (l v : List ℕ). decoded_as (single s.args.limit) AfterFlip l (take (code_length (c s)) v) output) (record_is s) (made a)
     ∙ sym (sums.decoded-sums (c s) (b s) (channel s) s.requires s.args.limit output)

@@ -6,13 +6,13 @@ use Rattle.hearing_preview.proofs.preview_in.Statement.{statement}
 use Rattle.hearing_preview.proofs.preview_in.Tie as tie
 
 returns : tie.Need-returns-in-Accepted
-returns c = (c.before.before.preview_under.ensures, refl)
+returns c = (c.preview_under.ensures, refl)
 
 returns-2 : tie.Need-returns-in-Refused
 returns-2 c =
-    let r = c.before.before.before in
-    let x = r.before.before.before.before.args in
-    (sym (preview_no_code x.buffer.now x.channel.now x.limit x.output-1.now _ (sym r.Code-in.ensures ∙ c.before.x-1.given.1)), refl)
+    let r = c.before in
+    let x = r.args in
+    (sym (preview_no_code x.buffer.now x.channel.now x.limit x.output.now _ (sym r.Code-in.ensures ∙ c.in-Refused.is)), refl)
 
 pub preview_in_spec : {M : Type 1} → statement M
 preview_in_spec =
@@ -20,7 +20,7 @@ preview_in_spec =
     (tie.spec
     (λ c κs. search rules)
     (λ c. search rules)
-    (λ c κs. let t = c.before in sym t.before.before.before.Code-in.ensures ∙ t.before.code-1.given.1)
+    (λ c κs. let t = c.before in sym t.Code-in.ensures ∙ t.in-Accepted.is)
     (λ c. search rules)
     (λ c. search rules)
     returns

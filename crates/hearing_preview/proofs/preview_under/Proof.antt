@@ -37,19 +37,19 @@ returns : tie.Need-returns-in-Fine
 returns c =
     let d = c.before.before in
     let t = d.before.before in
-    let j = t.before.before in
+    let j = t.before in
     let s = j.before.before.before.before.before in
     let x = s.args in
     d.decode_sums.ensures
-    ∙ sym (preview_fine (b s) x.channel.now x.limit x.output-1.now x.code s.requires (sym (judged j) ∙ t.enum_told-1.given.1))
+    ∙ sym (preview_fine (b s) x.channel.now x.limit x.output.now x.code s.requires (sym (judged j) ∙ t.in-Fine.is))
 
 returns-2 : tie.Need-returns-in-Refused
 returns-2 c =
-    let t = c.before in
-    let j = t.before.before in
+    let t = c in
+    let j = t.before in
     let s = j.before.before.before.before.before in
     let x = s.args in
-    sym (preview_refused (b s) x.channel.now x.limit x.output-1.now x.code _ s.requires (sym (judged j) ∙ t.x-1.given.1))
+    sym (preview_refused (b s) x.channel.now x.limit x.output.now x.code _ s.requires (sym (judged j) ∙ t.in-Refused.is))
 
 pub preview_under_spec : {M : Type 1} → statement M
 preview_under_spec =
@@ -61,7 +61,7 @@ preview_under_spec =
     (λ c κs.
     let t = c.before in
     let j = t.before.before in
-    record { code_is = j.before.before.before.before.before.requires; fine = sym (judged j) ∙ t.enum_told-1.given.1 })
+    record { code_is = j.requires; fine = sym (judged j) ∙ t.in-Fine.is })
     (λ c. search rules)
     (λ c. search rules)
     returns

@@ -19,32 +19,32 @@ state s = let x = s.args in state_by x.description.now x.count x.values.now
 -- the code that is described
 module _ (c : tie.In-Accepted) where
   abbrev s : tie.Start
-  s = c.before.before.before.before.before.before
+  s = c.before.before.before.before
 
   abbrev code : Code
-  code = c.before.code-1.given.0.0
+  code = c.in-Accepted.FIELD0
 
   accepted : describe (description_of (state s)) ≡ Accepted code
-  accepted = sym c.before.before.before.described_in.ensures ∙ c.before.code-1.given.1
+  accepted = sym c.described_in.ensures ∙ c.in-Accepted.is
 
 returns : tie.Need-returns-then-is_state
 returns c =
     let k = c.before.before in
-    sym (code_by_lem (state (s k)) (code k) _ (accepted k) (sym c.before.is_state.ensures ∙ c.if-is_state.true))
+    sym (code_by_lem (state (s k)) (code k) _ (accepted k) (sym c.is_state.ensures ∙ c.if-is_state.true))
 
 returns-2 : tie.Need-returns-else-is_state
 returns-2 c =
     let k = c.before.before in
-    sym (code_by_lem (state (s k)) (code k) _ (accepted k) (sym c.before.is_state.ensures ∙ c.if-is_state.false))
+    sym (code_by_lem (state (s k)) (code k) _ (accepted k) (sym c.is_state.ensures ∙ c.if-is_state.false))
 
 returns-3 : tie.Need-returns-in-Refused
-returns-3 c = let r = c.before.before in sym (ap (code_by (state r.before.before.before)) (sym r.described_in.ensures ∙ c.enum_told-1.given.1))
+returns-3 c = let r = c.before in sym (ap (code_by (state r.before.before.before)) (sym r.described_in.ensures ∙ c.in-Refused.is))
 
 pub code_by_spec : {M : Type 1} → statement M
 code_by_spec =
     tie.close
     (tie.spec
-    (λ c κs. omega (arith, c.before.before.requires.description_size))
+    (λ c κs. omega (arith, c.requires.description_size))
     (λ c. search rules)
     (λ c κs. ((described _ _ (accepted c)).coded.n_most, (s c).requires))
     returns

@@ -47,8 +47,8 @@ returns c =
     let x = s.args in
     let channel : ℕ → List ℕ = λ k. take k x.values.now in
     c.before.before.decode_by.ensures
-    ∙ ap₂ (λ (mask : List ℕ) (k : ℕ). decoded_under (single x.terms.limit) x.terms.restart mask x.code (channel k) x.output-1.now) (mask_is m) (size s)
-    ∙ sym (under-code (single x.terms.limit) x.terms.restart (d s) (channel (2 ^ x.code.n)) x.output-1.now x.code s.requires.describes)
+    ∙ ap₂ (λ (mask : List ℕ) (k : ℕ). decoded_under (single x.terms.limit) x.terms.restart mask x.code (channel k) x.output.now) (mask_is m) (size s)
+    ∙ sym (under-code (single x.terms.limit) x.terms.restart (d s) (channel (2 ^ x.code.n)) x.output.now x.code s.requires.describes)
 
 pub decode_values_spec : {M : Type 1} → statement M
 decode_values_spec =

@@ -21,24 +21,24 @@ module _ (s : tie.Start) where
 returns : tie.Need-returns-in-Fine
 returns c =
     let e = c.before in
-    let j = e.before.before in
+    let j = e.before in
     let s = j.before.before.before.before.before in
     c.judge_prefix.ensures
-    ∙ sym (append-fine (channel_tests s) (prefix_tests s) (sym j.judge_channel.ensures ∙ e.enum_told-1.given.1))
+    ∙ sym (append-fine (channel_tests s) (prefix_tests s) (sym j.judge_channel.ensures ∙ e.in-Fine.is))
 
 returns-2 : tie.Need-returns-in-Refused
 returns-2 c =
-    let j = c.before.before.before in
+    let j = c.before in
     let s = j.before.before.before.before.before in
-    sym (append_refused (channel_tests s) (prefix_tests s) _ (sym j.judge_channel.ensures ∙ c.before.x-1.given.1))
+    sym (append_refused (channel_tests s) (prefix_tests s) _ (sym j.judge_channel.ensures ∙ c.in-Refused.is))
 
 pub judge_resuming_spec : {M : Type 1} → statement M
 judge_resuming_spec =
     tie.close
     (tie.spec
-    (λ c κs. c.before.before.before.before.requires.n_most)
+    (λ c κs. c.requires.n_most)
     (λ c. search rules)
-    (λ c κs. c.before.before.before.before.before.before.before.requires)
+    (λ c κs. c.requires)
     (λ c. search rules)
     returns
     returns-2)

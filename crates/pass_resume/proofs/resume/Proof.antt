@@ -19,18 +19,18 @@ use Rattle.pass_resume.proofs.resume.Tie as tie
 abbrev by : tie.Start → Description → Resumed × List ℕ
 by s a =
     let x = s.args in
-    on_description a (λ i. (Refused i, x.output-1.now)) (λ c. resumed_by (mask_of x.description.now) c x.channel.now x.prefix.now x.output-1.now)
+    on_description a (λ i. (Refused i, x.output.now)) (λ c. resumed_by (mask_of x.description.now) c x.channel.now x.prefix.now x.output.now)
 
 -- the code that was accepted
 module _ (c : tie.In-Accepted) where
   abbrev s : tie.Start
-  s = c.before.before.before.before.before.before.before.before
+  s = c.before.before.before.before.before.before
 
   abbrev code : Code
-  code = c.before.code-1.given.0.0
+  code = c.in-Accepted.FIELD0
 
   accepted : Accepted code ≡ describe s.args.description.now
-  accepted = sym c.before.code-1.given.1 ∙ c.before.before.before.read_description.ensures
+  accepted = sym c.in-Accepted.is ∙ c.read_description.ensures
 
   facts : Described s.args.description.now code
   facts = described s.args.description.now code (sym accepted)
@@ -38,22 +38,22 @@ module _ (c : tie.In-Accepted) where
 resume-by-requires : tie.Need-resume_by-requires
 resume-by-requires c κs =
     let a = c.before.before.before in
-    (subst (λ (mask : List ℕ). Coded mask (code a)) (sym c.before.before.mask_of-mask.ensures) (facts a).coded, refl)
+    (subst (λ (mask : List ℕ). Coded mask (code a)) (sym c.mask_of-mask.ensures) (facts a).coded, refl)
 
 returns : tie.Need-returns-in-Accepted
 unfolding resumed
 returns c =
     let a = c.before.before.before.before.before.before in
     let x = (s a).args in
-    c.before.before.resume_by.ensures
-    ∙ ap (λ (mask : List ℕ). resumed_by mask (code a) x.channel.now x.prefix.now x.output-1.now) c.before.before.before.before.before.mask_of-mask.ensures
+    c.resume_by.ensures
+    ∙ ap (λ (mask : List ℕ). resumed_by mask (code a) x.channel.now x.prefix.now x.output.now) c.mask_of-mask.ensures
     ∙ ap (by (s a)) (accepted a)
 
 returns-2 : tie.Need-returns-in-Refused
 unfolding resumed
 returns-2 c =
-    ap (by c.before.before.before.before.before.before.before.before)
-    (sym c.before.x-1.given.1 ∙ c.before.before.before.read_description.ensures)
+    ap (by c.before.before.before.before.before.before)
+    (sym c.in-Refused.is ∙ c.read_description.ensures)
 
 pub resume_spec : {M : Type 1} → statement M
 resume_spec =

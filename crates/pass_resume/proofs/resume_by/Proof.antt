@@ -19,10 +19,10 @@ module _ (c : tie.In-Fine) where
   abbrev s : tie.Start
   s = c.before.before.before.before.before.before.before.before
 
-  well_formed : WellFormed s.args.mask.now s.args.code s.args.channel.now s.args.prefix.now s.args.output-1.now
+  well_formed : WellFormed s.args.mask.now s.args.code s.args.channel.now s.args.prefix.now s.args.output.now
   well_formed =
-      fine_well_formed s.args.mask.now s.args.code s.args.channel.now s.args.prefix.now s.args.output-1.now
-      (sym c.before.before.judge_resuming.ensures ∙ c.enum_told-1.given.1)
+      fine_well_formed s.args.mask.now s.args.code s.args.channel.now s.args.prefix.now s.args.output.now
+      (sym c.judge_resuming.ensures ∙ c.in-Fine.is)
 
 returns : tie.Need-returns-in-Fine
 returns c =
@@ -31,15 +31,15 @@ returns c =
     let x = (s e).args in
     let d = k.resume_pass-done.ensures in
     ap₂ (λ (w : Work) (bits : List ℕ). (Done w.steps, bits)) d.0 d.1
-    ∙ sym (well_formed_answer x.mask.now x.code x.channel.now x.prefix.now x.output-1.now (well_formed e))
+    ∙ sym (well_formed_answer x.mask.now x.code x.channel.now x.prefix.now x.output.now (well_formed e))
 
 returns-2 : tie.Need-returns-in-Refused
 unfolding resumed_by
 returns-2 c =
-    let j = c.before.before.before in
-    let x = j.before.before.before.before.before.before.args in
+    let j = c.before in
+    let x = j.args in
     let o : Out = resume_pass x.mask.now x.code x.channel.now x.prefix.now in
-    sym (refused_by (λ i. (Refused i, x.output-1.now)) (Done o.work.steps, o.bits) _ _ (sym j.judge_resuming.ensures ∙ c.before.x-1.given.1))
+    sym (refused_by (λ i. (Refused i, x.output.now)) (Done o.work.steps, o.bits) _ _ (sym j.judge_resuming.ensures ∙ c.in-Refused.is))
 
 pub resume_by_spec : {M : Type 1} → statement M
 resume_by_spec =

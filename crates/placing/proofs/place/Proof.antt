@@ -48,7 +48,7 @@ module _ (l : tie.At-loop-m invariant-loop decreases-loop) where
 
   -- the byte of the turn
   abbrev m : ℕ
-  m = l.loop-m.walk-1.looks / 8
+  m = l.loop-m.walk.looks / 8
 
 -- after the look at the counts of the turn
 module _ (c : tie.After-looks-m invariant-loop decreases-loop) where
@@ -62,7 +62,7 @@ module _ (c : tie.After-looks-m invariant-loop decreases-loop) where
   inside = omega (arith, c.before.loop-m-test.true, c.before.before.looks.ensures)
 
 -- after the byte, its walk has eight looks more
-next : (c : tie.After-placed_byte-next invariant-loop decreases-loop) → c.placed_byte-next.result.walk-1.looks ≡ 8 * (m (l c.before) + 1)
+next : (c : tie.After-placed_byte-next invariant-loop decreases-loop) → c.placed_byte-next.result.walk.looks ≡ 8 * (m (l c.before) + 1)
 next c = looks_are (mask (l c.before)) _ c.placed_byte-next.ensures.1 ∙ ap (λ (k : ℕ). 8 * (k + 1)) (same c.before)
 
 loop-again : tie.Need-loop-m-preserved invariant-loop decreases-loop
@@ -71,7 +71,7 @@ loop-again c =
     let a = l k in
     let e = c.before.placed_byte-next.ensures in
     let byte = packed_byte (bits (mask a) (s a).args.message.now) in
-    let more : m a + 1 ≡ c.before.placed_byte-next.result.walk-1.looks / 8 = omega (arith, next c.before) in (
+    let more : m a + 1 ≡ c.before.placed_byte-next.result.walk.looks / 8 = omega (arith, next c.before) in (
       subst (Filling byte 0 (length (mask a)) (s a).args.u.now _) more (filling_more a.loop-m.invariant.0 _ _ (inside k) (omega (arith, same k)) (e.0 ∙ ap byte (same k))),
       e.1 ∙ ap (λ (k : ℕ). walked (mask a) (8 * k)) (ap (λ (k : ℕ). k + 1) (same k) ∙ more),
     )

@@ -62,7 +62,7 @@ module _ (k : tie.In-loop-b invariant-loop decreases-loop) where
   few = omega (arith, s.requires.0.short)
 
   -- the message bit lies in the message
-  in-message : l.loop-b.walk-1.ones-c < length message
+  in-message : l.loop-b.walk.ones-c < length message
   in-message = omega (arith, ones_are mask i l.loop-b.invariant.0, ones_le mask i, inside, s.requires.0.room)
 
   -- fewer than eight bits leave room for one more
@@ -117,7 +117,7 @@ placed_byte_spec =
     (λ c κs. search rules)
     (λ c κs. let k = c.before in may_look (mask k) (i k) (l k).loop-b.invariant.0 (few k) (inside k))
     (λ c. omega (arith, room c.before.before))
-    (λ c κs. let k = c.before.before in (omega (arith, c.look-seen.ensures.0, mask_bit_lt (mask k) (l k).loop-b.walk-1.looks), omega (arith, c.before.ones-c.ensures, in-message k), (s k).requires.0.bits))
+    (λ c κs. let k = c.before.before in (omega (arith, c.look-seen.ensures.0, mask_bit_lt (mask k) (l k).loop-b.walk.looks), omega (arith, c.before.ones-c.ensures, in-message k), (s k).requires.0.bits))
     (λ c. omega (arith, room (k c), bit_lt c))
     (λ c. search rules)
     (λ c. search rules)

@@ -40,7 +40,7 @@ module _ (k : tie.In-loop-i invariant-loop decreases-loop) where
   mask = s.args.mask.now
 
   -- fewer bits are taken than there is room for
-  room : l.loop-i.walk-1.ones-c < length l.loop-i.message-1
+  room : l.loop-i.walk.ones-c < length l.loop-i.message
   room = omega (arith, l.loop-i.invariant.2, ones_are mask l.loop-i.i l.loop-i.invariant.1, ones_le mask l.loop-i.i, s.requires.1)
 
 loop-again : tie.Need-loop-i-preserved invariant-loop decreases-loop
@@ -49,15 +49,15 @@ loop-again c =
     let k = after_look.before.before in
     let a = (l k).loop-i in
     let u = (s k).args.u.now in
-    let w = (s k).args.message-1.now in
+    let w = (s k).args.message.now in
     let ones = after_look.before.ones-c in
     let after = c.before.before.before.take_bit in (
       omega arith,
       next_walk (mask k) a.i a.invariant.1 after_look.look-seen.ensures.1,
       after.auto.0 ∙ a.invariant.2,
       after.ensures
-          ∙ ap (λ (t : ℕ). cond (eqb t 1) (set a.message-1 ones.result (get_or u a.i 0)) a.message-1) (after_look.look-seen.ensures.0 ∙ next_bit (mask k) a.i a.invariant.1)
-          ∙ take_next (mask k) u w a.message-1 a.i ones.result _ a.invariant.3 (ones.ensures ∙ ones_are (mask k) a.i a.invariant.1) (omega (arith, ones.ensures, room k, a.invariant.2)) refl
+          ∙ ap (λ (t : ℕ). cond (eqb t 1) (set a.message ones.result (get_or u a.i 0)) a.message) (after_look.look-seen.ensures.0 ∙ next_bit (mask k) a.i a.invariant.1)
+          ∙ take_next (mask k) u w a.message a.i ones.result _ a.invariant.3 (ones.ensures ∙ ones_are (mask k) a.i a.invariant.1) (omega (arith, ones.ensures, room k, a.invariant.2)) refl
           ∙ ap (λ (n : ℕ). splice w 0 (taken (mask k) u n)) (sym (add-one a.i)),
     )
 
@@ -68,7 +68,7 @@ returns c =
     let mask = s.args.mask.now in
     let done : l.i ≡ 8 * length mask = omega arith in (
       c.looks.ensures ∙ ap (λ (w : Walk). w.looks) l.invariant.1 ∙ ap (λ (n : ℕ). (walked mask n).looks) done,
-      l.invariant.3 ∙ ap (λ (n : ℕ). splice s.args.message-1.now 0 (taken mask s.args.u.now n)) done,
+      l.invariant.3 ∙ ap (λ (n : ℕ). splice s.args.message.now 0 (taken mask s.args.u.now n)) done,
     )
 
 pub take_out_spec : {M : Type 1} → statement M

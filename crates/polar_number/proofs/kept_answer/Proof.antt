@@ -8,7 +8,7 @@ use Rattle.polar_number.proofs.kept_answer.Tie as tie
 
 answer-requires : tie.Need-answer-requires
 answer-requires c κs =
-    let f = told_fits kept_parts c.before.before.before.requires c.before.kept-1.given.1 in omega (arith, f.value_fits)
+    let f = told_fits kept_parts c.requires c.in-Done.is in omega (arith, f.value_fits)
 
 pub kept_answer_spec : {M : Type 1} → statement M
 kept_answer_spec =
@@ -18,6 +18,6 @@ kept_answer_spec =
     (λ c. search rules)
     answer-requires
     (λ c. search rules)
-    (λ c κs. told_fits kept_parts c.before.before.before.requires c.before.kept-in-Refused-1.given.1)
-    (λ c. told_number kept_parts c.answer.ensures c.before.before.kept-1.given.1)
-    (λ c. told_number kept_parts c.refusal_answer.ensures c.before.before.kept-in-Refused-1.given.1))
+    (λ c κs. told_fits kept_parts c.requires c.in-Refused.is)
+    (λ c. told_number kept_parts c.answer.ensures c.in-Done.is)
+    (λ c. told_number kept_parts c.refusal_answer.ensures c.in-Refused.is))

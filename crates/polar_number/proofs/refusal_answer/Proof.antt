@@ -8,7 +8,7 @@ use Rattle.polar_number.proofs.refusal_answer.Tie as tie
 
 answer-requires-2 : tie.Need-answer-requires-in-At
 answer-requires-2 c κs =
-    let f = told_fits refusal_parts c.before.before.before.requires c.before.refused-in-At-1.given.1 in omega (arith, f.value_fits)
+    let f = told_fits refusal_parts c.requires c.in-At.is in omega (arith, f.value_fits)
 
 pub refusal_answer_spec : {M : Type 1} → statement M
 refusal_answer_spec =
@@ -18,5 +18,5 @@ refusal_answer_spec =
     (λ c κs. search rules)
     (λ c. search rules)
     answer-requires-2
-    (λ c. told_number refusal_parts c.answer.ensures c.before.before.refused-1.given.1)
-    (λ c. told_number refusal_parts c.answer-in-At.ensures c.before.before.refused-in-At-1.given.1))
+    (λ c. told_number refusal_parts c.answer.ensures c.in-Alone.is)
+    (λ c. told_number refusal_parts c.answer-in-At.ensures c.in-At.is))

@@ -15,7 +15,7 @@ use Rattle.probe.proofs.probe_pack.Tie as tie
 are-bits : (c : tie.Else-not-are_bits) → all_bits c.before.before.before.before.args.bits.now ≡ true
 are-bits c = sym c.before.are_bits.ensures ∙ not-false _ c.if-not-are_bits.false
 
-full : (c : tie.Else-bytes-bytes_for) → length c.before.before.before.before.before.before.args.bytes-1.now ≡ bytes_for (length c.before.before.before.before.before.before.args.bits.now)
+full : (c : tie.Else-bytes-bytes_for) → length c.before.before.before.before.before.before.args.bytes.now ≡ bytes_for (length c.before.before.before.before.before.before.args.bits.now)
 full c = c.if-bytes-bytes_for.false ∙ c.before.bytes_for.ensures
 
 returns : tie.Need-returns-then-not-are_bits

@@ -14,7 +14,7 @@ bits : (c : tie.Else-u-mask) → 8 * length c.before.before.before.before.args.m
 bits c = omega arith
 
 -- and room for it
-room : (c : tie.Else-message-mask) → 8 * length c.before.before.before.before.before.args.mask.now ≤ length c.before.before.before.before.before.args.message-1.now
+room : (c : tie.Else-message-mask) → 8 * length c.before.before.before.before.before.args.mask.now ≤ length c.before.before.before.before.before.args.message.now
 room c = omega arith
 
 returns : tie.Need-returns-then-u-mask
@@ -25,7 +25,7 @@ returns c =
 returns-2 : tie.Need-returns-then-message-mask
 returns-2 c =
     let s = c.before.before.before.before.before in
-    rw (le-ltb _ _ (bits c.before), lt-ltb (length s.args.message-1.now) (8 * length s.args.mask.now) (omega arith))
+    rw (le-ltb _ _ (bits c.before), lt-ltb (length s.args.message.now) (8 * length s.args.mask.now) (omega arith))
 
 returns-3 : tie.Need-returns
 returns-3 c =

@@ -14,8 +14,8 @@ abbrev start : tie.After-judge_quantising → tie.Start
 start j = j.before.before.before.before
 
 -- no refusal applies
-fine : (t : tie.In-Fine) → let s = (start t.before.before).args in judge (quantising_refusals s.scale s.samples.now s.output-1.now) ≡ Fine
-fine t = sym t.before.before.judge_quantising.ensures ∙ t.enum_told-1.given.1
+fine : (t : tie.In-Fine) → let s = (start t.before).args in judge (quantising_refusals s.scale s.samples.now s.output.now) ≡ Fine
+fine t = sym t.judge_quantising.ensures ∙ t.in-Fine.is
 
 returns : tie.Need-returns-in-Fine
 unfolding quantised
@@ -26,8 +26,8 @@ returns c =
 returns-2 : tie.Need-returns-in-Refused
 unfolding quantised
 returns-2 c =
-    let x = c.before in
-    sym (refused_by _ _ _ _ (sym x.before.before.judge_quantising.ensures ∙ x.x-1.given.1))
+    let x = c in
+    sym (refused_by _ _ _ _ (sym x.judge_quantising.ensures ∙ x.in-Refused.is))
 
 pub quantise_spec : {M : Type 1} → statement M
 quantise_spec =

@@ -38,13 +38,13 @@ by held channel limit a =
 -- the code that was accepted
 module _ (c : tie.In-Accepted-2) where
   abbrev held : List ℕ
-  held = c.before.before.before.before.before.before.args.held.now
+  held = c.args.held.now
 
   abbrev code : Code
-  code = c.code-1.given.0.0
+  code = c.in-Accepted.FIELD0
 
   accepted : Accepted code ≡ describe held
-  accepted = sym c.code-1.given.1 ∙ c.before.before.read_description.ensures
+  accepted = sym c.in-Accepted.is ∙ c.read_description.ensures
 
   facts : Described held code
   facts = described held code (sym accepted)
@@ -55,31 +55,31 @@ module _ (c : tie.After-bytes_for-size) where
   zeros = replicate longest_bytes 0
 
   fits : c.bytes_for-size.result ≤ longest_bytes
-  fits = omega (arith, c.bytes_for-size.ensures, payload-most (facts c.before.before))
+  fits = omega (arith, c.bytes_for-size.ensures, payload-most (facts c.before))
 
   part_length : length (take c.bytes_for-size.result zeros) ≡ c.bytes_for-size.result
   part_length = length-take-le c.bytes_for-size.result zeros fits
 
-  part-is : take c.bytes_for-size.result zeros ≡ replicate (bytes_for (code c.before.before).k) 0
+  part-is : take c.bytes_for-size.result zeros ≡ replicate (bytes_for (code c.before).k) 0
   part-is = take-replicate c.bytes_for-size.result longest_bytes 0 fits ∙ ap (λ (size : ℕ). replicate size 0) c.bytes_for-size.ensures
 
 put-decoded-requires : tie.Need-put_decoded-requires
 put-decoded-requires c κs =
     let m = c.before.before in
-    let a = m.before.before.before in (
+    let a = m.before.before in (
       subst (λ (mask : List ℕ). Coded mask (code a)) (sym m.mask_of-mask.ensures) (facts a).coded,
       omega (arith, part_length m.before, fits m.before),
-      a.before.before.before.before.before.before.requires,
+      a.requires,
     )
 
 returns : tie.Need-returns-in-Accepted
 unfolding decoding_line
 returns c =
     let m = c.before.before.before.before.before.before in
-    let a = m.before.before.before in
-    let s = a.before.before.before.before.before.before in
+    let a = m.before.before in
+    let s = a.before.before.before.before.before in
     let channel = s.args.channel.now in
-    put_as c.before.before.before.put_decoded.ensures _
+    put_as c.put_decoded.ensures _
     (ap₂ (λ (mask output : List ℕ). under mask (code a) channel s.args.limit output) m.mask_of-mask.ensures (part-is m.before)
     ∙ ap line_of_answer (sym (under-code (single s.args.limit) AfterFlip (held a) channel (replicate (bytes_for (code a).k) 0) (code a) (sym (accepted a))))
     ∙ ap (by (held a) channel s.args.limit) (accepted a))
@@ -87,10 +87,10 @@ returns c =
 returns-2 : tie.Need-returns-in-Refused
 unfolding decoding_line
 returns-2 c =
-    let a = c.before.before.before.before.before in
-    let s = a.before.before.before.before.before.before in
-    put_as c.before.before.put_refusal.ensures _
-    (ap (by s.args.held.now s.args.channel.now s.args.limit) (sym a.x-1.given.1 ∙ a.before.before.read_description.ensures))
+    let a = c.before.before.before.before in
+    let s = a.before.before.before.before.before in
+    put_as c.put_refusal.ensures _
+    (ap (by s.args.held.now s.args.channel.now s.args.limit) (sym a.in-Refused.is ∙ a.read_description.ensures))
 
 pub put_decoding_spec : {M : Type 1} → statement M
 put_decoding_spec =

@@ -29,7 +29,7 @@ Q t = (put-decimal-below t, put-decimal.Post)
 
 module _ (t : ℕ) where
   -- room for the one digit
-  one-fits : (c : put-decimal-lts.Then-n-lt10 (Q t) (put-decimal-at t) put-decimal.Post) → c.before.before.args.at < length c.before.before.args.line-1.now
+  one-fits : (c : put-decimal-lts.Then-n-lt10 (Q t) (put-decimal-at t) put-decimal.Post) → c.before.before.args.at < length c.before.before.args.line.now
   one-fits c = omega (arith, c.before.before.requires.1, length-small c.before.before.args.n c.if-n-lt10.true)
 
   returns : put-decimal-lts.Need-returns-then-n-lt10 (Q t) (put-decimal-at t) put-decimal.Post

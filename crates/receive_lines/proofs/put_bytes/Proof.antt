@@ -16,7 +16,7 @@ returns c =
     record {
       next_is = refl;
       fits = omega (arith, s.requires);
-      after_is = k.copy.ensures ∙ ap (splice s.args.buffer-1.now s.args.at) (take_all (length bytes) bytes (omega arith));
+      after_is = k.copy.ensures ∙ ap (splice s.args.buffer.now s.args.at) (take_all (length bytes) bytes (omega arith));
     }
 
 pub put_bytes_spec : {M : Type 1} → statement M

@@ -29,7 +29,7 @@ by-1 held bytes t = cond t (description_response held bytes) (past held bytes)
 
 module _ (c : tie.After-read_header-kind) where
   abbrev held : List ℕ
-  held = let a = c.before.before.before.before.args in take a.size a.held-1.now
+  held = let a = c.before.before.before.before.args in take a.size a.held.now
 
   abbrev bytes : List ℕ
   bytes = c.before.before.before.before.args.bytes.now

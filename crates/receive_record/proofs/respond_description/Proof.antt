@@ -29,43 +29,43 @@ by held bytes a = on_description a (λ x. (no_line (number_of x), held)) (λ c. 
 -- the code that was accepted
 module _ (c : tie.In-Accepted-2) where
   abbrev d : List ℕ
-  d = c.before.before.before.before.before.before.args.bytes.now
+  d = c.args.bytes.now
 
   abbrev code : Code
-  code = c.code-1.given.0.0
+  code = c.in-Accepted.FIELD0
 
   accepted : Accepted code ≡ describe d
-  accepted = sym c.code-1.given.1 ∙ c.before.before.read_description.ensures
+  accepted = sym c.in-Accepted.is ∙ c.read_description.ensures
 
   facts : Described d code
   facts = described d code (sym accepted)
 
 put-bytes-requires : tie.Need-put_bytes-requires
-put-bytes-requires c κs = omega (arith, description-most (facts c.before.before), c.before.before.before.before.before.before.before.before.requires.held_room)
+put-bytes-requires c κs = omega (arith, description-most (facts c.before), c.requires.held_room)
 
 returns : tie.Need-returns-in-Accepted
 unfolding description_response
 returns c =
-    let kept = c.before.before.before.before.before.before.before.before.put_bytes.ensures in
-    let line = c.before.before.put_code.ensures in
-    let a = c.before.before.before.before.before.before.before.before.before.before.before in
-    let s = a.before.before.before.before.before.before in
+    let kept = c.put_bytes.ensures in
+    let line = c.put_code.ensures in
+    let a = c.before.before.before.before.before.before.before.before.before.before in
+    let s = a.before.before.before.before.before in
     record {
       line_fits = omega (arith, line.fits, length_put line);
       held_fits = omega (arith, kept.fits, length_put kept);
       answer_is = ap₂ (λ (x y : List ℕ). (x, y)) (take_put line) (take_put kept)
           ∙ ap (λ (size : ℕ). (code_line size (code a).k (code a).r, d a)) (one_shl (code a).n 64 (omega (arith, (facts a).coded.n_most)))
-          ∙ ap (by (take s.args.size s.args.held-1.now) (d a)) (accepted a);
+          ∙ ap (by (take s.args.size s.args.held.now) (d a)) (accepted a);
     }
 
 returns-2 : tie.Need-returns-in-Refused
 unfolding description_response
 returns-2 c =
-    let a = c.before.before.before.before.before in
-    let s = a.before.before.before.before.before.before in
-    let held = take s.args.size s.args.held-1.now in
-    answers_as (answers-line c.before.before.put_refusal.ensures s.requires.size_most) _
-    (ap (by held s.args.bytes.now) (sym a.x-1.given.1 ∙ a.before.before.read_description.ensures))
+    let a = c.before.before.before.before in
+    let s = a.before.before.before.before.before in
+    let held = take s.args.size s.args.held.now in
+    answers_as (answers-line c.put_refusal.ensures s.requires.size_most) _
+    (ap (by held s.args.bytes.now) (sym a.in-Refused.is ∙ a.read_description.ensures))
 
 pub respond_description_spec : {M : Type 1} → statement M
 respond_description_spec =

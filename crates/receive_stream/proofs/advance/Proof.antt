@@ -15,20 +15,20 @@ use Rattle.receive_stream.proofs.advance.Tie as tie
 -- the bytes of the record read so far, and what is known from them
 module _ (c : tie.After-ahead_of) where
   abbrev there : List ℕ
-  there = let a = c.before.before.before.before.before.before.args in take (a.stream.there + a.got) a.bytes.now
+  there = let a = c.args in take (a.stream.there + a.got) a.bytes.now
 
-  says : (a : Ahead) → c.ahead_of_lem.result ≡ a → ahead_of there ≡ a
-  says a e = sym c.ahead_of_lem.ensures.0 ∙ e
+  says : (a : Ahead) → c.ahead_of.result ≡ a → ahead_of there ≡ a
+  says a e = sym c.ahead_of.ensures.0 ∙ e
 
-  fits : (a : Ahead) → c.ahead_of_lem.result ≡ a → Fits there a
-  fits a e = subst (Fits there) e c.ahead_of_lem.ensures.1
+  fits : (a : Ahead) → c.ahead_of.result ≡ a → Fits there a
+  fits a e = subst (Fits there) e c.ahead_of.ensures.1
 
 respond-to-requires : tie.Need-respond_to-requires
 respond-to-requires c κs =
     let a = c.before.before.before.before.before.before.before.before.before.before.before in
     let pre = a.requires in
     record {
-      header = (record_there a.args.stream a.args.got a.args.bytes.now a.args.held-1.now a.args.output-1.now pre (says c.before.before.before.before.before Whole c.before.before.before.enum_told-1.given.1)).least;
+      header = (record_there a.args.stream a.args.got a.args.bytes.now a.args.held.now a.args.output.now pre (says c.before.before.before.before Whole c.in-Whole.is)).least;
       held_most = pre.between.held_most;
       held_room = pre.held_room;
       output_room = pre.between.output_room;
@@ -39,38 +39,38 @@ respond-to-requires c κs =
 returns : tie.Need-returns-then-there-eq0
 returns c =
     let a = c.before.before.before.before.before.before.before.before.before.before.before.before.before.before in
-    advance_end a.args.stream a.args.got a.args.bytes.now a.args.held-1.now a.args.output-1.now a.requires c.before.before.before.before.if-there-eq0.true c.before.before.finish.ensures
+    advance_end a.args.stream a.args.got a.args.bytes.now a.args.held.now a.args.output.now a.requires c.if-there-eq0.true c.finish.ensures
 
 returns-2 : tie.Need-returns-then-got-eq0
 returns-2 c =
     let a = c.before.before.before.before.before.before.before.before.before.before.before.before.before.before.before in
-    advance_cut a.args.stream a.args.got a.args.bytes.now a.args.held-1.now a.args.output-1.now a.requires (says c.before.before.before.before.before.before.before.before.before _ c.before.before.before.before.before.before.before.missing-1.given.1) c.before.before.before.before.if-got-eq0.true c.before.before.before.before.before.if-there-eq0.false c.before.before.cut-then-got-eq0.ensures
+    advance_cut a.args.stream a.args.got a.args.bytes.now a.args.held.now a.args.output.now a.requires (says c.before.before.before.before.before.before.before _ c.in-Missing.is) c.if-got-eq0.true c.if-there-eq0.false c.cut-then-got-eq0.ensures
 
 returns-3 : tie.Need-returns-in-Whole
 returns-3 c =
     let a = c.before.before.before.before.before.before.before.before.before.before.before.before.before.before.before.before in
-    advance_whole a.args.stream a.args.got a.args.bytes.now a.args.held-1.now a.args.output-1.now a.requires (says c.before.before.before.before.before.before.before.before.before.before Whole c.before.before.before.before.before.before.before.before.enum_told-1.given.1) c.before.before.before.before.respond_to.ensures
+    advance_whole a.args.stream a.args.got a.args.bytes.now a.args.held.now a.args.output.now a.requires (says c.before.before.before.before.before.before.before.before.before Whole c.in-Whole.is) c.respond_to.ensures
 
 returns-4 : tie.Need-returns-in-Short
 returns-4 c =
     let a = c.before.before.before.before.before.before.before.before.before.before.before.before in
-    advance_short a.args.stream a.args.got a.args.bytes.now a.args.held-1.now a.args.output-1.now a.requires (says c.before.before.before.before.before.before Short c.before.before.before.before.enum_told-in-Short-1.given.1) c.before.before.cut.ensures
+    advance_short a.args.stream a.args.got a.args.bytes.now a.args.held.now a.args.output.now a.requires (says c.before.before.before.before.before Short c.in-Short.is) c.cut.ensures
 
 returns-5 : tie.Need-returns-else-got-eq0
 returns-5 c =
     let a = c.before.before.before.before.before.before.before.before.before.before.before.before in
-    let told = c.before.before.before.before.missing-1.given in
-    advance_more a.args.stream a.args.got a.args.bytes.now a.args.held-1.now a.args.output-1.now a.requires (says c.before.before.before.before.before.before _ told.1) (fits c.before.before.before.before.before.before _ told.1) c.before.if-got-eq0.false
+    let told = c.missing-1.given in
+    advance_more a.args.stream a.args.got a.args.bytes.now a.args.held.now a.args.output.now a.requires (says c.before.before.before.before _ told.1) (fits c.before.before.before.before _ told.1) c.if-got-eq0.false
 
 pub advance_spec : {M : Type 1} → statement M
 advance_spec =
     tie.close
     (tie.spec
     (λ c. search rules)
-    (λ c. sym (length-take-le _ _ c.before.before.before.before.before.requires.bytes_room))
+    (λ c. sym (length-take-le _ _ c.requires.bytes_room))
     (λ c κs. search rules)
     (λ c. search rules)
-    (λ c. sym (length-take-le _ _ c.before.before.before.before.before.before.before.before.before.requires.bytes_room))
+    (λ c. sym (length-take-le _ _ c.requires.bytes_room))
     respond-to-requires
     (λ c. search rules)
     (λ c κs. search rules)

@@ -25,8 +25,8 @@ returns c =
       same_size = search rules;
       ready_most = end.ready_most;
       lines_are = end.lines_are
-          ∙ ap (λ (x : List ℕ). x ++ text) (put_behind a.output-1.now a.stream.waiting (length a.output-1.now - a.stream.waiting) (omega arith) c.before.before.before.before.before.before.put_cut-end.ensures)
-          ∙ append_assoc (take a.stream.waiting a.output-1.now) cut_line text;
+          ∙ ap (λ (x : List ℕ). x ++ text) (put_behind a.output.now a.stream.waiting (length a.output.now - a.stream.waiting) (omega arith) c.before.before.before.before.before.before.put_cut-end.ensures)
+          ∙ append_assoc (take a.stream.waiting a.output.now) cut_line text;
     }
 
 pub cut_spec : {M : Type 1} → statement M

@@ -19,7 +19,7 @@ returns c =
       waiting_is = search rules;
       same_size = search rules;
       ready_most = search rules;
-      lines_are = put_behind a.output-1.now a.stream.waiting (length a.output-1.now - a.stream.waiting) (omega arith) c.before.before.before.put_end-end.ensures;
+      lines_are = put_behind a.output.now a.stream.waiting (length a.output.now - a.stream.waiting) (omega arith) c.before.before.before.put_end-end.ensures;
     }
 
 pub finish_spec : {M : Type 1} → statement M

@@ -27,7 +27,7 @@ returns c =
       held_is = ap (λ (z : List ℕ × List ℕ). z.1) r.answer_is;
       ready_most = search rules;
       output_room = ready.leaves (search rules);
-      lines_are = ready.splits _ ∙ take_behind a.output-1.now _ before (length a.output-1.now - before) _ (omega arith) r.line_fits ∙ ap (λ (z : List ℕ × List ℕ). take before a.output-1.now ++ z.0) r.answer_is;
+      lines_are = ready.splits _ ∙ take_behind a.output.now _ before (length a.output.now - before) _ (omega arith) r.line_fits ∙ ap (λ (z : List ℕ × List ℕ). take before a.output.now ++ z.0) r.answer_is;
     }
 
 pub respond_to_spec : {M : Type 1} → statement M

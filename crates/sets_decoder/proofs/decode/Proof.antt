@@ -16,13 +16,13 @@ use Rattle.sets_decoder.proofs.decode.Tie as tie
 -- the code that was accepted
 module _ (c : tie.In-Accepted) where
   abbrev s : tie.Start
-  s = c.before.before.before.before.before.before.before
+  s = c.before.before.before.before.before
 
   abbrev code : Code
-  code = c.before.code-1.given.0.0
+  code = c.in-Accepted.FIELD0
 
   accepted : describe s.args.description.now ≡ Accepted code
-  accepted = sym c.before.before.before.read_description.ensures ∙ c.before.code-1.given.1
+  accepted = sym c.read_description.ensures ∙ c.in-Accepted.is
 
   facts : Described s.args.description.now code
   facts = described s.args.description.now code accepted
@@ -30,22 +30,22 @@ module _ (c : tie.In-Accepted) where
 decode-by-requires : tie.Need-decode_by-requires
 decode-by-requires c κs =
     let a = c.before.before in
-    subst (λ (mask : List ℕ). Coded mask (code a)) (sym c.before.mask_of.ensures) (facts a).coded
+    subst (λ (mask : List ℕ). Coded mask (code a)) (sym c.mask_of.ensures) (facts a).coded
 
 returns : tie.Need-returns-in-Accepted
 returns c =
     let m = c.before.before.before.before in
     let a = m.before in
     let x = (s a).args in
-    c.before.before.decode_by.ensures
-    ∙ ap (λ (mask : List ℕ). decoded_under (sets x.search.w x.search.limit) x.search.restart mask (code a) x.channel.now x.output-1.now) m.mask_of.ensures
-    ∙ sym (under-code (sets x.search.w x.search.limit) x.search.restart x.description.now x.channel.now x.output-1.now (code a) (accepted a))
+    c.decode_by.ensures
+    ∙ ap (λ (mask : List ℕ). decoded_under (sets x.search.w x.search.limit) x.search.restart mask (code a) x.channel.now x.output.now) m.mask_of.ensures
+    ∙ sym (under-code (sets x.search.w x.search.limit) x.search.restart x.description.now x.channel.now x.output.now (code a) (accepted a))
 
 returns-2 : tie.Need-returns-in-Refused
 returns-2 c =
-    let r = c.before.before.before in
-    let x = r.before.before.before.before.args in
-    sym (description_refused (sets x.search.w x.search.limit) x.search.restart x.description.now x.channel.now x.output-1.now _ (sym r.read_description.ensures ∙ c.before.x-1.given.1))
+    let r = c.before in
+    let x = r.args in
+    sym (description_refused (sets x.search.w x.search.limit) x.search.restart x.description.now x.channel.now x.output.now _ (sym r.read_description.ensures ∙ c.in-Refused.is))
 
 pub decode_spec : {M : Type 1} → statement M
 decode_spec =

@@ -56,7 +56,7 @@ loop-holds c =
       omega (arith, from_is t, (s t).requires.1.past),
       c.doubtful-small.ensures,
       refl,
-      subst (λ (new : List ℕ). Inserted (s t).args.low (s t).args.count (s t).args.room (s t).args.count new (s t).args.keys-1.now (s t).args.keys-1.now)
+      subst (λ (new : List ℕ). Inserted (s t).args.low (s t).args.count (s t).args.room (s t).args.count new (s t).args.keys.now (s t).args.keys.now)
           (ap (map set_key) (sym none)) (inserted-none (s t).requires.2),
     )
 
@@ -85,7 +85,7 @@ loop-again c =
       omega (arith, d.before.loop-j-test.true),
       more d,
       r.append-end.auto.1.1.1.1.1.1.1.1.0 ∙ i.3,
-      subst (λ (new : List ℕ). Inserted (s p).args.low (s p).args.count (s p).args.room r.append-end.result new (s p).args.keys-1.now r.append-end.new.1.1.1.1.1.1.1.1.0)
+      subst (λ (new : List ℕ). Inserted (s p).args.low (s p).args.count (s p).args.room r.append-end.result new (s p).args.keys.now r.append-end.new.1.1.1.1.1.1.1.1.0)
           (ap (λ (xs : List ℕ). map set_key (extensions (mask p) (leaves p) (set p) (l d).loop-j.j) ++ xs) keys-are
           ∙ sym (extension_keys (mask p) (leaves p) (set p) (l d).loop-j.j ((l d).loop-j.small + d.doubt-small.result) (s p).requires.1.few i.0 (more d)))
           (inserted-more i.4 r.append-end.ensures),
@@ -97,7 +97,7 @@ returns c =
     let p = k.before.before in
     let i = k.loop-j.invariant in
     let e : k.loop-j.j ≡ 8 * length (mask p) = omega (arith, i.1, c.loop-j-test.false) in
-    subst (λ (n : ℕ). Inserted (s p).args.low (s p).args.count (s p).args.room k.loop-j.end (map set_key (extensions (mask p) (leaves p) (set p) n)) (s p).args.keys-1.now k.loop-j.keys-1) e i.4
+    subst (λ (n : ℕ). Inserted (s p).args.low (s p).args.count (s p).args.room k.loop-j.end (map set_key (extensions (mask p) (leaves p) (set p) n)) (s p).args.keys.now k.loop-j.keys) e i.4
 
 pub extend_spec : {M : Type 1} → statement M
 extend_spec =

@@ -37,9 +37,9 @@ returns-2 c =
     let h = c.before.before.before in
     let e = h.before.before.before in
     let x = (s e).args in
-    let shifted : Shifted (at e) (min x.count (x.room - 1)) x.keys-1.now h.shift.new.1.1.0 =
-    subst (λ (k : ℕ). Shifted (at e) k x.keys-1.now h.shift.new.1.1.0) h.before.before.min.ensures h.shift.ensures in
-    subst (λ (r : ℕ). Inserted x.low x.count x.room r (x.key ∷ []) x.keys-1.now (set h.shift.new.1.1.0 (at e) x.key)) (sym c.min-2.ensures)
+    let shifted : Shifted (at e) (min x.count (x.room - 1)) x.keys.now h.shift.new.1.1.0 =
+    subst (λ (k : ℕ). Shifted (at e) k x.keys.now h.shift.new.1.1.0) h.before.before.min.ensures h.shift.ensures in
+    subst (λ (r : ℕ). Inserted x.low x.count x.room r (x.key ∷ []) x.keys.now (set h.shift.new.1.1.0 (at e) x.key)) (sym c.min-2.ensures)
     (record {
       places = record {
         low_most = omega (arith, (s e).requires.low_most, (s e).requires.count_most, below e, e.before.place_of-at.ensures.least);

@@ -37,8 +37,8 @@ returns c =
     let count = s.args.count in
     let long = length-take-le count source (omega (arith, s.requires)) in
     filling_done c.before.loop-j.invariant (omega arith) (omega (arith, s.requires))
-    ∙ ap (λ (n : ℕ). splice s.args.target-1.now 0 (table (λ i. get_or (take count source) i (pos 0)) n)) (sym long)
-    ∙ ap (splice s.args.target-1.now 0) (table-get_or (take count source) (pos 0))
+    ∙ ap (λ (n : ℕ). splice s.args.target.now 0 (table (λ i. get_or (take count source) i (pos 0)) n)) (sym long)
+    ∙ ap (splice s.args.target.now 0) (table-get_or (take count source) (pos 0))
 
 pub copy_values_spec : {M : Type 1} → statement M
 copy_values_spec =

@@ -47,7 +47,7 @@ returns c =
     let a = c.before.before in
     let r = a.before.before.before in
     let x = (s r).args in
-    a.answer.ensures ∙ ran_answers x.mask.now x.code x.output-1.now (verdict r) r.run_trials-ended.result (message r) (ran r)
+    a.answer.ensures ∙ ran_answers x.mask.now x.code x.output.now (verdict r) r.run_trials-ended.result (message r) (ran r)
 
 pub decode_in_spec : {M : Type 1} → statement M
 decode_in_spec =

@@ -32,7 +32,7 @@ module _ (c : tie.Else-search-flips) where
   values = s.args.values.now
 
   abbrev leaves : List ℤ
-  leaves = s.args.leaves-1.now
+  leaves = s.args.leaves.now
 
   more : length s.args.flips.now < s.args.search.w
   more = omega (arith, c.if-search-flips.false)

@@ -11,7 +11,7 @@ extend-requires : tie.Need-extend-sets-requires
 extend-requires c κs =
     let s = c.before.before.before.before.before.before in
     let on = s.requires.0 in (
-      walk_first on s.requires.1.leaves-1,
+      walk_first on s.requires.1.leaves,
       set-none _ _,
       record { low_most = omega arith; count_most = omega arith; room_most = omega (arith, limit_larger s.args.search.w s.args.code s.requires.2, on.limit_most) },
     )
@@ -20,7 +20,7 @@ set-trials-requires : tie.Need-set_trials-requires
 set-trials-requires c κs =
     let e = c.before.before.before.before.before.before.before in
     let p = e.before.before.before.before.before.before.before.requires in
-    (p.0, p.1.later, (λ _. p.1.leaves-1), first_pool p.0 p.1.leaves-1 e.extend-sets.ensures, record { work = p.1.whole.work; bits = p.1.whole.bits; sums = p.1.whole.sums; leaves = refl })
+    (p.0, p.1.later, (λ _. p.1.leaves), first_pool p.0 p.1.leaves e.extend-sets.ensures, record { work = p.1.whole.work; bits = p.1.whole.bits; sums = p.1.whole.sums; leaves = refl })
 
 pub larger_trials_spec : {M : Type 1} → statement M
 larger_trials_spec =

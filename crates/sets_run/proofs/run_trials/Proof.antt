@@ -13,16 +13,16 @@ use Rattle.sets_run.proofs.run_trials.Tie as tie
 
 begin-requires : tie.Need-begin-requires
 begin-requires c κs =
-    let p = c.before.before.before.before.before.before.before.requires in
+    let p = c.requires in
     (p.0.frame, p.1, p.2)
 
 returns : tie.Need-returns-then-search-eq1
 returns c =
-    let t = c.before.before.before in
-    let b = t.before.before in
-    let x = b.before.before.before.before.before.before.before.before.args in
+    let t = c.before.before in
+    let b = t.before in
+    let x = b.args in
     let made = t.trials-1.given.0 in
-    let e = subst (BeginPost _ _ _ _ _ _) t.trials-1.given.1 b.begin.ensures in (
+    let e = subst (BeginPost _ _ _ _ _ _) t.in-Failed.is b.begin.ensures in (
       subst (λ (w : Verdict). Ran x.mask.now x.code w (Failed made.0 made.1.0) b.begin.new.1.1.1.1.1.1.1.0)
           (sym (e.1.later.goes_on _ ∙ none_allowed x.search x.mask.now x.code (channel_values x.channel.now) made.1.0 c.if-search-eq1.true))
           (ap (λ (m : ℕ). Failed m made.1.0) e.0),
@@ -32,25 +32,25 @@ returns c =
 single-trials-requires : tie.Need-single_trials-requires
 single-trials-requires c κs =
     let f = c.before.before.before.before.before in
-    let t = f.before.before.before.before.before in
+    let t = f.before.before.before in
     let b = t.before.before in
-    let p = b.before.before.before.before.before.before.before.before.requires in
-    let e = subst (BeginPost _ _ _ _ _ _) t.trials-1.given.1 b.begin.ensures in
+    let p = b.requires in
+    let e = subst (BeginPost _ _ _ _ _ _) t.in-Failed.is b.begin.ensures in
     (p.0, e.1, f.if-search-eq1-2.true)
 
 larger-trials-requires : tie.Need-larger_trials-requires
 larger-trials-requires c κs =
     let f = c.before.before.before.before.before in
-    let t = f.before.before.before.before.before in
+    let t = f.before.before.before in
     let b = t.before.before in
-    let p = b.before.before.before.before.before.before.before.before.requires in
-    let e = subst (BeginPost _ _ _ _ _ _) t.trials-1.given.1 b.begin.ensures in
+    let p = b.requires in
+    let e = subst (BeginPost _ _ _ _ _ _) t.in-Failed.is b.begin.ensures in
     (p.0, e.1, omega (arith, f.if-search-eq1-2.false, p.0.flips_least))
 
 returns-3 : tie.Need-returns-in-Passed
 returns-3 c =
-    let t = c.before in
-    let e = subst (BeginPost _ _ _ _ _ _) t.trial-1.given.1 t.before.before.begin.ensures in
+    let t = c in
+    let e = subst (BeginPost _ _ _ _ _ _) t.in-Passed.is t.begin.ensures in
     e _
 
 pub run_trials_spec : {M : Type 1} → statement M

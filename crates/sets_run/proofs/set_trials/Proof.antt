@@ -66,7 +66,7 @@ module _ (c : tie.At-loop-at invariant-loop decreases-loop) where
   size_fits : code_length s.args.code ≤ longest
   size_fits = fits s.requires.0.frame.coded.n_most
 
-  going : Searching s.args.search mask s.args.code v s.args.started.steps c.loop-at.at c.loop-at.end c.loop-at.steps c.loop-at.keys-1 c.loop-at.invariant.0.0
+  going : Searching s.args.search mask s.args.code v s.args.started.steps c.loop-at.at c.loop-at.end c.loop-at.steps c.loop-at.keys c.loop-at.invariant.0.0
   going = c.loop-at.invariant.0.1
 
   at_most : c.loop-at.at ≤ longest
@@ -79,7 +79,7 @@ module _ (c : tie.In-loop-at invariant-loop decreases-loop) where
   abbrev l : tie.At-loop-at invariant-loop decreases-loop
   l = c.before
 
-  next : (x : Candidate) × (xs : List Candidate) × Searching (s l).args.search (mask l) (s l).args.code (v l) (s l).args.started.steps l.loop-at.at l.loop-at.end l.loop-at.steps l.loop-at.keys-1 (x ∷ xs)
+  next : (x : Candidate) × (xs : List Candidate) × Searching (s l).args.search (mask l) (s l).args.code (v l) (s l).args.started.steps l.loop-at.at l.loop-at.end l.loop-at.steps l.loop-at.keys (x ∷ xs)
   next = search_next (going l) c.loop-at-test.true
 
 indices-of-requires : tie.Need-indices_of-size-requires invariant-loop decreases-loop
@@ -170,15 +170,15 @@ trial-passes-requires : tie.Need-trial_passes-requires invariant-loop decreases-
 trial-passes-requires c κs =
     let k = c.before.before.before in
     let w = (made-is k).whole in
-    ((s (a k)).requires.0.frame.coded, omega (arith, w.bits-1, size_fits (a k)), omega (arith, w.sums, size_fits (a k)))
+    ((s (a k)).requires.0.frame.coded, omega (arith, w.bits, size_fits (a k)), omega (arith, w.sums, size_fits (a k)))
 
 -- its check
 module _ (c : tie.After-trial_passes invariant-loop decreases-loop) where
   abbrev k : tie.After-later_trial-done invariant-loop decreases-loop
   k = c.before.before.before.before
 
-  ok-is : c.trial_passes.result ≡ trial_passes (mask (a k)) (s (a k)).args.code (o k).bits-1
-  ok-is = c.trial_passes.ensures.0 ∙ ap (trial_passes (mask (a k)) (s (a k)).args.code) (made-is k).bits-1
+  ok-is : c.trial_passes.result ≡ trial_passes (mask (a k)) (s (a k)).args.code (o k).bits
+  ok-is = c.trial_passes.ensures.0 ∙ ap (trial_passes (mask (a k)) (s (a k)).args.code) (made-is k).bits
 
   -- the message stands in the place of the sums
   same-room : length c.trial_passes.new.1.1.1.0 ≡ longest
@@ -192,7 +192,7 @@ returns c =
     let on = (s b).requires in (
       subst (λ (w : Verdict). Ran (mask b) (s b).args.code w (Passed (b.loop-at.at + 1 + 1) (b.loop-at.steps + t.later_trial-done.result.steps)) p.trial_passes.new.1.1.1.0)
           (sym (on.1.goes_on _ ∙ search_passes on.0 (next (i (j (r t)))).2 (set_is (j (r t))) (took t) (sym (ok-is p) ∙ c.if-trial_passes.true)))
-          (ran_passed on.0.frame.coded _ _ (made-is t).bits-1 p.trial_passes.ensures.1 (later-bits (mask b) (s b).args.code (v b) (is t) (q t))),
+          (ran_passed on.0.frame.coded _ _ (made-is t).bits p.trial_passes.ensures.1 (later-bits (mask b) (s b).args.code (v b) (is t) (q t))),
       same-room p,
     )
 
@@ -226,11 +226,11 @@ loop-again c =
       (
         _,
         search_goes_on on.0 (next (i (j (r t)))).2 (set_is (j (r t))) (took t) (sym (ok-is p) ∙ e.if-trial_passes.false) (few t)
-            (subst (λ (new : List Candidate). Inserted (b.loop-at.at + 1) b.loop-at.end ((s b).args.search.limit - 1) w.generate-end.result (map set_key new) b.loop-at.keys-1 w.generate-end.new.1.1.1.1.1.1.1.1.0)
+            (subst (λ (new : List Candidate). Inserted (b.loop-at.at + 1) b.loop-at.end ((s b).args.search.limit - 1) w.generate-end.result (map set_key new) b.loop-at.keys w.generate-end.new.1.1.1.1.1.1.1.1.0)
             (generated-is on.0 (set-flips (j (r t))) on.2 (made-is t) (coded-size t) (resumes-at t)) w.generate-end.ensures),
       ),
       plain_after b.loop-at.invariant.1 on.1.first_bits (set-flips (j (r t))) (s b).args.search.restart (coded-size t) (resumes (r t)) t.later_trial-done.ensures.1 (size_fits b),
-      record { work = whole.work; bits = whole.bits-1; sums = same-room p; leaves = w.generate-end.auto.1.1.1.1.1.0 ∙ whole.leaves },
+      record { work = whole.work; bits = whole.bits; sums = same-room p; leaves = w.generate-end.auto.1.1.1.1.1.0 ∙ whole.leaves },
       w.generate-end.auto.1.1.1.1.1.1.1.1.0 ∙ b.loop-at.invariant.3,
     )
 

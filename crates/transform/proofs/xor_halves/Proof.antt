@@ -27,11 +27,11 @@ loop-again : tie.Need-loop-j-preserved invariant-loop decreases-loop
 loop-again c =
     let l = c.before.before.before.loop-j in
     let s = c.before.before.before.before in
-    let w = s.args.bytes-1.now in
+    let w = s.args.bytes.now in
     let base = s.args.base in
     let h = s.args.h in
     let j = l.j in
-    let old : (at : ℕ) → base + j ≤ at + j → get_or l.bytes-1 (at + j) 0 ≡ get_or (segment w at h) j 0 =
+    let old : (at : ℕ) → base + j ≤ at + j → get_or l.bytes (at + j) 0 ≡ get_or (segment w at h) j 0 =
     λ at k. filling_past l.invariant (at + j) 0 k ∙ sym (get_or-segment w at h j 0 (omega arith)) in
     filling_more l.invariant (base + j) _ (omega arith) (omega arith)
     (ap₂ bit_xor (old base (omega arith)) (old (base + h) (omega arith)))
