@@ -13,16 +13,15 @@ use Rattle.crc.proofs.append_check.Statement.{statement}
 use Rattle.crc.proofs.append_check.Tie as tie
 
 slice-aggregate-check : tie.Need-slice_bounds-check-end-2
-slice-aggregate-check c = let s = c.before.before in sym (length-take-le s.args.k s.args.message.now (omega arith))
+slice-aggregate-check c = sym (length-take-le c.args.k c.args.message.now (omega arith))
 
 returns : tie.Need-returns
 returns c =
-    let s = c.before.before.before.before.before.before.before in
-    let m = s.args.message.now in
-    let register = c.before.before.before.before.check-register in
-    c.before.before.put_bits.ensures
-    ∙ splice-end m s.args.k (bits_of s.args.r register.result) (s.requires.1 ∙ ap (λ (n : ℕ). s.args.k + n) (sym (length-bits_of s.args.r register.result)))
-    ∙ ap (λ (bits : List ℕ). take s.args.k m ++ bits) register.ensures.0
+    let m = c.args.message.now in
+    let register = c.check-register in
+    c.put_bits.ensures
+    ∙ splice-end m c.args.k (bits_of c.args.r register.result) (c.requires.1 ∙ ap (λ (n : ℕ). c.args.k + n) (sym (length-bits_of c.args.r register.result)))
+    ∙ ap (λ (bits : List ℕ). take c.args.k m ++ bits) register.ensures.0
 
 pub append_check_spec : {M : Type 1} → statement M
 append_check_spec =

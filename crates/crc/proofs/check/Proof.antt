@@ -26,28 +26,26 @@ decreases-loop payload r poly start word register₀ i₀ register i = length pa
 
 loop-holds : tie.Need-loop-i-init invariant-loop decreases-loop
 loop-holds c =
-    let s = c.before.before in
-    let r = s.args.r in
-    let t = length-bits_of r s.args.poly in
-    let g = length-bits_of r s.args.start in (
+    let r = c.args.r in
+    let t = length-bits_of r c.args.poly in
+    let g = length-bits_of r c.args.start in (
       omega arith,
-      s.requires.fits,
-      run_check (bits_of r s.args.poly) (bits_of r s.args.start) s.args.payload.now (omega (arith, s.requires.some)) (g ∙ sym t) (bits_of_lem r s.args.start),
+      c.requires.fits,
+      run_check (bits_of r c.args.poly) (bits_of r c.args.start) c.args.payload.now (omega (arith, c.requires.some)) (g ∙ sym t) (bits_of_lem r c.args.start),
     )
 
 register-step-requires : tie.Need-register_step-register-requires invariant-loop decreases-loop
 register-step-requires c κs =
     let s = c.before.before.before.before.before in
-    (s.requires.some, s.requires.most, rw c.before.before.before.feedback-word.ensures (mod-lt s.args.poly (pow_pos s.args.r)), c.before.before.loop-i.invariant.1)
+    (s.requires.some, s.requires.most, rw c.feedback-word.ensures (mod-lt s.args.poly (pow_pos s.args.r)), c.loop-i.invariant.1)
 
 loop-again : tie.Need-loop-i-preserved invariant-loop decreases-loop
 loop-again c =
-    let s = c.before.before.before.before.before.before in
-    let l = c.before.before.before.loop-i in
-    let r = s.args.r in
-    let t = bits_of r s.args.poly in
-    let p = s.args.payload.now in
-    let word = ap (bits_of r) c.before.before.before.before.feedback-word.ensures ∙ bits_of-mod r r s.args.poly (omega arith) in (
+    let l = c.loop-i in
+    let r = c.args.r in
+    let t = bits_of r c.args.poly in
+    let p = c.args.payload.now in
+    let word = ap (bits_of r) c.feedback-word.ensures ∙ bits_of-mod r r c.args.poly (omega arith) in (
       omega arith,
       c.register_step-register.ensures.1,
       ap (λ (g : List ℕ). run t g (drop (l.i + 1) p))
@@ -57,10 +55,9 @@ loop-again c =
 
 returns : tie.Need-returns invariant-loop decreases-loop
 returns c =
-    let s = c.before.before.before.before in
-    let l = c.before.loop-i in
-    let p = s.args.payload.now in (
-      ap (run (bits_of s.args.r s.args.poly) (bits_of s.args.r l.register)) (sym (drop_of_length-le p {i = l.i} (omega arith))) ∙ l.invariant.2,
+    let l = c.loop-i in
+    let p = c.args.payload.now in (
+      ap (run (bits_of c.args.r c.args.poly) (bits_of c.args.r l.register)) (sym (drop_of_length-le p {i = l.i} (omega arith))) ∙ l.invariant.2,
       l.invariant.1,
     )
 

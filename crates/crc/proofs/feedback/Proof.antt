@@ -20,16 +20,16 @@ loop-holds : tie.Need-loop-i-init invariant-loop decreases-loop
 loop-holds c = (omega arith, sym (div-eq_of_lt (mod-lt c.args.poly (pow_pos c.args.r))))
 
 -- the word leaves room for one coefficient more
-room : (c : tie.In-loop-i invariant-loop decreases-loop) → c.before.loop-i.word < 2 ^ 16
+room : (c : tie.In-loop-i invariant-loop decreases-loop) → c.loop-i.word < 2 ^ 16
 room c =
-    let a = c.before.before.args in
-    let l = c.before.loop-i in
-    omega (arith, l.invariant.1, shr_le (a.poly % 2 ^ a.r) l.i, mod-lt a.poly (pow_pos a.r), pow_mono {i = a.r} {j = 16} c.before.before.requires)
+    let a = c.args in
+    let l = c.loop-i in
+    omega (arith, l.invariant.1, shr_le (a.poly % 2 ^ a.r) l.i, mod-lt a.poly (pow_pos a.r), pow_mono {i = a.r} {j = 16} c.requires)
 
 loop-again : tie.Need-loop-i-preserved invariant-loop decreases-loop
 loop-again c =
-    let a = c.before.before.before.args in
-    let l = c.before.before.loop-i in (
+    let a = c.args in
+    let l = c.loop-i in (
       omega arith,
       ap₂ (λ (x y : ℕ). x * 2 + y) l.invariant.1 (c.coefficient.ensures ∙ sym (bit-mod a.poly (l.i - 1) a.r (omega arith)))
           ∙ shr_more (a.poly % 2 ^ a.r) l.i (omega arith),
@@ -37,9 +37,9 @@ loop-again c =
 
 returns : tie.Need-returns invariant-loop decreases-loop
 returns c =
-    let a = c.before.before.args in
-    let e : c.before.loop-i.i ≡ 0 = omega arith in
-    c.before.loop-i.invariant.1 ∙ ap (λ (i : ℕ). a.poly % 2 ^ a.r / 2 ^ i) e ∙ div-one (a.poly % 2 ^ a.r)
+    let a = c.args in
+    let e : c.loop-i.i ≡ 0 = omega arith in
+    c.loop-i.invariant.1 ∙ ap (λ (i : ℕ). a.poly % 2 ^ a.r / 2 ^ i) e ∙ div-one (a.poly % 2 ^ a.r)
 
 pub feedback_spec : {M : Type 1} → statement M
 feedback_spec =

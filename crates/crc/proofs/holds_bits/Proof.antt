@@ -42,29 +42,26 @@ loop-holds c = (omega arith, simp (add-zero, sub-zero))
 
 differs : tie.Need-returns-then-message-at invariant-loop decreases-loop
 differs c =
-    let s = c.before.before.before.before.before.before in
-    let l = c.before.before.before.before.loop-j in
-    other-here s.args.message.now s.args.at s.args.r s.args.register l.j s.requires.1 (omega arith)
-    (λ e. c.if-message-at.true (e ∙ sym c.before.coefficient.ensures))
+    let l = c.loop-j in
+    other-here c.args.message.now c.args.at c.args.r c.args.register l.j c.requires.1 (omega arith)
+    (λ e. c.if-message-at.true (e ∙ sym c.coefficient.ensures))
     ∙ l.invariant.1
 
 loop-again : tie.Need-loop-j-preserved invariant-loop decreases-loop
 loop-again c =
-    let s = c.before.before.before.before.before.before in
-    let l = c.before.before.before.before.loop-j in (
+    let l = c.loop-j in (
       omega arith,
-      same_here s.args.message.now s.args.at s.args.r s.args.register l.j s.requires.1 (omega arith)
-          (c.if-message-at.false ∙ c.before.coefficient.ensures)
+      same_here c.args.message.now c.args.at c.args.r c.args.register l.j c.requires.1 (omega arith)
+          (c.if-message-at.false ∙ c.coefficient.ensures)
           ∙ l.invariant.1,
     )
 
 returns : tie.Need-returns invariant-loop decreases-loop
 returns c =
-    let s = c.before.before.before in
-    let l = c.before.loop-j in
-    let e : 0 ≡ s.args.r - l.j = omega arith in
-    ap₂ (λ (xs : List ℕ) (w : ℕ). same xs (bits_of w s.args.register))
-    (sym (drop_of_length-le s.args.message.now {i = s.args.at + l.j} (omega arith))) e
+    let l = c.loop-j in
+    let e : 0 ≡ c.args.r - l.j = omega arith in
+    ap₂ (λ (xs : List ℕ) (w : ℕ). same xs (bits_of w c.args.register))
+    (sym (drop_of_length-le c.args.message.now {i = c.args.at + l.j} (omega arith))) e
     ∙ l.invariant.1
 
 pub holds_bits_spec : {M : Type 1} → statement M

@@ -9,12 +9,11 @@ use Rattle.crc.proofs.passes.Statement.{statement}
 use Rattle.crc.proofs.passes.Tie as tie
 
 slice-aggregate-check : tie.Need-slice_bounds-check-end
-slice-aggregate-check c = let s = c.before.before in sym (length-take-le s.args.k s.args.message.now (omega arith))
+slice-aggregate-check c = sym (length-take-le c.args.k c.args.message.now (omega arith))
 
 returns : tie.Need-returns
 returns c =
-    let s = c.before.before.before.before in
-    c.holds_bits.ensures ∙ ap (same (drop s.args.k s.args.message.now)) c.before.check-expected.ensures.0
+    c.holds_bits.ensures ∙ ap (same (drop c.args.k c.args.message.now)) c.check-expected.ensures.0
 
 pub passes_spec : {M : Type 1} → statement M
 passes_spec = tie.close (tie.spec slice-aggregate-check (λ c κs. search rules) (λ c κs. search rules) returns)

@@ -22,15 +22,14 @@ decreases-loop message₀ at r register j₀ message j = r - j
 
 loop-again : tie.Need-loop-j-preserved invariant-loop decreases-loop
 loop-again c =
-    let a = c.before.before.before.before.args in
-    let l = c.before.before.loop-j in
+    let a = c.args in
+    let l = c.loop-j in
     let e : a.r - 1 - l.j ≡ a.r - (l.j + 1) = omega arith in
     filling_more l.invariant (a.at + l.j) c.coefficient.result (omega arith) refl (c.coefficient.ensures ∙ ap (bit a.register) e)
 
 returns : tie.Need-returns invariant-loop decreases-loop
 returns c =
-    let s = c.before.before.before in
-    filling_done c.before.loop-j.invariant (omega arith) s.requires.1 ∙ ap (splice s.args.message.now s.args.at) (bits_of-table s.args.r s.args.register)
+    filling_done c.loop-j.invariant (omega arith) c.requires.1 ∙ ap (splice c.args.message.now c.args.at) (bits_of-table c.args.r c.args.register)
 
 pub put_bits_spec : {M : Type 1} → statement M
 put_bits_spec =
@@ -45,7 +44,7 @@ put_bits_spec =
     (λ c. omega (arith, c.coefficient.ensures))
     (λ c. search rules)
     (λ c. search rules)
-    (λ c. omega (arith, c.before.before.loop-j.invariant.same))
+    (λ c. omega (arith, c.loop-j.invariant.same))
     (λ c. search rules)
     (λ c. search rules)
     loop-again

@@ -13,14 +13,13 @@ word-if-requires s κs =
     (xor_lt 1 _ _ (highest_lt s.args.r s.args.register s.requires.0 s.requires.3) (omega arith), omega (arith, pow_mono {i = s.args.r} {j = 16} s.requires.1, s.requires.2))
 
 sub-result : tie.Need-overflow_sub-result
-sub-result c = rw (one_shl c.before.args.r 32 (omega arith)) (pow_pos c.before.args.r)
+sub-result c = rw (one_shl c.args.r 32 (omega arith)) (pow_pos c.args.r)
 
 returns : tie.Need-returns
 returns c =
-    let s = c.before in
-    let a = s.args in (
-      rw c.word_if.ensures (rw (leaving a.r a.register a.next s.requires.0 s.requires.3) (bits_of-stepped a.r a.word a.register a.next s.requires.0 s.requires.1)),
-      rw c.word_if.ensures (stepped_lt a.r a.word a.register _ s.requires.1 s.requires.2 (xor_lt 1 _ _ (highest_lt a.r a.register s.requires.0 s.requires.3) (omega arith))),
+    let a = c.args in (
+      rw c.word_if.ensures (rw (leaving a.r a.register a.next c.requires.0 c.requires.3) (bits_of-stepped a.r a.word a.register a.next c.requires.0 c.requires.1)),
+      rw c.word_if.ensures (stepped_lt a.r a.word a.register _ c.requires.1 c.requires.2 (xor_lt 1 _ _ (highest_lt a.r a.register c.requires.0 c.requires.3) (omega arith))),
     )
 
 pub register_step_spec : {M : Type 1} → statement M

@@ -21,16 +21,12 @@ module _ (s : tie.Start) (p : Decoder) where
 
 returns : tie.Need-returns-in-Fine
 returns c p own =
-    let j = c.before.before in
-    let s = j.before.before.before in
     c.judge_rest.ensures p own
-    ∙ sym (append-fine (first s p) (second s p) (sym j.judge_channel.ensures ∙ c.in-Fine.is))
+    ∙ sym (append-fine (first c.before.before.before.before.before p) (second c.before.before.before.before.before p) (sym c.judge_channel.ensures ∙ c.in-Fine.is))
 
 returns-2 : tie.Need-returns-in-Refused
 returns-2 c p own =
-    let j = c.before in
-    let s = j.before.before.before in
-    sym (append_refused (first s p) (second s p) _ (sym j.judge_channel.ensures ∙ c.in-Refused.is))
+    sym (append_refused (first c.before.before.before.before p) (second c.before.before.before.before p) _ (sym c.judge_channel.ensures ∙ c.in-Refused.is))
 
 pub judge_call_spec : {M : Type 1} → statement M
 judge_call_spec =

@@ -41,17 +41,14 @@ encode-by-requires c κs =
 returns : tie.Need-returns-in-Accepted
 unfolding encoded
 returns c =
-    let a = c.before.before.before.before.before in
-    let s = a.before.before.before.before.before in
     c.encode_by.ensures
-    ∙ ap (λ (mask : List ℕ). encoded_by mask (code a) s.args.payload.now s.args.output.now) c.mask_of.ensures
-    ∙ ap (by (d a) s.args.payload.now s.args.output.now) (accepted a)
+    ∙ ap (λ (mask : List ℕ). encoded_by mask (code c.before.before.before.before.before) c.args.payload.now c.args.output.now) c.mask_of.ensures
+    ∙ ap (by (d c.before.before.before.before.before) c.args.payload.now c.args.output.now) (accepted c.before.before.before.before.before)
 
 returns-2 : tie.Need-returns-in-Refused
 unfolding encoded
 returns-2 c =
-    let s = c.before.before.before.before.before in
-    ap (by s.args.description.now s.args.payload.now s.args.output.now) (sym c.in-Refused.is ∙ c.read_description.ensures)
+    ap (by c.args.description.now c.args.payload.now c.args.output.now) (sym c.in-Refused.is ∙ c.read_description.ensures)
 
 pub encode_spec : {M : Type 1} → statement M
 encode_spec =

@@ -14,7 +14,7 @@ use Rattle.encoder.proofs.encode_by.Tie as tie
 -- no refusal applies
 module _ (c : tie.In-Fine) where
   abbrev s : tie.Start
-  s = c.before.before.before.before.before.before.before
+  s = c.before.before.before.before.before
 
   well_formed : WellFormed s.args.code s.args.payload.now s.args.output.now
   well_formed =
@@ -26,19 +26,16 @@ write-codeword-requires c κs = let e = c.before in ((s e).requires, well_formed
 
 returns : tie.Need-returns-in-Fine
 returns c =
-    let k = c.before.before in
-    let e = k.before.before in
-    let x = (s e).args in
-    ap (λ (bytes : List ℕ). (Done, bytes)) k.write_codeword.ensures
-    ∙ sym (well_formed_answer x.code x.payload.now x.output.now x.mask.now (well_formed e))
+    let x = (s c.before.before.before.before).args in
+    ap (λ (bytes : List ℕ). (Done, bytes)) c.write_codeword.ensures
+    ∙ sym (well_formed_answer x.code x.payload.now x.output.now x.mask.now (well_formed c.before.before.before.before))
 
 returns-2 : tie.Need-returns-in-Refused
 unfolding encoded_by
 returns-2 c =
-    let j = c.before in
-    let x = j.args in
+    let x = c.args in
     sym (refused_by (λ i. (Refused i, x.output.now)) (Done, codeword x.mask.now x.code x.payload.now) _ _
-    (sym j.judge_encoding.ensures ∙ c.in-Refused.is))
+    (sym c.judge_encoding.ensures ∙ c.in-Refused.is))
 
 pub encode_by_spec : {M : Type 1} → statement M
 encode_by_spec =

@@ -34,14 +34,14 @@ rem-result c = shl-pos _ (omega arith)
 
 returns-2 : tie.Need-returns
 returns-2 c =
-    let k = c.before.before.args.k in
-    ap (λ (x : ℕ). not (eqb (get_or c.before.before.args.payload.now (k / 8) 0 % x) 0)) (low_bits k c.before.if-k-eq0.false)
+    let k = c.args.k in
+    ap (λ (x : ℕ). not (eqb (get_or c.args.payload.now (k / 8) 0 % x) 0)) (low_bits k c.if-k-eq0.false)
 
 pub has_unused_bit_spec : {M : Type 1} → statement M
 has_unused_bit_spec =
     tie.close
     (tie.spec
-    (λ c. sym (ap not (eq-eqb _ _ (none-unused c.before.args.payload.now _ c.before.requires c.if-k-eq0.true))))
+    (λ c. sym (ap not (eq-eqb _ _ (none-unused c.args.payload.now _ c.requires c.if-k-eq0.true))))
     (λ c. search rules)
     (λ c. search rules)
     (λ c. search rules)

@@ -29,25 +29,23 @@ abbrev s1 : tie.Else-payload-bytes_for → tie.Start
 s1 c = c.before.before.before.before.before
 
 past-1 : (c : tie.Else-payload-bytes_for) → past 0 (s1 c) ≡ past 1 (s1 c)
-past-1 c = judge_no _ _ _ (ap not (eq-eqb _ _ (c.if-payload-bytes_for.false ∙ c.before.bytes_for.ensures)))
+past-1 c = judge_no _ _ _ (ap not (eq-eqb _ _ (c.if-payload-bytes_for.false ∙ c.bytes_for.ensures)))
 
 past-2 : (c : tie.Else-has_unused_bit) → past 0 (s1 c.before.before) ≡ past 2 (s1 c.before.before)
-past-2 c = past-1 c.before.before ∙ judge_no _ _ _ (sym c.before.has_unused_bit.ensures ∙ c.if-has_unused_bit.false)
+past-2 c = past-1 c.before.before ∙ judge_no _ _ _ (sym c.has_unused_bit.ensures ∙ c.if-has_unused_bit.false)
 
 returns : tie.Need-returns-then-payload-bytes_for
-returns c = sym (judge_yes _ _ _ (ap not (ne_eqb _ _ (λ e. c.if-payload-bytes_for.true (e ∙ sym c.before.bytes_for.ensures)))))
+returns c = sym (judge_yes _ _ _ (ap not (ne_eqb _ _ (λ e. c.if-payload-bytes_for.true (e ∙ sym c.bytes_for.ensures)))))
 
 returns-3 : tie.Need-returns-then-output-mask
 returns-3 c =
-    let e = c.before in
-    let s = s1 e.before.before in
-    sym (past-2 e ∙ judge_yes _ _ _ (ap not (ne_eqb _ _ (λ q. c.if-output-mask.true (q ∙ sym (bytes_of s.requires))))))
+    let s = s1 c.before.before.before in
+    sym (past-2 c.before ∙ judge_yes _ _ _ (ap not (ne_eqb _ _ (λ q. c.if-output-mask.true (q ∙ sym (bytes_of s.requires))))))
 
 returns-4 : tie.Need-returns
 returns-4 c =
-    let e = c.before in
-    let s = s1 e.before.before in
-    sym (past-2 e ∙ judge_no _ _ _ (ap not (eq-eqb _ _ (c.if-output-mask.false ∙ bytes_of s.requires))) ∙ judge-none)
+    let s = s1 c.before.before.before in
+    sym (past-2 c.before ∙ judge_no _ _ _ (ap not (eq-eqb _ _ (c.if-output-mask.false ∙ bytes_of s.requires))) ∙ judge-none)
 
 pub judge_encoding_spec : {M : Type 1} → statement M
 judge_encoding_spec =
@@ -56,6 +54,6 @@ judge_encoding_spec =
     (λ c κs. search rules)
     returns
     (λ c κs. c.if-payload-bytes_for.false ∙ c.before.bytes_for.ensures)
-    (λ c. sym (past-1 c.before.before ∙ judge_yes _ _ _ (sym c.before.has_unused_bit.ensures ∙ c.if-has_unused_bit.true)))
+    (λ c. sym (past-1 c.before.before ∙ judge_yes _ _ _ (sym c.has_unused_bit.ensures ∙ c.if-has_unused_bit.true)))
     returns-3
     returns-4)

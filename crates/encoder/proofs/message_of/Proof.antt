@@ -13,33 +13,31 @@ use Rattle.encoder.proofs.message_of.Statement.{statement}
 use Rattle.encoder.proofs.message_of.Tie as tie
 
 -- the part lent for the payload's bits
-part_length : (c : tie.After-unpack-arg-1) → length (take c.before.before.before.args.code.k c.before.before.before.args.message.now) ≡ c.before.before.before.args.code.k
-part_length c = length-take-le _ _ (omega (arith, c.before.before.before.requires.message_size))
+part_length : (c : tie.After-unpack-arg-1) → length (take c.args.code.k c.args.message.now) ≡ c.args.code.k
+part_length c = length-take-le _ _ (omega (arith, c.requires.message_size))
 
 -- the message with the payload's bits in it
 module _ (c : tie.After-unpack) where
   abbrev k : ℕ
-  k = c.before.before.before.before.args.code.k
+  k = c.args.code.k
 
   abbrev message : List ℕ
-  message = c.before.before.before.before.args.message.now
+  message = c.args.message.now
 
-  payload-bits : c.unpack.new.1.0 ≡ unpacked c.before.before.before.before.args.payload.now k
+  payload-bits : c.unpack.new.bits ≡ unpacked c.args.payload.now k
   payload-bits = c.unpack.ensures ∙ ap (unpacked _) (part_length c.before)
 
-  payload-length : length c.unpack.new.1.0 ≡ k
+  payload-length : length c.unpack.new.bits ≡ k
   payload-length = ap length payload-bits ∙ length-unpacked _ k
 
-  whole_length : length (c.unpack.new.1.0 ++ drop k message) ≡ k + c.before.before.before.before.args.code.r
+  whole_length : length (c.unpack.new.bits ++ drop k message) ≡ k + c.args.code.r
   whole_length =
-      omega (arith, payload-length, length-append c.unpack.new.1.0 (drop k message), length-drop k message, c.before.before.before.before.requires.message_size)
+      omega (arith, payload-length, length-append c.unpack.new.bits (drop k message), length-drop k message, c.requires.message_size)
 
 returns : tie.Need-returns
 returns c =
-    let u = c.before.before.before.before.before.before in
-    let s = u.before.before.before.before in
-    c.before.before.append_check.ensures
-    ∙ ap (message_of s.args.code) (take_at u.unpack.new.1.0 (drop (k u) (message u)) (k u) (payload-length u) ∙ payload-bits u)
+    c.append_check.ensures
+    ∙ ap (message_of c.args.code) (take_at c.unpack.new.bits (drop (k c.before.before.before.before.before.before) (message c.before.before.before.before.before.before)) (k c.before.before.before.before.before.before) (payload-length c.before.before.before.before.before.before) ∙ payload-bits c.before.before.before.before.before.before)
 
 pub message_of_spec : {M : Type 1} → statement M
 message_of_spec =

@@ -23,14 +23,14 @@ use Rattle.encoder.proofs.place_message.Statement.{statement}
 use Rattle.encoder.proofs.place_message.Tie as tie
 
 -- the part of the room that is lent for the message
-part_length : (c : tie.After-message_of-arg-1) → length (take (c.before.before.before.before.before.before.before.args.code.k + c.before.before.before.before.before.before.before.args.code.r) c.before.before.before.before.before.before.before.args.room.now) ≡ c.before.before.before.before.before.before.before.args.code.k + c.before.before.before.before.before.before.before.args.code.r
+part_length : (c : tie.After-message_of-arg-1) → length (take (c.args.code.k + c.args.code.r) c.args.room.now) ≡ c.args.code.k + c.args.code.r
 part_length c =
-    let p = c.before.before.before.before.before.before.before.requires in
+    let p = c.requires in
     length-take-le _ _ (omega (arith, p.coded.K_most, p.room_size))
 
 message-of-requires : tie.Need-message_of-requires
 message-of-requires c κs =
-    let p = c.before.before.before.before.before.before.before.requires in
+    let p = c.requires in
     record {
       r_least = p.coded.r_least;
       r_most = p.coded.r_most;
@@ -48,10 +48,10 @@ module _ (c : tie.After-message_of) where
   size = information_count s.args.code
 
   abbrev message : List ℕ
-  message = c.message_of.new.1.1.0
+  message = c.message_of.new.message
 
   message-length : length message ≡ size
-  message-length = c.message_of.auto.1.1.0 ∙ part_length c.before
+  message-length = c.message_of.auto.message ∙ part_length c.before
 
   message-is : message ≡ message_of s.args.code (unpacked s.args.payload.now s.args.code.k)
   message-is = c.message_of.ensures
@@ -80,15 +80,14 @@ place-requires c κs =
 
 returns : tie.Need-returns
 returns c =
-    let m = c.before.before.before.before.before.before.before in
-    let p = (s m).requires in
-    let mask = (s m).args.mask.now in
-    let output = (s m).args.output.now in
-    let u : List ℕ = placed_message mask (s m).args.code (s m).args.payload.now in
-    let size : length u ≡ code_length (s m).args.code = length-placed mask _ _ in
-    let placed-is : placed mask (message m ++ rest m) (8 * length mask) ≡ u =
-    placed-append mask (message m) (rest m) (8 * length mask) (omega (arith, message-length m, p.coded.K_is)) ∙ ap₂ (placed mask) (message-is m) p.coded.mask_size in
-    c.before.before.place.ensures.1
+    let p = (s c.before.before.before.before.before.before).requires in
+    let mask = (s c.before.before.before.before.before.before).args.mask.now in
+    let output = (s c.before.before.before.before.before.before).args.output.now in
+    let u : List ℕ = placed_message mask (s c.before.before.before.before.before.before).args.code (s c.before.before.before.before.before.before).args.payload.now in
+    let size : length u ≡ code_length (s c.before.before.before.before.before.before).args.code = length-placed mask _ _ in
+    let placed-is : placed mask (message c.before.before.before.before.before.before ++ rest c.before.before.before.before.before.before) (8 * length mask) ≡ u =
+    placed-append mask (message c.before.before.before.before.before.before) (rest c.before.before.before.before.before.before) (8 * length mask) (omega (arith, message-length c.before.before.before.before.before.before, p.coded.K_is)) ∙ ap₂ (placed mask) (message-is c.before.before.before.before.before.before) p.coded.mask_size in
+    c.place.ensures.1
     ∙ ap (λ (x : List ℕ). splice output 0 (packed x)) placed-is
     ∙ splice-whole output (packed u) (length-packed u ∙ omega (arith, size, p.well_formed.output_size))
 

@@ -77,8 +77,7 @@ copy-requires c κs = let s = c.before.before.before in (omega arith, omega (ari
 transform-packed-requires : tie.Need-transform_packed-requires
 transform-packed-requires c κs =
     let k = c.before in
-    let s = k.before.before.before.before in
-    (pow s.requires (fits-room s), copied_at s.requires (fits-room s) k.copy.ensures)
+    (pow k.requires (fits-room k.before.before.before), copied_at k.requires (fits-room k.before.before.before) k.copy.ensures)
 
 -- after the transform
 module _ (c : tie.After-transform_packed) where
@@ -86,9 +85,9 @@ module _ (c : tie.After-transform_packed) where
   k = c.before.before
 
   abbrev s : tie.Start
-  s = k.before.before.before.before
+  s = k.before.before.before
 
-  whole : length c.transform_packed.new.1.1.0 ≡ longest
+  whole : length c.transform_packed.new.bytes ≡ longest
   whole = word-whole s.requires (fits-room s) k.copy.ensures c.transform_packed.ensures
 
 copy-requires-2 : tie.Need-copy-requires-2
@@ -96,8 +95,7 @@ copy-requires-2 c κs = let t = c.before.before.before in (omega (arith, whole t
 
 returns : tie.Need-returns
 returns c =
-    let t = c.before.before.before.before.before.before in
-    c.before.before.copy-2.ensures ∙ word-put (s t).requires (fits-room (s t)) (k t).copy.ensures t.transform_packed.ensures
+    c.copy-2.ensures ∙ word-put (s c.before.before.before.before.before.before).requires (fits-room (s c.before)) (k c.before.before.before.before.before.before).copy.ensures c.transform_packed.ensures
 
 pub transform_in_spec : {M : Type 1} → statement M
 transform_in_spec =

@@ -22,7 +22,7 @@ use Rattle.encoder.proofs.write_codeword.Tie as tie
 
 place-message-requires : tie.Need-place_message-requires
 place-message-requires c κs =
-    let p = c.before.before.before.before.before.requires in
+    let p = c.requires in
     record { coded = p.0; well_formed = p.1; room_size = fits p.0.n_most; room_bits = bits-zeros longest }
 
 -- after the message is placed
@@ -34,10 +34,10 @@ module _ (c : tie.After-place_message) where
   u = placed_message s.args.mask.now s.args.code s.args.payload.now
 
   abbrev output : List ℕ
-  output = c.place_message.new.1.1.1.1.0
+  output = c.place_message.new.output
 
   long : 8 * length output ≡ code_length s.args.code
-  long = omega (arith, c.place_message.auto.1.1.1.1.0, s.requires.1.output_size, s.requires.0.mask_Size)
+  long = omega (arith, c.place_message.auto.output, s.requires.1.output_size, s.requires.0.mask_Size)
 
   bits : unpacked output (code_length s.args.code) ≡ u
   bits =
@@ -47,14 +47,12 @@ module _ (c : tie.After-place_message) where
 transform-in-requires : tie.Need-transform_in-requires
 transform-in-requires c κs =
     let m = c.before.before.before.before.before in
-    record { n_least = (s m).requires.0.n_least; n_most = (s m).requires.0.n_most; room_size = m.place_message.auto.1.1.1.0; output_size = long m }
+    record { n_least = (s m).requires.0.n_least; n_most = (s m).requires.0.n_most; room_size = m.place_message.auto.room; output_size = long m }
 
 returns : tie.Need-returns
 unfolding codeword
 returns c =
-    let t = c.before.before in
-    let m = t.before.before.before.before.before.before in
-    t.transform_in.ensures ∙ ap (λ (x : List ℕ). packed (transformed (s m).args.code.n x)) (bits m)
+    c.transform_in.ensures ∙ ap (λ (x : List ℕ). packed (transformed (s c.before.before.before.before.before.before.before.before).args.code.n x)) (bits c.before.before.before.before.before.before.before.before)
 
 pub write_codeword_spec : {M : Type 1} → statement M
 write_codeword_spec =

@@ -19,30 +19,27 @@ use Rattle.flip_decoder.proofs.decode_by.Tie as tie
 -- no refusal before 16 applies
 module _ (c : tie.In-Fine) where
   abbrev s : tie.Start
-  s = c.before.before.before.before.before.before.before.before
+  s = c.before.before.before.before.before.before
 
   abbrev p : Decoder
   p = single s.args.terms.limit
 
   fine : judge (refusals_of p s.args.code s.args.channel.now s.args.output.now) ≡ Fine
-  fine = let j = c.before in sym (j.judge_call.ensures p j.judge_limit-own.ensures) ∙ c.in-Fine.is
+  fine = sym (c.judge_call.ensures p c.judge_limit-own.ensures) ∙ c.in-Fine.is
 
 returns : tie.Need-returns-in-Fine
 returns c =
-    let d = c.before.before in
-    let t = d.before.before in
-    let x = (s t).args in
-    d.decode_in.ensures
+    let x = (s c.before.before.before.before).args in
+    c.decode_in.ensures
     ∙ ap (λ (os : List Out). answer_of x.mask.now x.code x.output.now (run (trial_passes x.mask.now x.code) 0 0 os)) (trials_are x.terms x.mask.now x.code (channel_values x.channel.now))
-    ∙ sym (fine-answer (p t) x.terms.restart x.mask.now x.code x.channel.now x.output.now (fine t))
+    ∙ sym (fine-answer (p c.before.before.before.before) x.terms.restart x.mask.now x.code x.channel.now x.output.now (fine c.before.before.before.before))
 
 returns-2 : tie.Need-returns-in-Refused
 returns-2 c =
-    let j = c.before in
-    let x = j.args in
+    let x = c.args in
     let p : Decoder = single x.terms.limit in
     sym (refused_answer p x.terms.restart x.mask.now x.code x.channel.now x.output.now _
-    (sym (j.judge_call.ensures p j.judge_limit-own.ensures) ∙ c.in-Refused.is))
+    (sym (c.judge_call.ensures p c.judge_limit-own.ensures) ∙ c.in-Refused.is))
 
 -- what the run asks
 decode-in-requires : tie.Need-decode_in-requires

@@ -13,5 +13,5 @@ judge_limit_spec =
     (λ c. search rules)
     (λ c. search rules)
     (λ c κs. search rules)
-    (λ c. sym (judge_yes _ _ _ (sym c.before.is_outside.ensures ∙ c.if-is_outside.true)))
-    (λ c. sym (judge_no _ _ _ (sym c.before.is_outside.ensures ∙ c.if-is_outside.false) ∙ judge-none)))
+    (λ c. sym (judge_yes _ _ _ (sym c.is_outside.ensures ∙ c.if-is_outside.true)))
+    (λ c. sym (judge_no _ _ _ (sym c.is_outside.ensures ∙ c.if-is_outside.false) ∙ judge-none)))

@@ -18,5 +18,5 @@ pub above_spec : {M : Type 1} → statement M
 above_spec =
     tie.close
     (tie.spec
-    (λ c. back_is w32 _ c.before.ranges.key ∙ chosen c.before c.if-last-key.true)
+    (λ c. back_is w32 _ c.ranges.key ∙ chosen c.before c.if-last-key.true)
     (λ c. chosen c.before c.if-last-key.false))

@@ -41,8 +41,7 @@ module _ {mask : List ℕ} {value : ℤ} {i : ℕ} (p : KeyPre mask value i) (fi
 
 returns : tie.Need-returns-then-mask_bit-eq0
 returns c =
-    let s = c.before.before.before in
-    ap pos (sym (none-under s.args.mask.now s.args.value s.args.i (sym c.before.mask_bit.ensures ∙ c.if-mask_bit-eq0.true)))
+    ap pos (sym (none-under c.args.mask.now c.args.value c.args.i (sym c.mask_bit.ensures ∙ c.if-mask_bit-eq0.true)))
 
 magnitude-requires : tie.Need-magnitude-requires
 magnitude-requires c κs =
@@ -51,20 +50,17 @@ magnitude-requires c κs =
 
 mul-result : tie.Need-overflow_mul-result
 mul-result c =
-    let s = c.before.before.before.before in
-    product-fits s.requires s.ranges.value c.magnitude.ensures
+    product-fits c.requires c.ranges.value c.magnitude.ensures
 
 add-result : tie.Need-overflow_add-result
 add-result c =
-    let s = c.before.before.before.before in
-    sum_fits s.requires s.ranges.value c.magnitude.ensures
+    sum_fits c.requires c.ranges.value c.magnitude.ensures
 
 returns-2 : tie.Need-returns
 returns-2 c =
-    let s = c.before.before.before.before in
-    let bit = c.before.before.mask_bit.ensures in
-    sum_is s.requires s.ranges.value c.magnitude.ensures
-    ∙ ap pos (sym (key-under s.args.mask.now s.args.value s.args.i (omega (arith, bit, c.before.if-mask_bit-eq0.false))))
+    let bit = c.mask_bit.ensures in
+    sum_is c.requires c.ranges.value c.magnitude.ensures
+    ∙ ap pos (sym (key-under c.args.mask.now c.args.value c.args.i (omega (arith, bit, c.if-mask_bit-eq0.false))))
 
 pub key_under_spec : {M : Type 1} → statement M
 key_under_spec =

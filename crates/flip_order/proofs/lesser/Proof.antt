@@ -17,5 +17,5 @@ pub lesser_spec : {M : Type 1} → statement M
 lesser_spec =
     tie.close
     (tie.spec
-    (λ c. back_is w32 _ c.before.ranges.a ∙ chosen c.before c.if-a-b.true)
-    (λ c. back_is w32 _ c.before.ranges.b ∙ chosen c.before c.if-a-b.false))
+    (λ c. back_is w32 _ c.ranges.a ∙ chosen c.before c.if-a-b.true)
+    (λ c. back_is w32 _ c.ranges.b ∙ chosen c.before c.if-a-b.false))

@@ -40,21 +40,19 @@ module _ {mask : List ℕ} {values values' : List ℤ} {i : ℕ} (p : KeysPre ma
 key-under-requires : tie.Need-key_under-requires invariant-loop decreases-loop
 key-under-requires c κs =
     let s = c.before.before.before.before in
-    key-pre s.requires c.before.before.loop-i.invariant c.before.loop-i-test.true
+    key-pre s.requires c.loop-i.invariant c.loop-i-test.true
 
 loop-again : tie.Need-loop-i-preserved invariant-loop decreases-loop
 loop-again c =
-    let s = c.before.before.before.before.before in
-    let l = c.before.before.before.loop-i in
-    let here = c.before.before.loop-i-test.true in
+    let l = c.loop-i in
+    let here = c.loop-i-test.true in
     let key = back_is w32 c.key_under.result (record { sfits = c.key_under.type-inv }) ∙ c.key_under.ensures
-    ∙ ap (λ (z : ℤ). pos (key_under s.args.mask.now z l.i)) (leaf-back s.requires l.invariant here) in
+    ∙ ap (λ (z : ℤ). pos (key_under c.args.mask.now z l.i)) (leaf-back c.requires l.invariant here) in
     filling_more l.invariant _ _ here (omega arith) key
 
 returns : tie.Need-returns invariant-loop decreases-loop
 returns c =
-    let s = c.before.before.before in
-    filling_done c.before.loop-i.invariant c.loop-i-test.false (omega (arith, s.requires.there))
+    filling_done c.loop-i.invariant c.loop-i-test.false (omega (arith, c.requires.there))
 
 pub make_keys_spec : {M : Type 1} → statement M
 make_keys_spec =
@@ -72,5 +70,5 @@ make_keys_spec =
     (λ c. search rules)
     (λ c. search rules)
     loop-again
-    (λ c. c.before.loop-i.invariant.same)
+    (λ c. c.loop-i.invariant.same)
     returns)

@@ -27,21 +27,19 @@ loop-holds c = (refl, omega arith)
 loop-again : tie.Need-loop-i-preserved invariant-loop decreases-loop
 unfolding least_above
 loop-again c =
-    let s = c.before.before.before.before.before in
-    let l = c.before.before.before.before.loop-i in
-    let keys : List ℤ = s.args.keys.now in
-    let last : ℤ = back w32 s.args.last in
-    let key = back_is w32 (get_or keys l.i (pos 0)) (record { sfits = c.before.before.above-arg-1.given }) in
-    let a = back_is w32 c.before.above.result (record { sfits = c.before.above.type-inv }) ∙ c.before.above.ensures ∙ ap (above last) key in
+    let l = c.loop-i in
+    let keys : List ℤ = c.args.keys.now in
+    let last : ℤ = back w32 c.args.last in
+    let key = back_is w32 (get_or keys l.i (pos 0)) (record { sfits = c.above-arg-1.given }) in
+    let a = back_is w32 c.above.result (record { sfits = c.above.type-inv }) ∙ c.above.ensures ∙ ap (above last) key in
     let b = back_is w32 c.lesser-best.result (record { sfits = c.lesser-best.type-inv }) ∙ c.lesser-best.ensures ∙ ap₂ lesser a l.invariant.0 in
     (b ∙ ap (least_above last keys) (sym (add-one l.i)), omega arith)
 
 returns : tie.Need-returns invariant-loop decreases-loop
 returns c =
-    let s = c.before.before in
-    let l = c.before.loop-i in
-    let end : l.i ≡ s.args.size = omega arith in
-    l.invariant.0 ∙ ap₂ (λ (z : ℤ) (n : ℕ). least_above z s.args.keys.now n) (back_is w32 s.args.last s.ranges.last) end
+    let l = c.loop-i in
+    let end : l.i ≡ c.args.size = omega arith in
+    l.invariant.0 ∙ ap₂ (λ (z : ℤ) (n : ℕ). least_above z c.args.keys.now n) (back_is w32 c.args.last c.ranges.last) end
 
 pub next_key_spec : {M : Type 1} → statement M
 next_key_spec =

@@ -16,7 +16,7 @@ part_length : (s : tie.Start) → length (take s.args.k s.args.message.now) ≡ 
 part_length s = length-take-le _ _ s.requires.0
 
 slice-aggregate-pack : tie.Need-slice_bounds-pack-end
-slice-aggregate-pack c = sym (part_length c.before.before.before.before.before.before)
+slice-aggregate-pack c = sym (part_length c.before.before.before)
 
 pack-requires : tie.Need-pack-requires
 pack-requires c κs =
@@ -26,16 +26,14 @@ pack-requires c κs =
 
 returns : tie.Need-returns-in-Passed
 returns c =
-    let t = c.before.before.before.before in
-    let x = t.args in
-    ap (λ (bytes : List ℕ). (Accepted t.in-Passed.FIELD0 t.ended-1.given.0.1.0, bytes)) c.pack.ensures
-    ∙ sym (ap (λ (e : Ended). answered x.k e x.message.now x.output.now) t.in-Passed.is)
+    let x = c.args in
+    ap (λ (bytes : List ℕ). (Accepted c.in-Passed.FIELD0 c.ended-1.given.0.1.0, bytes)) c.pack.ensures
+    ∙ sym (ap (λ (e : Ended). answered x.k e x.message.now x.output.now) c.in-Passed.is)
 
 returns-2 : tie.Need-returns-in-Failed
 returns-2 c =
-    let t = c in
-    let x = t.args in
-    sym (ap (λ (e : Ended). answered x.k e x.message.now x.output.now) t.in-Failed.is)
+    let x = c.args in
+    sym (ap (λ (e : Ended). answered x.k e x.message.now x.output.now) c.in-Failed.is)
 
 pub answer_spec : {M : Type 1} → statement M
 answer_spec =

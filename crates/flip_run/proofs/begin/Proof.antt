@@ -71,43 +71,41 @@ trial-passes-requires c κs =
 -- its check
 module _ (c : tie.After-trial_passes) where
   abbrev f : tie.After-first_trial-done
-  f = c.before.before.before
+  f = c.before.before
 
   ok-is : c.trial_passes.result ≡ ok f (o f).bits
   ok-is = c.trial_passes.ensures.0 ∙ ap (ok f) f.first_trial-done.ensures.bits.bits
 
   -- the message stands in the place of the sums
-  same-room : length c.trial_passes.new.1.1.1.0 ≡ longest
-  same-room = c.trial_passes.auto.1.1.1.0 ∙ f.first_trial-done.ensures.whole.sums
+  same-room : length c.trial_passes.new.message ≡ longest
+  same-room = c.trial_passes.auto.message ∙ f.first_trial-done.ensures.whole.sums
 
 returns : tie.Need-returns-then-trial_passes
 returns c =
-    let p = c.before in
-    let x = (s (f p)).args in
+    let x = (s (f c.before)).args in
     λ later. (
-      subst (λ (w : Verdict). Ran (mask (f p)) x.code w (Passed 1 (f p).first_trial-done.result.steps) p.trial_passes.new.1.1.1.0)
-          (ap (λ (steps : ℕ). passed 1 steps (o (f p)).bits) (counted (f p))
-          ∙ sym (run-passes (ok (f p)) 0 0 (o (f p)) later (sym (ok-is p) ∙ c.if-trial_passes.true)))
-          (ran_passed (s (f p)).requires.0.coded _ _ (f p).first_trial-done.ensures.bits.bits p.trial_passes.ensures.1 (first_bits (mask (f p)) x.code (v (f p)))),
-      same-room p,
+      subst (λ (w : Verdict). Ran (mask (f c.before)) x.code w (Passed 1 (f c.before).first_trial-done.result.steps) c.trial_passes.new.message)
+          (ap (λ (steps : ℕ). passed 1 steps (o (f c.before)).bits) (counted (f c.before))
+          ∙ sym (run-passes (ok (f c.before)) 0 0 (o (f c.before)) later (sym (ok-is c.before) ∙ c.if-trial_passes.true)))
+          (ran_passed (s (f c.before)).requires.0.coded _ _ (f c.before).first_trial-done.ensures.bits.bits c.trial_passes.ensures.1 (first_bits (mask (f c.before)) x.code (v (f c.before)))),
+      same-room c.before,
     )
 
 returns-2 : tie.Need-returns
 returns-2 c =
-    let p = c.before in
-    let t = (f p).first_trial-done.ensures in (
+    let t = (f c.before).first_trial-done.ensures in (
       refl,
       record {
         later = record {
-          start_most = omega (arith, counted (f p), first_steps (mask (f p)) (s (f p)).args.code (v (f p)));
+          start_most = omega (arith, counted (f c.before), first_steps (mask (f c.before)) (s (f c.before)).args.code (v (f c.before)));
           first_bits = t.bits;
           plain = t.plain;
           goes_on = λ later.
-              run_fails (ok (f p)) 0 0 (o (f p)) later (sym (ok-is p) ∙ c.if-trial_passes.false)
-              ∙ ap (λ (steps : ℕ). run (ok (f p)) 1 steps later) (sym (counted (f p)));
+              run_fails (ok (f c.before)) 0 0 (o (f c.before)) later (sym (ok-is c.before) ∙ c.if-trial_passes.false)
+              ∙ ap (λ (steps : ℕ). run (ok (f c.before)) 1 steps later) (sym (counted (f c.before)));
         };
         leaves = t.leaves;
-        whole = arrays_again t.whole (same-room p);
+        whole = arrays_again t.whole (same-room c.before);
       },
     )
 

@@ -14,7 +14,7 @@ use Rattle.flip_run.proofs.decode_in.Tie as tie
 
 run-trials-requires : tie.Need-run_trials-ended-requires
 run-trials-requires c κs =
-    let p = c.before.before.before.before.requires in
+    let p = c.requires in
     (p.frame, p.limits, refl)
 
 -- the run
@@ -23,7 +23,7 @@ module _ (c : tie.After-run_trials-ended) where
   s = c.before.before.before.before.before
 
   abbrev message : List ℕ
-  message = c.run_trials-ended.new.1.1.1.1.0
+  message = c.run_trials-ended.new.sums
 
   same-room : length message ≡ longest
   same-room = c.run_trials-ended.ensures.1
@@ -40,11 +40,9 @@ answer-requires c κs =
 
 returns : tie.Need-returns
 returns c =
-    let a = c.before.before in
-    let r = a.before.before.before in
-    let x = (s r).args in
-    a.answer.ensures
-    ∙ ran_answers x.mask.now x.code x.output.now (verdict_by x.terms x.mask.now x.code x.channel.now) r.run_trials-ended.result (message r) (ran r)
+    let x = (s c.before.before.before.before.before).args in
+    c.answer.ensures
+    ∙ ran_answers x.mask.now x.code x.output.now (verdict_by x.terms x.mask.now x.code x.channel.now) c.run_trials-ended.result (message c.before.before.before.before.before) (ran c.before.before.before.before.before)
 
 pub decode_in_spec : {M : Type 1} → statement M
 decode_in_spec =

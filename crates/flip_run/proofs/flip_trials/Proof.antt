@@ -47,12 +47,12 @@ decreases-loop mask code channel start first values rules₀ work₀ sums₀ bit
 
 make-keys-requires : tie.Need-make_keys-requires invariant-loop decreases-loop
 make-keys-requires c κs =
-    let p = c.before.before.before.requires in
+    let p = c.requires in
     keys_pre p.0 (fits p.0.coded.n_most) p.2.leaves
 
 loop-holds : tie.Need-loop-made-init invariant-loop decreases-loop
 loop-holds c =
-    let p = c.before.before.before.before.requires in
+    let p = c.requires in
     (loop_starts p.1.least (steps_fit p.0.coded.n_most p.2.later.start_most), last_none, p.2.later.plain, record { work = p.2.whole.work; bits = refl; sums = p.2.whole.sums; leaves = refl })
 
 -- at the loop's head
@@ -73,7 +73,7 @@ module _ (c : tie.At-loop-made invariant-loop decreases-loop) where
   later i = later_trial s.args.terms.restart mask s.args.code v (i ∷ [])
 
   abbrev keys : List ℤ
-  keys = c.before.make_keys.new.1.0
+  keys = c.make_keys.new.values
 
   abbrev going : LoopInvariant (trial_passes mask s.args.code) later order s.args.terms.limit s.args.start c.loop-made.made c.loop-made.steps
   going = c.loop-made.invariant.0
@@ -91,7 +91,7 @@ module _ (c : tie.At-loop-made invariant-loop decreases-loop) where
   keyed : FirstKeys mask s.args.code s.args.channel.now keys
   keyed =
       let on = s.requires.0 in
-      keys_made (keys_pre on size_fits s.requires.2.leaves) on.coded.mask_size s.requires.2.leaves.values c.before.make_keys.ensures
+      keys_made (keys_pre on size_fits s.requires.2.leaves) on.coded.mask_size s.requires.2.leaves.values c.make_keys.ensures
 
 -- the next key
 module _ (c : tie.After-next_key-key invariant-loop decreases-loop) where
@@ -187,39 +187,37 @@ module _ (c : tie.After-trial_passes invariant-loop decreases-loop) where
   ok-is = c.trial_passes.ensures.0 ∙ ap (trial_passes (mask a) (s a).args.code) (made-is trial).bits
 
   -- the message stands in the place of the sums
-  same-room : length c.trial_passes.new.1.1.1.0 ≡ longest
-  same-room = c.trial_passes.auto.1.1.1.0 ∙ (made-is trial).whole.sums
+  same-room : length c.trial_passes.new.message ≡ longest
+  same-room = c.trial_passes.auto.message ∙ (made-is trial).whole.sums
 
 returns : tie.Need-returns-then-trial_passes invariant-loop decreases-loop
 returns c =
-    let p = c.before in
-    let l = a p in
-    let f = found (trial p) in (
-      subst (λ (w : Verdict). Ran (mask l) (s l).args.code w (Passed (l.loop-made.made + 1) (l.loop-made.steps + (trial p).later_trial-done.result.steps)) p.trial_passes.new.1.1.1.0)
-          (sym ((s l).requires.2.later.goes_on _ ∙ loop_passes (going l) (long l) (turn (k f)).loop-made-test.true (next f) (took (trial p)) (sym (ok-is p) ∙ c.if-trial_passes.true)))
-          (ran_passed (s l).requires.0.coded _ _ (made-is (trial p)).bits p.trial_passes.ensures.1 (later-bits (mask l) (s l).args.code (v l) (i f ∷ []) (q (trial p)))),
-      same-room p,
+    let l = a c.before in
+    let f = found (trial c.before) in (
+      subst (λ (w : Verdict). Ran (mask l) (s l).args.code w (Passed (l.loop-made.made + 1) (l.loop-made.steps + (trial c.before).later_trial-done.result.steps)) c.trial_passes.new.message)
+          (sym ((s l).requires.2.later.goes_on _ ∙ loop_passes (going l) (long l) (turn (k f)).loop-made-test.true (next f) (took (trial c.before)) (sym (ok-is c.before) ∙ c.if-trial_passes.true)))
+          (ran_passed (s l).requires.0.coded _ _ (made-is (trial c.before)).bits c.trial_passes.ensures.1 (later-bits (mask l) (s l).args.code (v l) (i f ∷ []) (q (trial c.before)))),
+      same-room c.before,
     )
 
 loop-again : tie.Need-loop-made-preserved invariant-loop decreases-loop
 loop-again c =
-    let p = c.before in
-    let t = trial p in
-    let l = a p in
+    let t = trial c.before in
+    let l = a c.before in
     let f = found t in
     let m : l.loop-made.made + 1 - 1 ≡ l.loop-made.made - 1 + 1 = omega (arith, (going l).least) in (
-      loop_goes_on (going l) (long l) (turn (k f)).loop-made-test.true (next f) (took t) (sym (ok-is p) ∙ c.if-trial_passes.false) (few t),
+      loop_goes_on (going l) (long l) (turn (k f)).loop-made-test.true (next f) (took t) (sym (ok-is c.before) ∙ c.if-trial_passes.false) (few t),
       next_place (keyed l) l.loop-made.invariant.1 (here (k f)) (least (k f)) m,
       plain_after l.loop-made.invariant.2 (s l).requires.2.later.first_bits (flips f) (s l).args.terms.restart (s l).requires.0.coded.mask_size (resumed t).restart_index-q.ensures t.later_trial-done.ensures.1 (size_fits l),
-      arrays_again (made-is t).whole (same-room p),
+      arrays_again (made-is t).whole (same-room c.before),
     )
 
 returns-2 : tie.Need-returns invariant-loop decreases-loop
 returns-2 c =
-    let l = c.before in (
-      subst (λ (w : Verdict). Ran (mask l) (s l).args.code w (Failed l.loop-made.made l.loop-made.steps) l.loop-made.sums)
-          (sym ((s l).requires.2.later.goes_on _ ∙ loop_ends (going l) (long l) c.loop-made-test.false)) refl,
-      l.loop-made.invariant.3.sums,
+    (
+      subst (λ (w : Verdict). Ran (mask c.before) (s c.before).args.code w (Failed c.loop-made.made c.loop-made.steps) c.loop-made.sums)
+          (sym ((s c.before).requires.2.later.goes_on _ ∙ loop_ends (going c.before) (long c.before) c.loop-made-test.false)) refl,
+      c.loop-made.invariant.3.sums,
     )
 
 pub flip_trials_spec : {M : Type 1} → statement M
@@ -232,13 +230,13 @@ flip_trials_spec =
     loop-holds
     (λ c κs.
     let l = c.before.before.before in
-    omega (arith, (s l).requires.0.channel_size, size_fits l, l.before.make_keys.auto.1.0, (s l).requires.2.leaves.whole))
+    omega (arith, (s l).requires.0.channel_size, size_fits l, l.before.make_keys.auto.values, (s l).requires.2.leaves.whole))
     (λ c κs. next_positive (keyed (head c)) (head c).loop-made.invariant.1 (here c) (least c))
     restart-index-requires
     (λ c. search rules)
     later-trial-requires
     (λ c. omega (arith, made_most (at c)))
-    (λ c. let t = c.before in omega (arith, few t, (going (at t)).few, made_most (at t)))
+    (λ c. omega (arith, few c.before, (going (at c.before)).few, made_most (at c.before)))
     trial-passes-requires
     returns
     (λ c. search rules)

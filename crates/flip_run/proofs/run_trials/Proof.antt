@@ -19,21 +19,17 @@ begin-requires c κs =
 
 returns-2 : tie.Need-returns-in-Passed
 returns-2 c =
-    let t = c in
-    let e = subst (BeginPost _ _ _ _ _ _) t.in-Passed.is t.begin.ensures in
+    let e = subst (BeginPost _ _ _ _ _ _) c.in-Passed.is c.begin.ensures in
     e _
 
 returns : tie.Need-returns-then-terms-eq1
 returns c =
-    let t = c.before.before in
-    let b = t.before in
-    let s = b.before.before.before.before.before.before.before.before in
-    let x = s.args in
-    let on = s.requires.0 in
-    let made = t.trials-1.given.0 in
-    let e = subst (BeginPost _ _ _ _ _ _) t.in-Failed.is b.begin.ensures in (
-      subst (λ (w : Verdict). Ran x.mask.now x.code w (Failed made.0 made.1.0) b.begin.new.1.1.1.1.1.1.1.0)
-          (sym (e.1.later.goes_on _ ∙ loop_ends (loop_starts s.requires.1.least (steps_fit on.coded.n_most e.1.later.start_most)) (order_long on s.requires.1.most) (omega (arith, c.if-terms-eq1.true))))
+    let x = c.args in
+    let on = c.requires.0 in
+    let made = c.trials-1.given.0 in
+    let e = subst (BeginPost _ _ _ _ _ _) c.in-Failed.is c.begin.ensures in (
+      subst (λ (w : Verdict). Ran x.mask.now x.code w (Failed made.0 made.1.0) c.begin.new.sums)
+          (sym (e.1.later.goes_on _ ∙ loop_ends (loop_starts c.requires.1.least (steps_fit on.coded.n_most e.1.later.start_most)) (order_long on c.requires.1.most) (omega (arith, c.if-terms-eq1.true))))
           (ap (λ (m : ℕ). Failed m made.1.0) e.0),
       e.1.whole.sums,
     )

@@ -16,13 +16,12 @@ abbrev decreases-loop : tie.decreases-loop-j
 decreases-loop at count bits₀ j₀ bits j = count - j
 
 loop-again : tie.Need-loop-j-preserved invariant-loop decreases-loop
-loop-again c = let l = c.before.loop-j in filling_more l.invariant _ 0 (omega arith) refl refl
+loop-again c = let l = c.loop-j in filling_more l.invariant _ 0 (omega arith) refl refl
 
 returns : tie.Need-returns invariant-loop decreases-loop
 returns c =
-    let s = c.before.before in
-    filling_done c.before.loop-j.invariant (omega arith) (omega arith)
-    ∙ ap (splice s.args.bits.now s.args.at) (table-replicate 0 s.args.count)
+    filling_done c.loop-j.invariant (omega arith) (omega arith)
+    ∙ ap (splice c.args.bits.now c.args.at) (table-replicate 0 c.args.count)
 
 pub clear_bits_spec : {M : Type 1} → statement M
 clear_bits_spec =

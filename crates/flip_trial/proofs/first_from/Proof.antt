@@ -34,24 +34,24 @@ found mask from j l m below here =
 
 returns : tie.Need-returns-then-mask_bit-eq1 invariant-loop decreases-loop
 returns c =
-    let l = c.before.before.before.loop-j in
-    let s = c.before.before.before.before.before.args in
-    found s.mask.now s.from l.j l.invariant.0 l.invariant.1 l.invariant.2 (λ _. sym c.before.mask_bit.ensures ∙ c.if-mask_bit-eq1.true)
+    let l = c.loop-j in
+    let s = c.args in
+    found s.mask.now s.from l.j l.invariant.0 l.invariant.1 l.invariant.2 (λ _. sym c.mask_bit.ensures ∙ c.if-mask_bit-eq1.true)
 
 loop-again : tie.Need-loop-j-preserved invariant-loop decreases-loop
 loop-again c =
-    let l = c.before.before.before.loop-j in
-    let s = c.before.before.before.before.before.args in
+    let l = c.loop-j in
+    let s = c.args in
     let mask = s.mask.now in
     let back : s.from + (l.j - s.from) ≡ l.j = omega (arith, l.invariant.0) in
     let turns : l.j - s.from + 1 ≡ l.j + 1 - s.from = omega (arith, l.invariant.0) in
-    let bit = ne_eqb _ 1 (λ e. c.if-mask_bit-eq1.false (c.before.mask_bit.ensures ∙ sym (ap (mask_bit mask) back) ∙ e)) in
+    let bit = ne_eqb _ 1 (λ e. c.if-mask_bit-eq1.false (c.mask_bit.ensures ∙ sym (ap (mask_bit mask) back) ∙ e)) in
     (omega (arith, l.invariant.0), omega arith, subst (λ (m : ℕ). (k : ℕ) → k < m → test mask s.from k ≡ false) turns (below_more _ _ l.invariant.2 bit))
 
 returns-2 : tie.Need-returns invariant-loop decreases-loop
 returns-2 c =
-    let l = c.before.loop-j in
-    let s = c.before.before.before.args in
+    let l = c.loop-j in
+    let s = c.args in
     found s.mask.now s.from l.j l.invariant.0 l.invariant.1 l.invariant.2 (λ h. absurd (omega arith))
 
 pub first_from_spec : {M : Type 1} → statement M

@@ -11,10 +11,8 @@ rules-from-requires c κs = let s = c.before.before.before in (omega (arith, s.r
 
 returns : tie.Need-returns
 returns c =
-    let d = c.before.before.before.before.before.before in
-    let s = d.before.before.before.before in
-    let e = d.rules_from.ensures in
-    first_post s.args.code s.requires.1 (fits s.requires.0.n_most) s.requires.0.whole e.0 e.1 c.pass.ensures
+    let e = c.rules_from.ensures in
+    first_post c.args.code c.requires.1 (fits c.requires.0.n_most) c.requires.0.whole e.0 e.1 c.pass.ensures
 
 pub first_trial_spec : {M : Type 1} → statement M
 first_trial_spec = tie.close (tie.spec rules-from-requires (λ c κs. search rules) returns)

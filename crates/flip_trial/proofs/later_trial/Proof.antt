@@ -46,15 +46,11 @@ set-rules-requires-2 c κs =
 
 returns : tie.Need-returns
 returns c =
-    let d = c.before.before in
-    let r = d.before.before.before.before.before.before in
-    let p = r.before.before in
-    let s = p.before.before.before.before.before in
-    let rules = s.args.rules.now in
-    let flips = s.args.flips.now in (
-      later_post s.requires.0 s.requires.1 (room s) p.put_prefix.ensures r.set_rules.ensures d.pass-done.ensures,
-      c.set_rules-2.ensures ∙ ap (λ (w : List ℕ). set_all w flips 1) r.set_rules.ensures
-          ∙ set_again rules flips (subst (λ (k : ℕ). Below k flips) (sym s.requires.0.rules_whole) (below s)) 3 1,
+    let rules = c.args.rules.now in
+    let flips = c.args.flips.now in (
+      later_post c.requires.0 c.requires.1 (room c.before.before.before.before.before.before.before.before.before.before.before.before.before.before) c.put_prefix.ensures c.set_rules.ensures c.pass-done.ensures,
+      c.set_rules-2.ensures ∙ ap (λ (w : List ℕ). set_all w flips 1) c.set_rules.ensures
+          ∙ set_again rules flips (subst (λ (k : ℕ). Below k flips) (sym c.requires.0.rules_whole) (below c.before.before.before.before.before.before.before.before.before.before.before.before.before.before)) 3 1,
     )
 
 pub later_trial_spec : {M : Type 1} → statement M

@@ -34,23 +34,22 @@ module _ (bits first : List ℕ) (i x zeros : ℕ) (fits : i + 1 + zeros ≤ len
 
 returns : tie.Need-returns-then-q-i
 returns c =
-    let s = c.before.before.before.before.args in
+    let s = c.args in
     c.copy.ensures ∙ ap (splice s.bits.now 0) (sym (forced-before s.first.now s.i s.q (omega arith) (omega arith)))
 
 clear-bits-requires : tie.Need-clear_bits-requires
 clear-bits-requires c κs =
     let s = c.before.before.before.before.before.before in
-    let e = copied-length s.args.bits.now s.args.first.now s.args.i 0 0 (omega arith) (omega arith) c.before.before.copy-2.ensures in
+    let e = copied-length s.args.bits.now s.args.first.now s.args.i 0 0 (omega arith) (omega arith) c.copy-2.ensures in
     (omega arith, simp length-set (omega arith))
 
 returns-2 : tie.Need-returns
 returns-2 c =
-    let s = c.before.before.before.before.before.before.before in
-    let first = s.args.first.now in
-    let i = s.args.i in
-    let q = s.args.q in
-    cleared s.args.bits.now first i _ (q - (i + 1)) (omega arith) (omega arith) c.before.before.before.copy-2.ensures c.clear_bits.ensures
-    ∙ ap (splice s.args.bits.now 0) (sym (forced-past first i q (omega arith) (omega arith)))
+    let first = c.args.first.now in
+    let i = c.args.i in
+    let q = c.args.q in
+    cleared c.args.bits.now first i _ (q - (i + 1)) (omega arith) (omega arith) c.copy-2.ensures c.clear_bits.ensures
+    ∙ ap (splice c.args.bits.now 0) (sym (forced-past first i q (omega arith) (omega arith)))
 
 pub put_prefix_spec : {M : Type 1} → statement M
 put_prefix_spec =

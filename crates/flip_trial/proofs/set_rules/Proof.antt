@@ -19,13 +19,13 @@ decreases-loop rule flips rules₀ a₀ rules a = length flips - a
 
 element-write-rules : tie.Need-bounds-rules-i invariant-loop decreases-loop
 element-write-rules c =
-    let l = c.before.before.loop-a in
-    omega (arith, c.before.before.before.requires.0.at l.a (omega arith), l.invariant.1)
+    let l = c.loop-a in
+    omega (arith, c.requires.0.at l.a (omega arith), l.invariant.1)
 
 loop-again : tie.Need-loop-a-preserved invariant-loop decreases-loop
 loop-again c =
-    let l = c.before.before.loop-a in
-    let s = c.before.before.before.args in
+    let l = c.loop-a in
+    let s = c.args in
     let flips = s.flips.now in (
       omega arith,
       length-set l.rules _ _ ∙ l.invariant.1,
@@ -36,8 +36,8 @@ loop-again c =
 
 returns : tie.Need-returns invariant-loop decreases-loop
 returns c =
-    let l = c.before.loop-a in
-    let s = c.before.before.args in
+    let l = c.loop-a in
+    let s = c.args in
     sym (ap (λ (is : List ℕ). set_all l.rules is s.rule) (drop_of_length-le s.flips.now {i = l.a} (omega arith))) ∙ l.invariant.2
 
 pub set_rules_spec : {M : Type 1} → statement M

@@ -19,10 +19,10 @@ module _ (c : tie.After-take_out) where
   abbrev size : ℕ
   size = information_count s.args.code
 
-  taken_is : take size c.take_out.new.1.1.0 ≡ message_in s.args.mask.now s.args.code (take (code_length s.args.code) s.args.bits.now)
+  taken_is : take size c.take_out.new.message ≡ message_in s.args.mask.now s.args.code (take (code_length s.args.code) s.args.bits.now)
   taken_is = message-at s.requires.0 s.args.bits.now s.args.message.now _ s.requires.2 c.take_out.ensures.1
 
-  taken-length : length (take size c.take_out.new.1.1.0) ≡ size
+  taken-length : length (take size c.take_out.new.message) ≡ size
   taken-length = ap length taken_is ∙ length-message s.requires.0 _
 
 passes-requires : tie.Need-passes-requires
@@ -33,9 +33,8 @@ passes-requires c κs =
 
 returns : tie.Need-returns
 returns c =
-    let t = c.before.before.before.before.before.before in
-    let a = (s t).args in
-    (c.passes.ensures ∙ ap (passes (divisor a.code) (start_bits a.code) a.code.k) (taken_is t), taken_is t)
+    let a = (s c.before.before.before.before.before).args in
+    (c.passes.ensures ∙ ap (passes (divisor a.code) (start_bits a.code) a.code.k) (taken_is c.before.before.before.before.before), taken_is c.before.before.before.before.before)
 
 pub trial_passes_spec : {M : Type 1} → statement M
 trial_passes_spec =
@@ -45,7 +44,7 @@ trial_passes_spec =
     (λ c. search rules)
     (λ c. search rules)
     (λ c. search rules)
-    (λ c. sym (taken-length c.before.before.before.before.before))
+    (λ c. sym (taken-length c.before.before.before.before))
     passes-requires
     (λ c. search rules)
     returns)

@@ -20,21 +20,21 @@ decreases-loop values₀ channel i₀ values i = length channel - i
 
 -- a turn reads a value that is not yet a sum
 kept : (c : tie.After-shared_slice_known-in-loop-i-1 invariant-loop decreases-loop) →
-    let l = c.before.before.before.loop-i in
-    get_or l.values l.i 0 ≡ get_or c.before.before.before.before.before.before.args.values.now l.i 0
-kept c = let l = c.before.before.before.loop-i in filling_past l.invariant l.i 0 (omega arith)
+    let l = c.loop-i in
+    get_or l.values l.i 0 ≡ get_or c.args.values.now l.i 0
+kept c = let l = c.loop-i in filling_past l.invariant l.i 0 (omega arith)
 
 clipped-sum-requires : tie.Need-clipped_sum-requires invariant-loop decreases-loop
 clipped-sum-requires c κs =
-    let i = c.before.before.before.loop-i.i in
-    let pre = c.before.before.before.before.before.before.requires in
-    let below : i < length c.before.before.before.before.before.before.args.channel.now = omega arith in
+    let i = c.loop-i.i in
+    let pre = c.requires in
+    let below : i < length c.args.channel.now = omega arith in
     (omega (arith, ap (λ (b : ℕ). nat_abs (channel_value b)) (kept c), pre.values_small i below), pre.channel_small i below)
 
 loop-again : tie.Need-loop-i-preserved invariant-loop decreases-loop
 loop-again c =
-    let l = c.before.before.before.before.loop-i in
-    let channel = c.before.before.before.before.before.before.before.args.channel.now in
+    let l = c.loop-i in
+    let channel = c.args.channel.now in
     filling_more l.invariant _ _ (omega arith) (omega arith)
     (c.clipped_sum.ensures ∙ ap (λ (b : ℕ). clipped_sum b (get_or channel l.i 0)) (kept c.before))
 
@@ -45,12 +45,12 @@ add_values_spec =
     invariant-loop
     decreases-loop
     (λ c. filling_none)
-    (λ c. omega (arith, c.before.before.loop-i.invariant.same, c.before.before.before.before.before.requires.room))
+    (λ c. omega (arith, c.loop-i.invariant.same, c.requires.room))
     (λ c. search rules)
     clipped-sum-requires
-    (λ c. omega (arith, c.before.before.before.before.loop-i.invariant.same, c.before.before.before.before.before.before.before.requires.room))
+    (λ c. omega (arith, c.loop-i.invariant.same, c.requires.room))
     (λ c. search rules)
     (λ c. search rules)
     loop-again
-    (λ c. c.before.loop-i.invariant.same)
-    (λ c. filling_done c.before.loop-i.invariant (omega arith) (omega (arith, c.before.before.before.before.requires.room))))
+    (λ c. c.loop-i.invariant.same)
+    (λ c. filling_done c.loop-i.invariant (omega arith) (omega (arith, c.requires.room))))

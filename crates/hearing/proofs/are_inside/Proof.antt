@@ -8,8 +8,7 @@ use Rattle.hearing.proofs.are_inside.Tie as tie
 
 returns : tie.Need-returns
 returns c =
-    let s = c.before.before.before in
-    c.are_inside.ensures ∙ ap (eqb _) (length-take-le _ _ s.requires)
+    c.are_inside.ensures ∙ ap (eqb _) (length-take-le _ _ c.requires)
 
 pub are_inside_spec : {M : Type 1} → statement M
-are_inside_spec = tie.close (tie.spec (λ c. sym (length-take-le _ _ c.before.before.requires)) (λ c κs. search rules) returns)
+are_inside_spec = tie.close (tie.spec (λ c. sym (length-take-le _ _ c.requires)) (λ c κs. search rules) returns)

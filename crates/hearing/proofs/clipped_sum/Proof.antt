@@ -9,10 +9,9 @@ use Rattle.hearing.proofs.clipped_sum.Tie as tie
 
 returns : tie.Need-returns
 returns c =
-    let s = c.before in
-    let a = s.args.a in
-    let b = s.args.b in
-    ap (λ (x : ℕ). (x + 194) % 256) c.clamped-sum.ensures ∙ sym (clipped_sum-is a b (omega arith) (omega arith) s.requires.0 s.requires.1)
+    let a = c.args.a in
+    let b = c.args.b in
+    ap (λ (x : ℕ). (x + 194) % 256) c.clamped-sum.ensures ∙ sym (clipped_sum-is a b (omega arith) (omega arith) c.requires.0 c.requires.1)
 
 pub clipped_sum_spec : {M : Type 1} → statement M
 clipped_sum_spec =

@@ -39,19 +39,16 @@ module _ (s : tie.Start) where
 
 -- the first test
 first : (c : tie.After-is_zero_from) →
-    let s = c.before.before.before in
-    c.is_zero_from.result ≡ zeros s (zero_from s.args.code s.args.count)
-first c = c.is_zero_from.ensures ∙ ap (zeros c.before.before.before) c.before.zero_from.ensures
+    c.is_zero_from.result ≡ zeros c.before.before.before (zero_from c.args.code c.args.count)
+first c = c.is_zero_from.ensures ∙ ap (zeros c.before.before.before) c.zero_from.ensures
 
 returns : tie.Need-returns-then-is_zero_from
 returns c =
-    let e = c.before.before.before in
-    let s = e.before.before.before in
-    c.are_inside.ensures ∙ ap (λ (k : ℕ). eqb (first_outside (take k (values s))) k) (size s)
-    ∙ ap (by s) (sym c.before.before.if-is_zero_from.true ∙ first e) ∙ counted s
+    c.are_inside.ensures ∙ ap (λ (k : ℕ). eqb (first_outside (take k (values c.before.before.before.before.before.before))) k) (size c.before.before.before.before.before.before)
+    ∙ ap (by c.before.before.before.before.before.before) (sym c.if-is_zero_from.true ∙ first c.before.before.before) ∙ counted c.before.before.before.before.before.before
 
 returns-2 : tie.Need-returns
-returns-2 c = let e = c.before in let s = e.before.before.before in ap (by s) (sym c.if-is_zero_from.false ∙ first e) ∙ counted s
+returns-2 c = ap (by c.before.before.before.before) (sym c.if-is_zero_from.false ∙ first c.before) ∙ counted c.before.before.before.before
 
 pub is_hearing_spec : {M : Type 1} → statement M
 is_hearing_spec =

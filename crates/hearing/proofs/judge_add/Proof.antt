@@ -22,21 +22,15 @@ module _ (s : tie.Start) where
 
 returns : tie.Need-returns-then-count-eq255
 returns c =
-    let j = c.before.before in
-    let s = j.before.before in
-    sym (append-fine (first s) (second s) (sym j.judge_channel.ensures ∙ c.in-Fine.is) ∙ judge_yes _ _ _ (eq-eqb _ _ c.if-count-eq255.true))
+    sym (append-fine (first c.before.before.before.before) (second c.before.before.before.before) (sym c.judge_channel.ensures ∙ c.in-Fine.is) ∙ judge_yes _ _ _ (eq-eqb _ _ c.if-count-eq255.true))
 
 returns-2 : tie.Need-returns-else-count-eq255
 returns-2 c =
-    let j = c.before.before in
-    let s = j.before.before in
-    sym (append-fine (first s) (second s) (sym j.judge_channel.ensures ∙ c.in-Fine.is) ∙ judge_no _ _ _ (ne_eqb _ _ c.if-count-eq255.false) ∙ judge-none)
+    sym (append-fine (first c.before.before.before.before) (second c.before.before.before.before) (sym c.judge_channel.ensures ∙ c.in-Fine.is) ∙ judge_no _ _ _ (ne_eqb _ _ c.if-count-eq255.false) ∙ judge-none)
 
 returns-3 : tie.Need-returns-in-Refused
 returns-3 c =
-    let j = c.before in
-    let s = j.before.before in
-    sym (append_refused (first s) (second s) _ (sym j.judge_channel.ensures ∙ c.in-Refused.is))
+    sym (append_refused (first c.before.before.before) (second c.before.before.before) _ (sym c.judge_channel.ensures ∙ c.in-Refused.is))
 
 pub judge_add_spec : {M : Type 1} → statement M
 judge_add_spec =

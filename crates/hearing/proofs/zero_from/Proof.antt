@@ -10,13 +10,12 @@ use Rattle.hearing.proofs.zero_from.Statement.{statement}
 use Rattle.hearing.proofs.zero_from.Tie as tie
 
 returns : tie.Need-returns-then-count-eq0
-returns c = let s = c.before.args in ap (λ (t : Bool). cond t 0 (2 ^ s.code.n)) (sym (eq-eqb s.count 0 c.if-count-eq0.true))
+returns c = let s = c.args in ap (λ (t : Bool). cond t 0 (2 ^ s.code.n)) (sym (eq-eqb s.count 0 c.if-count-eq0.true))
 
 returns-2 : tie.Need-returns
 returns-2 c =
-    let s = c.before.before in
-    one_shl s.args.code.n 64 (omega (arith, s.requires))
-    ∙ ap (λ (t : Bool). cond t 0 (2 ^ s.args.code.n)) (sym (ne_eqb s.args.count 0 c.before.if-count-eq0.false))
+    one_shl c.args.code.n 64 (omega (arith, c.requires))
+    ∙ ap (λ (t : Bool). cond t 0 (2 ^ c.args.code.n)) (sym (ne_eqb c.args.count 0 c.if-count-eq0.false))
 
 pub zero_from_spec : {M : Type 1} → statement M
 zero_from_spec = tie.close (tie.spec returns (λ c. search rules) (λ c. search rules) returns-2)

@@ -21,16 +21,12 @@ by s a =
 
 returns : tie.Need-returns-in-Accepted
 returns c =
-    let u = c.before.before in
-    let t = u.before.before in
-    let r = t.before in
-    u.add_under.ensures ∙ sym (ap (by r.before.before.before.before) (sym r.Code-in.ensures ∙ t.in-Accepted.is))
+    c.add_under.ensures ∙ sym (ap (by c.before.before.before.before.before) (sym c.Code-in.ensures ∙ c.in-Accepted.is))
 
 returns-2 : tie.Need-returns-in-Refused
 unfolding refused_or
 returns-2 c =
-    let r = c.before in
-    sym (ap (by r.before.before.before.before) (sym r.Code-in.ensures ∙ c.in-Refused.is))
+    sym (ap (by c.before.before.before.before.before) (sym c.Code-in.ensures ∙ c.in-Refused.is))
 
 pub add_spec : {M : Type 1} → statement M
 add_spec =

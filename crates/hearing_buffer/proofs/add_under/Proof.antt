@@ -66,34 +66,30 @@ module _ (c : tie.In-Fine) where
 
   room : count start < 255
   room =
-      let s = start in
-      not_full s.args.code (count s) s.args.channel.now fine (count_most s.args.code (h s) (hears s))
+      not_full start.args.code (count start) start.args.channel.now fine (count_most start.args.code (h start) (hears start))
 
 returns : tie.Need-returns-in-Fine
 unfolding refused_or
 returns c =
-    let a = c.before.before in
-    let t = a.before.before in
+    let t = c.before.before.before in
     let s = start t in
     let x = s.args in
-    let sums = a.add_values.ensures ∙ sums_are x.code (h s) x.channel.now (n_most s) (parts (b s) (size s)).values_size (hears s) (fine t) in
+    let sums = c.add_values.ensures ∙ sums_are x.code (h s) x.channel.now (n_most s) (parts (b s) (size s)).values_size (hears s) (fine t) in
     ap (λ (l : List ℕ). (Done (count s + 1), l)) (added-bytes (b s) (size s) _ (count s + 1) ∙ ap (λ (v : List ℕ). take longest_description (b s) ++ ((count s + 1) ∷ v)) sums)
     ∙ sym (ap (by s (state s)) (fine t)) ∙ ap (λ (t : State). by s t (judge (add_refusals x.code t.hearing.count x.channel.now))) (state_parts (b s) (size s))
 
 returns-2 : tie.Need-returns-in-Refused
 unfolding refused_or
 returns-2 c =
-    let j = c.before in
-    let s = j.before.before.before.before in
-    let x = s.args in
-    sym (ap (by s (state s)) (sym j.judge_add.ensures ∙ c.in-Refused.is))
-    ∙ ap (λ (t : State). by s t (judge (add_refusals x.code t.hearing.count x.channel.now))) (state_parts (b s) (size s))
+    let x = c.args in
+    sym (ap (by c.before.before.before.before.before (state c.before.before.before.before.before)) (sym c.judge_add.ensures ∙ c.in-Refused.is))
+    ∙ ap (λ (t : State). by c.before.before.before.before.before t (judge (add_refusals x.code t.hearing.count x.channel.now))) (state_parts (b c.before.before.before.before.before) (size c.before.before.before.before.before))
 
 pub add_under_spec : {M : Type 1} → statement M
 add_under_spec =
     tie.close
     (tie.spec
-    (λ c. let s = c.before.before.before in omega (arith, size s))
+    (λ c. omega (arith, size c.before.before.before))
     (λ c κs. n_most c.before.before.before)
     (λ c. search rules)
     (λ c. omega (arith, size (start c)))

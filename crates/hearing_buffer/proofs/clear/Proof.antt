@@ -30,18 +30,13 @@ size t = code-size t.args.buffer.now _ (sym t.Code-in.ensures ∙ t.in-Accepted.
 returns : tie.Need-returns-in-Accepted
 unfolding refused_or
 returns c =
-    let z = c.before.before in
-    let t = z.before.before in
-    let r = t.before in
-    let s = r.before.before.before in
-    ap (λ (l : List ℕ). (Done 0, l)) (z.clear_from.ensures ∙ clear_bytes s.args.buffer.now (size t))
-    ∙ sym (ap (by s) (sym r.Code-in.ensures ∙ t.in-Accepted.is))
+    ap (λ (l : List ℕ). (Done 0, l)) (c.clear_from.ensures ∙ clear_bytes c.args.buffer.now (size c.before.before.before.before))
+    ∙ sym (ap (by c.before) (sym c.Code-in.ensures ∙ c.in-Accepted.is))
 
 returns-2 : tie.Need-returns-in-Refused
 unfolding refused_or
 returns-2 c =
-    let r = c.before in
-    sym (ap (by r.before.before.before) (sym r.Code-in.ensures ∙ c.in-Refused.is))
+    sym (ap (by c.before.before.before.before) (sym c.Code-in.ensures ∙ c.in-Refused.is))
 
 pub clear_spec : {M : Type 1} → statement M
 clear_spec =

@@ -19,17 +19,16 @@ abbrev decreases-loop : tie.decreases-loop-j
 decreases-loop buffer₀ start count j₀ buffer j = count - j
 
 loop-again : tie.Need-loop-j-preserved invariant-loop decreases-loop
-loop-again c = let l = c.before.loop-j in filling_more l.invariant _ 0 (omega arith) refl refl
+loop-again c = let l = c.loop-j in filling_more l.invariant _ 0 (omega arith) refl refl
 
 returns : tie.Need-returns invariant-loop decreases-loop
 returns c =
-    let s = c.before.before in
-    let b : List ℕ = s.args.buffer.now in
-    let start : ℕ = s.args.start in
+    let b : List ℕ = c.args.buffer.now in
+    let start : ℕ = c.args.start in
     let count : ℕ = length b - start in
-    filling_done c.before.loop-j.invariant (omega arith) (omega arith)
+    filling_done c.loop-j.invariant (omega arith) (omega arith)
     ∙ ap (splice b start) (table-replicate 0 count)
-    ∙ splice-end b start (replicate count 0) (omega (arith, length-replicate {A = ℕ} count 0, s.requires))
+    ∙ splice-end b start (replicate count 0) (omega (arith, length-replicate {A = ℕ} count 0, c.requires))
 
 pub clear_from_spec : {M : Type 1} → statement M
 clear_from_spec =
@@ -44,5 +43,5 @@ clear_from_spec =
     (λ c. search rules)
     (λ c. search rules)
     loop-again
-    (λ c. c.before.loop-j.invariant.same)
+    (λ c. c.loop-j.invariant.same)
     returns)

@@ -12,20 +12,19 @@ use Rattle.hearing_buffer.proofs.code_in.Tie as tie
 
 returns : tie.Need-returns-then-buffer-eq-HEARING_SIZE
 returns c =
-    let t = c.before.before.before.before in
-    let b = t.before.before.args.buffer.now in
-    c.code_by.ensures ∙ ap code_of_state (state_parts b t.if-buffer-eq-HEARING_SIZE.true)
+    let b = c.args.buffer.now in
+    c.code_by.ensures ∙ ap code_of_state (state_parts b c.if-buffer-eq-HEARING_SIZE.true)
 
 returns-2 : tie.Need-returns
 returns-2 c =
-    let b = c.before.before.args.buffer.now in
+    let b = c.args.buffer.now in
     sym (ap (λ (t : Bool). code_of_state (cond t (state_at b) no_state)) (ne_eqb _ _ c.if-buffer-eq-HEARING_SIZE.false) ∙ no_code)
 
 pub code_in_spec : {M : Type 1} → statement M
 code_in_spec =
     tie.close
     (tie.spec
-    (λ c. sym (parts c.before.before.before.args.buffer.now c.before.if-buffer-eq-HEARING_SIZE.true).description_size)
+    (λ c. sym (parts c.args.buffer.now c.if-buffer-eq-HEARING_SIZE.true).description_size)
     (λ c. search rules)
     (λ c. search rules)
     (λ c. search rules)

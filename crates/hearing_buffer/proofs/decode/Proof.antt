@@ -23,15 +23,11 @@ by s a =
 
 returns : tie.Need-returns-in-Accepted
 returns c =
-    let d = c.before.before in
-    let t = d.before.before in
-    let r = t.before in
-    d.decode_under.ensures ∙ sym (ap (by r.before.before.before) (sym r.Code-in.ensures ∙ t.in-Accepted.is))
+    c.decode_under.ensures ∙ sym (ap (by c.before.before.before.before) (sym c.Code-in.ensures ∙ c.in-Accepted.is))
 
 returns-2 : tie.Need-returns-in-Refused
 returns-2 c =
-    let r = c.before in
-    sym (ap (by r.before.before.before) (sym r.Code-in.ensures ∙ c.in-Refused.is))
+    sym (ap (by c.before.before.before.before) (sym c.Code-in.ensures ∙ c.in-Refused.is))
 
 pub decode_spec : {M : Type 1} → statement M
 decode_spec =

@@ -36,19 +36,17 @@ module _ (s : tie.Start) where
 
 returns : tie.Need-returns
 returns c =
-    let d = c.before.before in
-    let s = d.before.before.before.before.before.before in
-    let x = s.args in
-    d.decode_values.ensures
-    ∙ ap (λ (t : State). decoded_as (single x.terms.limit) x.terms.restart (description_of t) (combined x.code t.hearing) x.output.now) (state_parts (b s) (size s))
+    let x = c.args in
+    c.decode_values.ensures
+    ∙ ap (λ (t : State). decoded_as (single x.terms.limit) x.terms.restart (description_of t) (combined x.code t.hearing) x.output.now) (state_parts (b c.before.before.before.before.before.before.before) (size c.before.before.before.before.before.before.before))
 
 pub decode_under_spec : {M : Type 1} → statement M
 decode_under_spec =
     tie.close
     (tie.spec
-    (λ c. let s = c.before.before.before in sym (parts (b s) (size s)).description_size)
-    (λ c. omega (arith, size c.before.before.before))
-    (λ c. omega (arith, size c.before.before.before))
+    (λ c. sym (parts (b c.before.before) (size c.before.before)).description_size)
+    (λ c. omega (arith, size c.before.before))
+    (λ c. omega (arith, size c.before.before))
     (λ c. search rules)
     (λ c κs.
     let s = c.before.before.before.before.before in

@@ -27,7 +27,7 @@ by s t a =
     cond t (answer_in (on_description a (refused_in no_state) (λ c. (Fine, state_of s.args.description.now fresh))) b) (Refused (Alone 40), b)
 
 returns : tie.Need-returns-then-buffer-ne-HEARING_SIZE
-returns c = let s = c.before.before.before in ap (λ (t : Bool). by s t (describe s.args.description.now)) (sym (ne_eqb _ _ c.if-buffer-ne-HEARING_SIZE.true))
+returns c = ap (λ (t : Bool). by c.before t (describe c.args.description.now)) (sym (ne_eqb _ _ c.if-buffer-ne-HEARING_SIZE.true))
 
 -- a buffer of the right size: what follows goes by the description
 module _ (r : tie.After-read_description) where
@@ -42,9 +42,7 @@ module _ (r : tie.After-read_description) where
 returns-2 : tie.Need-returns-in-Accepted
 unfolding refused_or
 returns-2 c =
-    let w = c.before.before in
-    let t = w.before.before in
-    ap (λ (l : List ℕ). (Done 0, l)) w.write_fresh.ensures ∙ described-as t.before _ t.in-Accepted.is
+    ap (λ (l : List ℕ). (Done 0, l)) c.write_fresh.ensures ∙ described-as c.before.before.before.before.before _ c.in-Accepted.is
 
 returns-3 : tie.Need-returns-in-Refused
 unfolding refused_or

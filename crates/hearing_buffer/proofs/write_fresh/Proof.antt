@@ -11,8 +11,8 @@ use Rattle.hearing_buffer.proofs.write_fresh.Statement.{statement}
 use Rattle.hearing_buffer.proofs.write_fresh.Tie as tie
 
 -- the buffer with the description at its beginning
-copied : (k : tie.After-copy) → let x = k.before.before.before.before.args in k.copy.new.1.1.0 ≡ splice x.buffer.now 0 x.description.now
-copied k = let x = k.before.before.before.before.args in k.copy.ensures ∙ ap (splice x.buffer.now 0) (take-length x.description.now)
+copied : (k : tie.After-copy) → let x = k.args in k.copy.new.target ≡ splice x.buffer.now 0 x.description.now
+copied k = let x = k.args in k.copy.ensures ∙ ap (splice x.buffer.now 0) (take-length x.description.now)
 
 pub write_fresh_spec : {M : Type 1} → statement M
 write_fresh_spec =

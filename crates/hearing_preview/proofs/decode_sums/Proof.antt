@@ -47,14 +47,12 @@ module _ (s : tie.Start) where
   record_is = ap (λ (t : State). description_of t) (sym (state_at_lem b size))
 
 -- the array holds the values, and then the sums
-copied : (k : tie.After-copy) → let s = k.before.before.before.before.before in k.copy.new.1.1.0 ≡ (state_in (b s)).hearing.values
-copied k = let s = k.before.before.before.before.before in k.copy.ensures ∙ sums.copied (c s) (b s) (channel s) s.requires
+copied : (k : tie.After-copy) → k.copy.new.target ≡ (state_in (b k.before.before.before.before.before)).hearing.values
+copied k = k.copy.ensures ∙ sums.copied (c k.before.before.before.before.before) (b k.before.before.before.before.before) (channel k.before.before.before.before.before) k.requires
 
-made : (a : tie.After-add_values) → let s = a.before.before.before.before.before.before.before.before in a.add_values.new.0 ≡ (added_to (c s) (state_in (b s)).hearing (channel s)).values
+made : (a : tie.After-add_values) → a.add_values.new.values ≡ (added_to (c a.before.before.before.before.before.before.before.before) (state_in (b a.before.before.before.before.before.before.before.before)).hearing (channel a.before.before.before.before.before.before.before.before)).values
 made a =
-    let k = a.before.before.before in
-    let s = k.before.before.before.before.before in
-    a.add_values.ensures ∙ ap (λ (v : List ℕ). splice v 0 (clipped_sums (length (channel s)) v (channel s))) (copied k) ∙ sums.sums-made (c s) (b s) (channel s) s.requires
+    a.add_values.ensures ∙ ap (λ (v : List ℕ). splice v 0 (clipped_sums (length (channel a.before.before.before.before.before.before.before.before)) v (channel a.before.before.before.before.before.before.before.before))) (copied a.before.before.before) ∙ sums.sums-made (c a.before.before.before.before.before.before.before.before) (b a.before.before.before.before.before.before.before.before) (channel a.before.before.before.before.before.before.before.before) a.requires
 
 add-values-requires : tie.Need-add_values-requires
 add-values-requires v κs =
@@ -75,13 +73,10 @@ decode-values-requires d κs =
 
 returns : tie.Need-returns
 returns r =
-    let d = r.before.before in
-    let a = d.before.before.before.before.before in
-    let s = a.before.before.before.before.before.before.before.before in
-    let output = s.args.output.now in
-    d.decode_values.ensures
-    ∙ ap₂ (λ (l v : List ℕ). decoded_as (single s.args.limit) AfterFlip l (take (code_length (c s)) v) output) (record_is s) (made a)
-    ∙ sym (sums.decoded-sums (c s) (b s) (channel s) s.requires s.args.limit output)
+    let output = r.args.output.now in
+    r.decode_values.ensures
+    ∙ ap₂ (λ (l v : List ℕ). decoded_as (single r.args.limit) AfterFlip l (take (code_length (c r.before.before.before.before.before.before.before.before.before.before.before.before.before.before)) v) output) (record_is r.before.before.before.before.before.before.before.before.before.before.before.before.before.before) (made r.before.before.before.before.before.before)
+    ∙ sym (sums.decoded-sums (c r.before.before.before.before.before.before.before.before.before.before.before.before.before.before) (b r.before.before.before.before.before.before.before.before.before.before.before.before.before.before) (channel r.before.before.before.before.before.before.before.before.before.before.before.before.before.before) r.requires r.args.limit output)
 
 pub decode_sums_spec : {M : Type 1} → statement M
 decode_sums_spec =
@@ -91,7 +86,7 @@ decode_sums_spec =
     (λ v κs. let s = v.before.before.before.before in (omega (arith, size s, channel-room s), omega (arith, channel-room s)))
     (λ v. search rules)
     add-values-requires
-    (λ d. sym (part-long d.before.before.before.before.before.before.before.before.before.before))
+    (λ d. sym (part-long d.before.before.before.before.before.before.before.before.before))
     (λ d. search rules)
     decode-values-requires
     (λ d. search rules)

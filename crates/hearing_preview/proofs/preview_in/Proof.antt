@@ -10,9 +10,8 @@ returns c = (c.preview_under.ensures, refl)
 
 returns-2 : tie.Need-returns-in-Refused
 returns-2 c =
-    let r = c.before in
-    let x = r.args in
-    (sym (preview_no_code x.buffer.now x.channel.now x.limit x.output.now _ (sym r.Code-in.ensures ∙ c.in-Refused.is)), refl)
+    let x = c.args in
+    (sym (preview_no_code x.buffer.now x.channel.now x.limit x.output.now _ (sym c.Code-in.ensures ∙ c.in-Refused.is)), refl)
 
 pub preview_in_spec : {M : Type 1} → statement M
 preview_in_spec =

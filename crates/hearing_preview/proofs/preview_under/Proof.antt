@@ -28,28 +28,20 @@ module _ (s : tie.Start) where
   n_most = code-most (state_in b) s.args.code s.requires
 
 -- the count is that in the buffer
-judged : (j : tie.After-judge_add) → let s = j.before.before.before.before.before in j.judge_add.result ≡ judge (add_refusals s.args.code (state_in (b s)).hearing.count s.args.channel.now)
+judged : (j : tie.After-judge_add) → j.judge_add.result ≡ judge (add_refusals j.args.code (state_in (b j.before.before.before.before.before)).hearing.count j.args.channel.now)
 judged j =
-    let s = j.before.before.before.before.before in
-    j.judge_add.ensures ∙ ap (λ (t : State). judge (add_refusals s.args.code t.hearing.count s.args.channel.now)) (sym (state_at_lem (b s) (size s)))
+    j.judge_add.ensures ∙ ap (λ (t : State). judge (add_refusals j.args.code t.hearing.count j.args.channel.now)) (sym (state_at_lem (b j.before.before.before.before.before) (size j.before.before.before.before.before)))
 
 returns : tie.Need-returns-in-Fine
 returns c =
-    let d = c.before.before in
-    let t = d.before.before in
-    let j = t.before in
-    let s = j.before.before.before.before.before in
-    let x = s.args in
-    d.decode_sums.ensures
-    ∙ sym (preview_fine (b s) x.channel.now x.limit x.output.now x.code s.requires (sym (judged j) ∙ t.in-Fine.is))
+    let x = c.args in
+    c.decode_sums.ensures
+    ∙ sym (preview_fine (b c.before.before.before.before.before.before.before.before.before.before) x.channel.now x.limit x.output.now x.code c.requires (sym (judged c.before.before.before.before.before) ∙ c.in-Fine.is))
 
 returns-2 : tie.Need-returns-in-Refused
 returns-2 c =
-    let t = c in
-    let j = t.before in
-    let s = j.before.before.before.before.before in
-    let x = s.args in
-    sym (preview_refused (b s) x.channel.now x.limit x.output.now x.code _ s.requires (sym (judged j) ∙ t.in-Refused.is))
+    let x = c.args in
+    sym (preview_refused (b c.before.before.before.before.before.before) x.channel.now x.limit x.output.now x.code _ c.requires (sym (judged c.before) ∙ c.in-Refused.is))
 
 pub preview_under_spec : {M : Type 1} → statement M
 preview_under_spec =

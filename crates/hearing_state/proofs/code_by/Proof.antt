@@ -29,16 +29,14 @@ module _ (c : tie.In-Accepted) where
 
 returns : tie.Need-returns-then-is_state
 returns c =
-    let k = c.before.before in
-    sym (code_by_lem (state (s k)) (code k) _ (accepted k) (sym c.is_state.ensures ∙ c.if-is_state.true))
+    sym (code_by_lem (state (s c.before.before)) (code c.before.before) _ (accepted c.before.before) (sym c.is_state.ensures ∙ c.if-is_state.true))
 
 returns-2 : tie.Need-returns-else-is_state
 returns-2 c =
-    let k = c.before.before in
-    sym (code_by_lem (state (s k)) (code k) _ (accepted k) (sym c.is_state.ensures ∙ c.if-is_state.false))
+    sym (code_by_lem (state (s c.before.before)) (code c.before.before) _ (accepted c.before.before) (sym c.is_state.ensures ∙ c.if-is_state.false))
 
 returns-3 : tie.Need-returns-in-Refused
-returns-3 c = let r = c.before in sym (ap (code_by (state r.before.before.before)) (sym r.described_in.ensures ∙ c.in-Refused.is))
+returns-3 c = sym (ap (code_by (state c.before.before.before.before)) (sym c.described_in.ensures ∙ c.in-Refused.is))
 
 pub code_by_spec : {M : Type 1} → statement M
 code_by_spec =

@@ -32,7 +32,7 @@ mask-of-requires c κs =
 
 -- the mask of the description
 mask_is : (c : tie.After-mask_of) → c.mask_of.result.now ≡ mask_of (d c.before.before.before.before.before.before)
-mask_is c = c.mask_of.ensures ∙ ap mask_of c.before.record_in.ensures
+mask_is c = c.mask_of.ensures ∙ ap mask_of c.record_in.ensures
 
 decode-by-requires : tie.Need-decode_by-requires
 decode-by-requires c κs =
@@ -42,13 +42,11 @@ decode-by-requires c κs =
 
 returns : tie.Need-returns
 returns c =
-    let m = c.before.before.before.before.before in
-    let s = m.before.before.before.before.before.before in
-    let x = s.args in
+    let x = c.args in
     let channel : ℕ → List ℕ = λ k. take k x.values.now in
-    c.before.before.decode_by.ensures
-    ∙ ap₂ (λ (mask : List ℕ) (k : ℕ). decoded_under (single x.terms.limit) x.terms.restart mask x.code (channel k) x.output.now) (mask_is m) (size s)
-    ∙ sym (under-code (single x.terms.limit) x.terms.restart (d s) (channel (2 ^ x.code.n)) x.output.now x.code s.requires.describes)
+    c.decode_by.ensures
+    ∙ ap₂ (λ (mask : List ℕ) (k : ℕ). decoded_under (single x.terms.limit) x.terms.restart mask x.code (channel k) x.output.now) (mask_is c.before.before.before.before) (size c.before.before.before.before.before.before.before.before.before.before)
+    ∙ sym (under-code (single x.terms.limit) x.terms.restart (d c.before.before.before.before.before.before.before.before.before.before) (channel (2 ^ x.code.n)) x.output.now x.code c.requires.describes)
 
 pub decode_values_spec : {M : Type 1} → statement M
 decode_values_spec =

@@ -11,4 +11,4 @@ described_in_spec =
     (tie.spec
     (λ c κs. search rules)
     (λ c κs. search rules)
-    (λ c. c.read_description.ensures ∙ ap describe c.before.record_in.ensures))
+    (λ c. c.read_description.ensures ∙ ap describe c.record_in.ensures))

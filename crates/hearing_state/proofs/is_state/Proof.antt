@@ -13,11 +13,10 @@ by s t = let x = s.args in t && is_hearing x.code (hearing_by x.count x.values.n
 
 returns : tie.Need-returns-then-ends_in_zeros
 returns c =
-    let e = c.before.before in
-    c.is_hearing.ensures ∙ ap (by e.before.before.before) (sym c.before.if-ends_in_zeros.true ∙ e.ends_in_zeros.ensures)
+    c.is_hearing.ensures ∙ ap (by c.before.before.before.before) (sym c.if-ends_in_zeros.true ∙ c.ends_in_zeros.ensures)
 
 returns-2 : tie.Need-returns
-returns-2 c = let e = c.before in ap (by e.before.before.before) (sym c.if-ends_in_zeros.false ∙ e.ends_in_zeros.ensures)
+returns-2 c = ap (by c.before.before.before.before) (sym c.if-ends_in_zeros.false ∙ c.ends_in_zeros.ensures)
 
 pub is_state_spec : {M : Type 1} → statement M
 is_state_spec =

@@ -78,13 +78,13 @@ module _ (t : ℕ) where
   rebuild-requires c κs =
       let s = c.before.before.before in
       let p = s.requires.1.0 in
-      (p.pow, forced-bits s.args.rules.now p c.before.before.if-base-size.true, p.whole.sums)
+      (p.pow, forced-bits s.args.rules.now p c.if-base-size.true, p.whole.sums)
 
   returns : lts.Need-returns (Q t) (at t) node.Post
   returns c =
       let r = c.before in
       let s = r.before.before.before.before in
-      forced-worked s.args.rules.now s.requires.1.0 r.before.before.before.if-base-size.true r.rebuild.ensures c.none.ensures
+      forced-worked s.args.rules.now s.requires.1.0 r.if-base-size.true r.rebuild.ensures c.none.ensures
 
   -- ---- a node of layer 2 without a forced bit
 
@@ -93,7 +93,7 @@ module _ (t : ℕ) where
     start₂ = k.before.before.before
 
     free : (start₂.args.layer ≡ 2) × (start₂.args.q ≤ start₂.args.base)
-    free = is_free start₂.args.layer start₂.args.base start₂.args.q k.before.is_free_four.ensures k.if-is_free_four.true
+    free = is_free start₂.args.layer start₂.args.base start₂.args.q k.is_free_four.ensures k.if-is_free_four.true
 
     four : start₂.args.size ≡ 4
     four = start₂.requires.1.0.pow ∙ ap (λ (n : ℕ). 2 ^ n) free.0
@@ -103,7 +103,7 @@ module _ (t : ℕ) where
       let k = c.before.before.before.before in
       let s = start₂ k in
       let p = s.requires.1.0 in
-      let small = p.small k.before.before.if-base-size.false in
+      let small = p.small k.if-base-size.false in
       (sized_of p.whole, omega (arith, p.fits, four k), subst₂ (λ (n m : ℕ). Within (most largest_n n) (segment s.args.work.now m m)) (free k).0 (four k) small)
 
   returns-2 : lts.Need-returns-2 (Q t) (at t) node.Post
@@ -132,9 +132,9 @@ module _ (t : ℕ) where
       let k = f.before.before.before.before.before in
       let p = (start₃ k).requires.1.0 in
       let work = (start₃ k).args.work.now in
-      let value = back_is w32 (get_or work 1 (pos 0)) (record { sfits = f.before.before.before.before.leaf-arg-1.given }) in
+      let value = back_is w32 (get_or work 1 (pos 0)) (record { sfits = f.leaf-arg-1.given }) in
       by_value k.if-layer-eq0.true (one k) (one_value work (one k) (omega (arith, p.whole.work)) ∙ ap (λ (x : ℤ). x ∷ []) (sym value))
-      (omega (arith, k.before.before.before.if-base-size.false, one k)) c.none-then-layer-eq0.ensures f.leaf.ensures.1
+      (omega (arith, k.if-base-size.false, one k)) c.none-then-layer-eq0.ensures f.leaf.ensures.1
 
   -- ---- two halves
 
@@ -149,7 +149,7 @@ module _ (t : ℕ) where
     inner = record {
       halving = halving e.if-layer-eq0.left start.requires.1.0.pow;
       pre = start.requires.1.0;
-      more = e.before.before.before.if-base-size.left;
+      more = e.if-base-size.left;
       double = start.requires.1.1;
     }
 
@@ -202,7 +202,7 @@ module _ (t : ℕ) where
   returns-4 c =
       let m = c.before.before.before in
       let n = m.before.before in
-      let total = c.plus-3.ensures ∙ ap₂ plus_work c.before.before.plus.ensures c.before.plus-2.ensures in
+      let total = c.plus-3.ensures ∙ ap₂ plus_work c.plus.ensures c.plus-2.ensures in
       inner_worked (rules (e (k n))) (inner (e (k n))) (l (k n)).left_values-left.ensures (k n).decode_node-l.ensures (r n).right_values-right.ensures n.decode_node-r.ensures total m.combine.ensures
 
 pub +decode_node_spec : {M : Type 1} → statement M

@@ -17,9 +17,7 @@ use Rattle.pass.proofs.pass.Tie as tie
 
 returns : tie.Need-returns-then-size-q
 returns c =
-    let t = c.before in
-    let s = t.before.before in
-    pass-forced s.args.rules.now s.requires (fits s.requires.n_most) t.if-size-q.true c.none.ensures
+    pass-forced c.args.rules.now c.requires (fits c.requires.n_most) c.if-size-q.true c.none.ensures
 
 -- at the root
 module _ (e : tie.Else-size-q) where
@@ -38,8 +36,7 @@ left-requires c κs = root-at (rules c.before) (root c.before)
 left-node-requires : tie.Need-decode_node-l-requires
 left-node-requires c κs =
     let l = c.before.before.before.before.before in
-    let e = l.before.before in
-    (root-left (rules e) (root e) l.root_left_values-left.ensures, root-half (rules e) (root e))
+    (root-left (rules l.before.before) (root l.before.before) l.root_left_values-left.ensures, root-half (rules l.before.before) (root l.before.before))
 
 -- after the left half
 module _ (k : tie.After-decode_node-l) where
@@ -57,8 +54,7 @@ right-requires c κs =
 right-node-requires : tie.Need-decode_node-r-requires
 right-node-requires c κs =
     let r = c.before.before.before.before.before in
-    let k = r.before.before.before in
-    (root-right (rules (e k)) (root (e k)) (l k).root_left_values-left.ensures k.decode_node-l.ensures r.root_right_values-right.ensures, root-half (rules (e k)) (root (e k)))
+    (root-right (rules (e r.before)) (root (e r.before)) (l r.before.before).root_left_values-left.ensures r.decode_node-l.ensures r.root_right_values-right.ensures, root-half (rules (e r.before)) (root (e r.before)))
 
 -- after the right half
 module _ (n : tie.After-decode_node-r) where
@@ -66,7 +62,7 @@ module _ (n : tie.After-decode_node-r) where
   r = n.before.before.before.before.before.before
 
   abbrev k : tie.After-decode_node-l
-  k = r.before.before.before
+  k = r.before.before
 
   -- the steps of each half are few
   few : ((l k).root_left_values-left.result.steps + k.decode_node-l.result.steps < 2 ^ 31) × (r.root_right_values-right.result.steps + n.decode_node-r.result.steps < 2 ^ 31)
@@ -74,9 +70,8 @@ module _ (n : tie.After-decode_node-r) where
 
 returns-2 : tie.Need-returns
 returns-2 c =
-    let n = c.before.before.before in
-    let total = c.plus-3.ensures ∙ ap₂ plus_work c.before.before.plus.ensures c.before.plus-2.ensures in
-    passed (rules (e (k n))) (root (e (k n))) (l (k n)).root_left_values-left.ensures (k n).decode_node-l.ensures (r n).root_right_values-right.ensures n.decode_node-r.ensures total
+    let total = c.plus-3.ensures ∙ ap₂ plus_work c.plus.ensures c.plus-2.ensures in
+    passed (rules (e (k c.before))) (root (e (k c.before))) (l (k c.before)).root_left_values-left.ensures (k c.before.before.before).decode_node-l.ensures (r c.before.before.before).root_right_values-right.ensures c.decode_node-r.ensures total
 
 pub pass_spec : {M : Type 1} → statement M
 pass_spec =

@@ -45,15 +45,14 @@ decreases-loop mask rules₀ size i₀ rules i = size - i
 
 loop-again : tie.Need-loop-i-preserved invariant-loop decreases-loop
 loop-again c =
-    let l = c.before.before.loop-i in
+    let l = c.loop-i in
     filling_more l.invariant l.i c.mask_bit.result (omega arith) (omega arith) c.mask_bit.ensures
 
 returns : tie.Need-returns invariant-loop decreases-loop
 returns c =
-    let s = c.before.before.before in
-    let l = c.before.loop-i in
-    let rules = s.args.rules.now in
-    (ruled s.args.mask.now rules l.rules _ (omega arith) (filling_done l.invariant (omega arith) (omega arith)), l.invariant.same ∙ s.requires.1)
+    let l = c.loop-i in
+    let rules = c.args.rules.now in
+    (ruled c.args.mask.now rules l.rules _ (omega arith) (filling_done l.invariant (omega arith) (omega arith)), l.invariant.same ∙ c.requires.1)
 
 pub rules_from_spec : {M : Type 1} → statement M
 rules_from_spec =

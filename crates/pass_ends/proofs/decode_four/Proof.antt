@@ -52,12 +52,11 @@ module _ (k : tie.After-f-2) where
   abbrev s : tie.Start
   s = k.before.before.before.before.before.before
 
-  left-own : back w32 k.before.f.result ∷ back w32 k.f-2.result ∷ [] ≡ left_values 2 (v s)
+  left-own : back w32 k.f.result ∷ back w32 k.f-2.result ∷ [] ≡ left_values 2 (v s)
   unfolding left_values table
   left-own =
-      let m = k.before in
       ap₂ (λ (x y : ℤ). x ∷ y ∷ [])
-      (back_is w32 m.f.result (record { sfits = m.f.ok }) ∙ m.f.ensures ∙ ap₂ f (own s 0 (omega arith)) (own s 2 (omega arith)))
+      (back_is w32 k.f.result (record { sfits = k.f.ok }) ∙ k.f.ensures ∙ ap₂ f (own s 0 (omega arith)) (own s 2 (omega arith)))
       (back_is w32 k.f-2.result (record { sfits = k.f-2.ok }) ∙ k.f-2.ensures ∙ ap₂ f (own s 1 (omega arith)) (own s 3 (omega arith)))
 
 decode-two-requires : tie.Need-decode_two-l-requires
@@ -78,12 +77,11 @@ module _ (l : tie.After-decode_two-l) where
 -- after the right values
 module _ (n : tie.After-g-2) where
   abbrev l : tie.After-decode_two-l
-  l = n.before.before.before.before
+  l = n.before.before.before.before.before
 
-  right-own : back w32 n.before.g.result ∷ back w32 n.g-2.result ∷ [] ≡ right_values 2 (v (s (m l))) (segment (sums l) (s (m l)).args.base 2)
+  right-own : back w32 n.g.result ∷ back w32 n.g-2.result ∷ [] ≡ right_values 2 (v (s (m l))) (segment (sums l) (s (m l)).args.base 2)
   unfolding right_values table
   right-own =
-      let o = n.before in
       let st = s (m l) in
       let base = st.args.base in
       let a = own st 0 (omega arith) in
@@ -93,7 +91,7 @@ module _ (n : tie.After-g-2) where
       let s₀ = ap (λ (i : ℕ). get_or (sums l) i 0) (sym (add-zero base)) ∙ sym (get_or-segment (sums l) base 2 0 0 (omega arith)) in
       let s₁ = sym (get_or-segment (sums l) base 2 1 0 (omega arith)) in
       ap₂ (λ (x y : ℤ). x ∷ y ∷ [])
-      (back_is w32 o.g.result (record { sfits = o.g.ok }) ∙ o.g.ensures ∙ (λ t. g (a t) (e t) (s₀ t)))
+      (back_is w32 n.g.result (record { sfits = n.g.ok }) ∙ n.g.ensures ∙ (λ t. g (a t) (e t) (s₀ t)))
       (back_is w32 n.g-2.result (record { sfits = n.g-2.ok }) ∙ n.g-2.ensures ∙ (λ t. g (b t) (d t) (s₁ t)))
 
 decode-two-requires-2 : tie.Need-decode_two-r-requires
@@ -129,12 +127,10 @@ total a b = let e : 4 + (a.steps + b.steps) ≡ 2 + a.steps + (2 + b.steps) = om
 
 returns : tie.Need-returns
 returns c =
-    let o = c.before.before in
-    let r = o.before.before.before in
-    let k = l (n r) in
-    let p = (start r).requires in
-    let work = c.plus-2.ensures ∙ ap₂ plus_work o.of.ensures c.before.plus.ensures ∙ total _ _ in
-    free_laid 1 _ (start r).args.rules.now (v (start r)) p.0 p.1 (left-own (m k)) k.decode_two-l.ensures (right-own (n r)) r.decode_two-r.ensures work o.before.combine.ensures
+    let k = l (n c.before) in
+    let p = (start c.before.before.before.before.before).requires in
+    let work = c.plus-2.ensures ∙ ap₂ plus_work c.of.ensures c.plus.ensures ∙ total _ _ in
+    free_laid 1 _ (start c.before.before.before.before.before).args.rules.now (v (start c.before)) p.0 p.1 (left-own (m k)) k.decode_two-l.ensures (right-own (n c.before)) c.decode_two-r.ensures work c.combine.ensures
 
 pub decode_four_spec : {M : Type 1} → statement M
 decode_four_spec =

@@ -80,9 +80,8 @@ combine-requires c κs =
 
 returns : tie.Need-returns
 returns c =
-    let r = c.before.before.before in
-    let p = (s (k r)).requires in
-    free_laid 0 _ (s (k r)).args.rules.now (v (s (k r))) p.0 p.1 (left-own (k r)) (k r).leaf-first.ensures.1 (right-own r) r.leaf.ensures.1 c.of.ensures c.before.combine.ensures
+    let p = (s (k c.before)).requires in
+    free_laid 0 _ (s (k c.before)).args.rules.now (v (s (k c.before))) p.0 p.1 (left-own (k c.before)) (k c.before.before.before).leaf-first.ensures.1 (right-own c.before.before.before) c.leaf.ensures.1 c.of.ensures c.combine.ensures
 
 pub decode_two_spec : {M : Type 1} → statement M
 decode_two_spec =

@@ -37,21 +37,20 @@ leaf-laid rules base value {r} {r'} l = record { laid = subst₂ (λ (o : Out) (
 
 returns : tie.Need-returns
 returns c =
-    let s = c.before.before in
-    let base = s.args.base in
-    let rules = s.args.rules.now in
-    let same = back_is w32 s.args.value s.ranges.value in
-    let z = s.requires.0 in
+    let base = c.args.base in
+    let rules = c.args.rules.now in
+    let same = back_is w32 c.args.value c.ranges.value in
+    let z = c.requires.0 in
     let bit = c.decide-bit.ensures ∙ ap (decided (rule_at rules base)) same in (
-      sym (get_or-set_same s.args.sums.now base _ 0 (omega (arith, s.requires.1, z.sums))),
-      leaf-laid rules base s.args.value
+      sym (get_or-set_same c.args.sums.now base _ 0 (omega (arith, c.requires.1, z.sums))),
+      leaf-laid rules base c.args.value
           (record {
             stored = record {
-              bits = stored s.args.bits.now base _ _ (omega (arith, s.requires.1, z.bits)) bit;
-              leaves = stored s.args.leaves.now base _ _ (omega (arith, s.requires.1, z.leaves)) same;
+              bits = stored c.args.bits.now base _ _ (omega (arith, c.requires.1, z.bits)) bit;
+              leaves = stored c.args.leaves.now base _ _ (omega (arith, c.requires.1, z.leaves)) same;
               work = refl;
             };
-            sums = stored s.args.sums.now base _ _ (omega (arith, s.requires.1, z.sums)) bit;
+            sums = stored c.args.sums.now base _ _ (omega (arith, c.requires.1, z.sums)) bit;
           }),
     )
 

@@ -32,12 +32,11 @@ module _ (layer : ℕ) (sums : List ℕ) {room size base : ℕ} {bits sums₁ : 
 transform-requires : tie.Need-transform-requires
 transform-requires c κs =
     let s = c.before.before.before.before in
-    (s.requires.0, copied s.args.layer s.args.sums.now s.requires.0 s.requires.1 s.requires.2 c.before.copy.ensures)
+    (s.requires.0, copied s.args.layer s.args.sums.now s.requires.0 s.requires.1 s.requires.2 c.copy.ensures)
 
 returns : tie.Need-returns
 returns c =
-    let s = c.before.before.before.before.before in
-    rebuilt s.args.layer s.args.sums.now s.requires.0 s.requires.1 s.requires.2 c.before.before.copy.ensures c.transform.ensures
+    rebuilt c.args.layer c.args.sums.now c.requires.0 c.requires.1 c.requires.2 c.copy.ensures c.transform.ensures
 
 pub rebuild_spec : {M : Type 1} → statement M
 rebuild_spec = tie.close (tie.spec (λ c κs. search rules) transform-requires returns)

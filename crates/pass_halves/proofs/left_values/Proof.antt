@@ -16,28 +16,26 @@ decreases-loop forced h work₀ steps₀ j₀ work steps j = h - j
 
 returns : tie.Need-returns-then-forced invariant-loop decreases-loop
 returns c =
-    let t = c.before in
-    let s = t.before.args in
-    computed-none (left_values s.h (node_values s.work.now s.h)) t.if-forced.true c.none.ensures
+    let s = c.args in
+    computed-none (left_values s.h (node_values s.work.now s.h)) c.if-forced.true c.none.ensures
 
 f-requires : tie.Need-f-requires invariant-loop decreases-loop
 f-requires c κs =
-    let p = c.before.before.before.before.before.requires in
-    let few = addable_reads (omega arith) p.small (own_reads p c.before.before.before.loop-j.invariant.filling (omega arith)) in
+    let p = c.requires in
+    let few = addable_reads (omega arith) p.small (own_reads p c.loop-j.invariant.filling (omega arith)) in
     (omega (arith, few), omega (arith, few))
 
 loop-again : tie.Need-loop-j-preserved invariant-loop decreases-loop
 loop-again c =
-    let p = c.before.before.before.before.before.before.requires in
-    let inv = c.before.before.before.before.loop-j.invariant in
+    let p = c.requires in
+    let inv = c.loop-j.invariant in
     left-turn (record { sfits = c.f.type-inv }) (omega arith) inv (own_reads p inv.filling (omega arith)) c.f.ensures
 
 returns-2 : tie.Need-returns invariant-loop decreases-loop
 unfolding left_values
 returns-2 c =
-    let l = c.before.before in
-    let p = l.before.before.requires in
-    computed-all l.before.if-forced.false l.loop-j.invariant (omega arith) (omega (arith, p.whole, p.fits)) c.of.ensures
+    let p = c.requires in
+    computed-all c.if-forced.false c.loop-j.invariant (omega arith) (omega (arith, p.whole, p.fits)) c.of.ensures
 
 pub left_values_spec : {M : Type 1} → statement M
 left_values_spec =

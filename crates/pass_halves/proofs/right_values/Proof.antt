@@ -19,22 +19,20 @@ decreases-loop h base sums work₀ steps₀ j₀ work steps j = h - j
 
 g-requires : tie.Need-g-requires invariant-loop decreases-loop
 g-requires c κs =
-    let p = c.before.before.before.before.before.requires.0 in
-    addable_reads (omega arith) p.small (own_reads p c.before.before.before.before.loop-j.invariant.filling (omega arith))
+    let p = c.requires.0 in
+    addable_reads (omega arith) p.small (own_reads p c.loop-j.invariant.filling (omega arith))
 
 loop-again : tie.Need-loop-j-preserved invariant-loop decreases-loop
 loop-again c =
-    let s = c.before.before.before.before.before.before in
-    let l = c.before.before.before.before.before.loop-j in
-    let sum = sym (get_or-segment s.args.sums.now s.args.base s.args.h l.j 0 (omega arith)) in
-    right-turn (record { sfits = c.g.type-inv }) (omega arith) (segment s.args.sums.now s.args.base s.args.h) l.invariant (own_reads s.requires.0 l.invariant.filling (omega arith)) sum c.g.ensures
+    let l = c.loop-j in
+    let sum = sym (get_or-segment c.args.sums.now c.args.base c.args.h l.j 0 (omega arith)) in
+    right-turn (record { sfits = c.g.type-inv }) (omega arith) (segment c.args.sums.now c.args.base c.args.h) l.invariant (own_reads c.requires.0 l.invariant.filling (omega arith)) sum c.g.ensures
 
 returns : tie.Need-returns invariant-loop decreases-loop
 unfolding right_values
 returns c =
-    let l = c.before.before in
-    let p = l.before.requires.0 in
-    computed l.loop-j.invariant (omega arith) (omega (arith, p.whole, p.fits)) c.of.ensures
+    let p = c.requires.0 in
+    computed c.loop-j.invariant (omega arith) (omega (arith, p.whole, p.fits)) c.of.ensures
 
 pub right_values_spec : {M : Type 1} → statement M
 right_values_spec =

@@ -16,9 +16,8 @@ decreases-loop forced channel h work₀ steps₀ j₀ work steps j = h - j
 
 returns : tie.Need-returns-then-forced invariant-loop decreases-loop
 returns c =
-    let t = c.before in
-    let s = t.before.before.args in
-    computed-none (left_values s.h (channel_values s.channel.now)) t.if-forced.true c.none.ensures
+    let s = c.args in
+    computed-none (left_values s.h (channel_values s.channel.now)) c.if-forced.true c.none.ensures
 
 -- what a turn reads
 module _ (c : tie.After-channel_value-in-loop-j invariant-loop decreases-loop) where
@@ -28,8 +27,8 @@ module _ (c : tie.After-channel_value-in-loop-j invariant-loop decreases-loop) w
   abbrev l : tie.At-loop-j invariant-loop decreases-loop
   l = c.before.before.before.before.before
 
-  reads : Reads (channel_values s.args.channel.now) s.args.h l.loop-j.j c.before.before.channel_value.result c.channel_value-in-loop-j.result
-  reads = channel_reads s.args.channel.now s.args.h l.loop-j.j s.requires.small c.before.before.channel_value.ensures c.channel_value-in-loop-j.ensures
+  reads : Reads (channel_values s.args.channel.now) s.args.h l.loop-j.j c.channel_value.result c.channel_value-in-loop-j.result
+  reads = channel_reads s.args.channel.now s.args.h l.loop-j.j s.requires.small c.channel_value.ensures c.channel_value-in-loop-j.ensures
 
 f-requires : tie.Need-f-requires invariant-loop decreases-loop
 f-requires c κs = let few = addable_reads (omega arith) (s c).requires.small (reads c) in (omega (arith, few), omega (arith, few))
@@ -40,9 +39,8 @@ loop-again c = left-turn (record { sfits = c.f.type-inv }) (omega arith) (l c.be
 returns-2 : tie.Need-returns invariant-loop decreases-loop
 unfolding left_values
 returns-2 c =
-    let l = c.before.before in
-    let p = l.before.before.before.requires in
-    computed-all l.before.if-forced.false l.loop-j.invariant (omega arith) (omega (arith, p.whole, p.fits)) c.of.ensures
+    let p = c.requires in
+    computed-all c.if-forced.false c.loop-j.invariant (omega arith) (omega (arith, p.whole, p.fits)) c.of.ensures
 
 pub root_left_values_spec : {M : Type 1} → statement M
 root_left_values_spec =

@@ -25,24 +25,23 @@ module _ (c : tie.After-channel_value-in-loop-j invariant-loop decreases-loop) w
   abbrev l : tie.At-loop-j invariant-loop decreases-loop
   l = c.before.before.before.before.before
 
-  reads : Reads (channel_values s.args.channel.now) s.args.h l.loop-j.j c.before.before.channel_value.result c.channel_value-in-loop-j.result
-  reads = channel_reads s.args.channel.now s.args.h l.loop-j.j s.requires.small c.before.before.channel_value.ensures c.channel_value-in-loop-j.ensures
+  reads : Reads (channel_values s.args.channel.now) s.args.h l.loop-j.j c.channel_value.result c.channel_value-in-loop-j.result
+  reads = channel_reads s.args.channel.now s.args.h l.loop-j.j s.requires.small c.channel_value.ensures c.channel_value-in-loop-j.ensures
 
 g-requires : tie.Need-g-requires invariant-loop decreases-loop
 g-requires c κs = addable_reads (omega arith) (s c.before).requires.small (reads c.before)
 
 loop-again : tie.Need-loop-j-preserved invariant-loop decreases-loop
 loop-again c =
-    let t = (s c.before.before).args in
-    let at = (l c.before.before).loop-j in
-    right-turn (record { sfits = c.g.type-inv }) (omega arith) (segment t.sums.now 0 t.h) at.invariant (reads c.before.before) (sym (get_or-take t.h t.sums.now at.j 0 (omega arith))) c.g.ensures
+    let t = (s c.before.before.before).args in
+    let at = (l c.before.before.before).loop-j in
+    right-turn (record { sfits = c.g.type-inv }) (omega arith) (segment t.sums.now 0 t.h) at.invariant (reads c.before.before.before) (sym (get_or-take t.h t.sums.now at.j 0 (omega arith))) c.g.ensures
 
 returns : tie.Need-returns invariant-loop decreases-loop
 unfolding right_values
 returns c =
-    let l = c.before.before in
-    let p = l.before.before.requires in
-    computed l.loop-j.invariant (omega arith) (omega (arith, p.whole, p.fits)) c.of.ensures
+    let p = c.requires in
+    computed c.loop-j.invariant (omega arith) (omega (arith, p.whole, p.fits)) c.of.ensures
 
 pub root_right_values_spec : {M : Type 1} → statement M
 root_right_values_spec =

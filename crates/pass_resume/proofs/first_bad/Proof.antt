@@ -24,27 +24,27 @@ decreases-loop mask prefix i₀ i = length prefix - i
 
 -- the test of a turn
 test : (c : tie.After-is_bad invariant-loop decreases-loop) →
-    let s = c.before.before.before.before.before.before.before.args in
-    c.is_bad.result ≡ bad s.mask.now s.prefix.now c.before.before.before.before.loop-i.i
+    let s = c.args in
+    c.is_bad.result ≡ bad s.mask.now s.prefix.now c.loop-i.i
 test c =
-    let s = c.before.before.before.before.before.before.before.args in
-    c.is_bad.ensures ∙ ap (bad_bit (get_or s.prefix.now c.before.before.before.before.loop-i.i 0)) c.before.mask_bit.ensures
+    let s = c.args in
+    c.is_bad.ensures ∙ ap (bad_bit (get_or s.prefix.now c.loop-i.i 0)) c.mask_bit.ensures
 
 returns : tie.Need-returns-then-is_bad invariant-loop decreases-loop
 returns c =
-    let l = c.before.before.before.before.before.loop-i in
-    let s = c.before.before.before.before.before.before.before.before.args in
+    let l = c.loop-i in
+    let s = c.args in
     sym (first-is (bad s.mask.now s.prefix.now) _ l.i l.invariant.0 l.invariant.1 (λ _. sym (test c.before) ∙ c.if-is_bad.true))
 
 loop-again : tie.Need-loop-i-preserved invariant-loop decreases-loop
 loop-again c =
-    let l = c.before.before.before.before.before.loop-i in
+    let l = c.loop-i in
     (omega arith, below_more _ _ l.invariant.1 (sym (test c.before) ∙ c.if-is_bad.false))
 
 returns-2 : tie.Need-returns invariant-loop decreases-loop
 returns-2 c =
-    let l = c.before.loop-i in
-    let s = c.before.before.before.before.args in
+    let l = c.loop-i in
+    let s = c.args in
     sym (first-is (bad s.mask.now s.prefix.now) _ l.i l.invariant.0 l.invariant.1 (λ m. absurd (omega arith)))
 
 pub first_bad_spec : {M : Type 1} → statement M

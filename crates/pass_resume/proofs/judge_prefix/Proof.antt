@@ -40,39 +40,35 @@ past-1 : (c : tie.Else-size-prefix) → past 0 (from1 c) ≡ past 1 (from1 c)
 past-1 c = judge_no _ _ _ (le-ltb _ _ (short c))
 
 good : (c : tie.Else-index-prefix) → length (from2 c).args.prefix.now ≤ first_bad (from2 c).args.mask.now (from2 c).args.prefix.now
-good c = omega (arith, c.before.first_bad-index.ensures, c.if-index-prefix.false)
+good c = omega (arith, c.first_bad-index.ensures, c.if-index-prefix.false)
 
 past-2 : (c : tie.Else-index-prefix) → past 0 (from2 c) ≡ past 2 (from2 c)
 past-2 c = past-1 c.before.before ∙ judge_no _ _ _ (le-ltb _ _ (good c))
 
 returns : tie.Need-returns-then-size-prefix
 returns c =
-    let s = c.before.before.before.before.before in
-    sym (judge_yes _ _ _ (lt-ltb _ _ (subst (λ (k : ℕ). k < length s.args.prefix.now) (size s) c.if-size-prefix.true)))
+    sym (judge_yes _ _ _ (lt-ltb _ _ (subst (λ (k : ℕ). k < length c.args.prefix.now) (size c.before.before.before.before.before) c.if-size-prefix.true)))
 
 returns-2 : tie.Need-returns-then-index-prefix
 returns-2 c =
-    let e = c.before.before in
-    let i = c.before.first_bad-index.ensures in
+    let i = c.first_bad-index.ensures in
     ap (λ (k : ℕ). Refused (At 18 k)) i
-    ∙ sym (past-1 e ∙ judge_yes _ _ _ (lt-ltb _ _ (subst (λ (k : ℕ). k < length (from1 e).args.prefix.now) i c.if-index-prefix.true)))
+    ∙ sym (past-1 c.before.before ∙ judge_yes _ _ _ (lt-ltb _ _ (subst (λ (k : ℕ). k < length (from1 c.before).args.prefix.now) i c.if-index-prefix.true)))
 
 returns-3 : tie.Need-returns-then-output-size
 returns-3 c =
-    let e = c.before in
-    sym (past-2 e ∙ judge_yes _ _ _ (ap not (ne_eqb _ _ (λ q. c.if-output-size.true (q ∙ sym (size (from2 e)))))))
+    sym (past-2 c.before ∙ judge_yes _ _ _ (ap not (ne_eqb _ _ (λ q. c.if-output-size.true (q ∙ sym (size (from2 c.before)))))))
 
 returns-4 : tie.Need-returns
 returns-4 c =
-    let e = c.before in
-    sym (past-2 e ∙ judge_no _ _ _ (ap not (eq-eqb _ _ (c.if-output-size.false ∙ size (from2 e)))) ∙ judge-none)
+    sym (past-2 c.before ∙ judge_no _ _ _ (ap not (eq-eqb _ _ (c.if-output-size.false ∙ size (from2 c.before)))) ∙ judge-none)
 
 pub judge_prefix_spec : {M : Type 1} → statement M
 judge_prefix_spec =
     tie.close
     (tie.spec
     (λ c. search rules)
-    (λ c. omega (arith, c.before.before.before.before.requires.n_most))
+    (λ c. omega (arith, c.requires.n_most))
     returns
     (λ c κs. omega (arith, short c, (from1 c).requires.mask_size))
     returns-2

@@ -20,17 +20,12 @@ module _ (s : tie.Start) where
 
 returns : tie.Need-returns-in-Fine
 returns c =
-    let e = c.before in
-    let j = e.before in
-    let s = j.before.before.before.before.before in
     c.judge_prefix.ensures
-    ∙ sym (append-fine (channel_tests s) (prefix_tests s) (sym j.judge_channel.ensures ∙ e.in-Fine.is))
+    ∙ sym (append-fine (channel_tests c.before.before.before.before.before.before.before) (prefix_tests c.before.before.before.before.before.before.before) (sym c.judge_channel.ensures ∙ c.in-Fine.is))
 
 returns-2 : tie.Need-returns-in-Refused
 returns-2 c =
-    let j = c.before in
-    let s = j.before.before.before.before.before in
-    sym (append_refused (channel_tests s) (prefix_tests s) _ (sym j.judge_channel.ensures ∙ c.in-Refused.is))
+    sym (append_refused (channel_tests c.before.before.before.before.before.before) (prefix_tests c.before.before.before.before.before.before) _ (sym c.judge_channel.ensures ∙ c.in-Refused.is))
 
 pub judge_resuming_spec : {M : Type 1} → statement M
 judge_resuming_spec =

@@ -43,11 +43,10 @@ resume-by-requires c κs =
 returns : tie.Need-returns-in-Accepted
 unfolding resumed
 returns c =
-    let a = c.before.before.before.before.before.before in
-    let x = (s a).args in
+    let x = (s c.before.before.before.before.before.before).args in
     c.resume_by.ensures
-    ∙ ap (λ (mask : List ℕ). resumed_by mask (code a) x.channel.now x.prefix.now x.output.now) c.mask_of-mask.ensures
-    ∙ ap (by (s a)) (accepted a)
+    ∙ ap (λ (mask : List ℕ). resumed_by mask (code c.before.before.before.before.before.before) x.channel.now x.prefix.now x.output.now) c.mask_of-mask.ensures
+    ∙ ap (by (s c.before.before.before.before.before.before)) (accepted c.before.before.before.before.before.before)
 
 returns-2 : tie.Need-returns-in-Refused
 unfolding resumed

@@ -17,7 +17,7 @@ use Rattle.pass_resume.proofs.resume_by.Tie as tie
 -- no refusal applies
 module _ (c : tie.In-Fine) where
   abbrev s : tie.Start
-  s = c.before.before.before.before.before.before.before.before
+  s = c.before.before.before.before.before.before
 
   well_formed : WellFormed s.args.mask.now s.args.code s.args.channel.now s.args.prefix.now s.args.output.now
   well_formed =
@@ -26,20 +26,17 @@ module _ (c : tie.In-Fine) where
 
 returns : tie.Need-returns-in-Fine
 returns c =
-    let k = c.before.before in
-    let e = k.before.before.before in
-    let x = (s e).args in
-    let d = k.resume_pass-done.ensures in
+    let x = (s c.before.before.before.before.before).args in
+    let d = c.resume_pass-done.ensures in
     ap₂ (λ (w : Work) (bits : List ℕ). (Done w.steps, bits)) d.0 d.1
-    ∙ sym (well_formed_answer x.mask.now x.code x.channel.now x.prefix.now x.output.now (well_formed e))
+    ∙ sym (well_formed_answer x.mask.now x.code x.channel.now x.prefix.now x.output.now (well_formed c.before.before.before.before.before))
 
 returns-2 : tie.Need-returns-in-Refused
 unfolding resumed_by
 returns-2 c =
-    let j = c.before in
-    let x = j.args in
+    let x = c.args in
     let o : Out = resume_pass x.mask.now x.code x.channel.now x.prefix.now in
-    sym (refused_by (λ i. (Refused i, x.output.now)) (Done o.work.steps, o.bits) _ _ (sym j.judge_resuming.ensures ∙ c.in-Refused.is))
+    sym (refused_by (λ i. (Refused i, x.output.now)) (Done o.work.steps, o.bits) _ _ (sym c.judge_resuming.ensures ∙ c.in-Refused.is))
 
 pub resume_by_spec : {M : Type 1} → statement M
 resume_by_spec =

@@ -27,7 +27,7 @@ pass-requires : tie.Need-pass-done-requires
 pass-requires c κs =
     let d = c.before.before.before.before.before in
     let s = d.before.before.before.before.before.before.before.before in
-    resume_on s.args.bits.now s.requires.0 d.before.before.rules_from.ensures.0 (code_fits s) s.requires.1 d.copy.ensures refl refl refl
+    resume_on s.args.bits.now s.requires.0 d.rules_from.ensures.0 (code_fits s) s.requires.1 d.copy.ensures refl refl refl
 
 copy-requires-2 : tie.Need-copy-requires-2
 copy-requires-2 c κs =
@@ -38,13 +38,10 @@ copy-requires-2 c κs =
 
 returns : tie.Need-returns
 returns c =
-    let p = c.before.before.before.before.before.before in
-    let d = p.before.before.before.before.before.before in
-    let s = d.before.before.before.before.before.before.before.before in
-    let rules = d.before.before.rules_from.ensures.0 in
-    let e = p.pass-done.ensures in (
-      resume_work s.args.bits.now s.requires.0 rules (code_fits s) s.requires.1 d.copy.ensures e,
-      c.before.before.copy-2.ensures ∙ resume_bits s.args.bits.now s.requires.0 rules (code_fits s) s.requires.1 d.copy.ensures e,
+    let rules = c.rules_from.ensures.0 in
+    let e = c.pass-done.ensures in (
+      resume_work c.args.bits.now c.requires.0 rules (code_fits c.before.before.before.before.before.before.before.before.before.before.before.before.before.before.before.before.before.before.before.before) c.requires.1 c.copy.ensures e,
+      c.copy-2.ensures ∙ resume_bits c.args.bits.now c.requires.0 rules (code_fits c.before.before.before.before.before.before.before.before.before.before.before.before.before.before.before.before.before.before.before.before) c.requires.1 c.copy.ensures e,
     )
 
 pub resume_pass_spec : {M : Type 1} → statement M

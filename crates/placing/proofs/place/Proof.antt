@@ -31,11 +31,10 @@ decreases-loop mask message u₀ walk₀ u walk = 8 * length mask - walk.looks
 loop-holds : tie.Need-loop-m-init invariant-loop decreases-loop
 unfolding walked
 loop-holds c =
-    let s = c.before.before.before.before in
-    let mask = s.args.mask.now in
+    let mask = c.args.mask.now in
     let e = c.start-walk.ensures in
     let none : 0 ≡ c.start-walk.result.looks = sym (ap (λ (w : Walk). w.looks) e) in (
-      subst (λ (n : ℕ). Filling (packed_byte (bits mask s.args.message.now)) 0 (length mask) s.args.u.now s.args.u.now (n / 8)) none filling_none,
+      subst (λ (n : ℕ). Filling (packed_byte (bits mask c.args.message.now)) 0 (length mask) c.args.u.now c.args.u.now (n / 8)) none filling_none,
       e ∙ ap (λ (n : ℕ). walked mask (8 * (n / 8))) none,
     )
 
@@ -59,7 +58,7 @@ module _ (c : tie.After-looks-m invariant-loop decreases-loop) where
   same = ap (λ (n : ℕ). n / 8) c.looks-m.ensures
 
   inside : m l < length (mask l)
-  inside = omega (arith, c.before.loop-m-test.true, c.before.before.looks.ensures)
+  inside = omega (arith, c.loop-m-test.true, c.looks.ensures)
 
 -- after the byte, its walk has eight looks more
 next : (c : tie.After-placed_byte-next invariant-loop decreases-loop) → c.placed_byte-next.result.walk.looks ≡ 8 * (m (l c.before) + 1)
@@ -69,9 +68,9 @@ loop-again : tie.Need-loop-m-preserved invariant-loop decreases-loop
 loop-again c =
     let k = c.before.before in
     let a = l k in
-    let e = c.before.placed_byte-next.ensures in
+    let e = c.placed_byte-next.ensures in
     let byte = packed_byte (bits (mask a) (s a).args.message.now) in
-    let more : m a + 1 ≡ c.before.placed_byte-next.result.walk.looks / 8 = omega (arith, next c.before) in (
+    let more : m a + 1 ≡ c.placed_byte-next.result.walk.looks / 8 = omega (arith, next c.before) in (
       subst (Filling byte 0 (length (mask a)) (s a).args.u.now _) more (filling_more a.loop-m.invariant.0 _ _ (inside k) (omega (arith, same k)) (e.0 ∙ ap byte (same k))),
       e.1 ∙ ap (λ (k : ℕ). walked (mask a) (8 * k)) (ap (λ (k : ℕ). k + 1) (same k) ∙ more),
     )
@@ -79,13 +78,12 @@ loop-again c =
 returns : tie.Need-returns invariant-loop decreases-loop
 unfolding packed
 returns c =
-    let l = c.before.before.before in
-    let message = (s l).args.message.now in
-    let all : m l ≡ length (mask l) = omega (arith, l.loop-m.invariant.0.reached, c.before.before.looks.ensures) in
-    let size : length (mask l) ≡ bytes_for (length (bits (mask l) message)) = omega (arith, length-placed (mask l) message (8 * length (mask l))) in (
-      c.looks-2.ensures ∙ ap (λ (w : Walk). w.looks) l.loop-m.invariant.1 ∙ ap (λ (m : ℕ). (walked (mask l) (8 * m)).looks) all,
-      filling_done l.loop-m.invariant.0 (omega (arith, all)) (omega (arith, (s l).requires.1))
-          ∙ ap (λ (k : ℕ). splice (s l).args.u.now 0 (table (packed_byte (bits (mask l) message)) k)) size,
+    let message = (s c.before.before.before).args.message.now in
+    let all : m c.before.before.before ≡ length (mask c.before.before.before) = omega (arith, c.loop-m.invariant.0.reached, c.looks.ensures) in
+    let size : length (mask c.before.before.before) ≡ bytes_for (length (bits (mask c.before.before.before) message)) = omega (arith, length-placed (mask c.before.before.before) message (8 * length (mask c.before.before.before))) in (
+      c.looks-2.ensures ∙ ap (λ (w : Walk). w.looks) c.loop-m.invariant.1 ∙ ap (λ (m : ℕ). (walked (mask c.before.before.before) (8 * m)).looks) all,
+      filling_done c.loop-m.invariant.0 (omega (arith, all)) (omega (arith, (s c.before.before.before).requires.1))
+          ∙ ap (λ (k : ℕ). splice (s c.before.before.before).args.u.now 0 (table (packed_byte (bits (mask c.before.before.before) message)) k)) size,
     )
 
 pub place_spec : {M : Type 1} → statement M
@@ -104,5 +102,5 @@ place_spec =
     (λ c. omega (arith, next c.before, inside c.before.before))
     loop-again
     (λ c κs. search rules)
-    (λ c. c.before.before.before.loop-m.invariant.0.same)
+    (λ c. c.loop-m.invariant.0.same)
     returns)

@@ -18,9 +18,8 @@ chosen (suc (suc b)) x l = absurd (omega arith)
 
 returns : tie.Need-returns
 returns c =
-    let s = c.before in
-    let x = get_or s.args.message.now s.args.c 0 in
-    and_bits s.args.information x s.requires.0 (s.requires.2.at s.args.c) ∙ chosen s.args.information x s.requires.0
+    let x = get_or c.args.message.now c.args.c 0 in
+    and_bits c.args.information x c.requires.0 (c.requires.2.at c.args.c) ∙ chosen c.args.information x c.requires.0
 
 pub placed_bit_spec : {M : Type 1} → statement M
 placed_bit_spec = tie.close (tie.spec (λ c. search rules) returns)

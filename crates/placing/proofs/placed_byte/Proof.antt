@@ -35,8 +35,7 @@ decreases-loop mask message m walk₀ byte₀ b₀ walk byte b = 8 - b
 loop-holds : tie.Need-loop-b-init invariant-loop decreases-loop
 unfolding number
 loop-holds c =
-    let s = c.before.before in
-    (s.requires.2 ∙ ap (walked s.args.mask.now) (sym (add-zero (8 * s.args.m))), omega arith, refl)
+    (c.requires.2 ∙ ap (walked c.args.mask.now) (sym (add-zero (8 * c.args.m))), omega arith, refl)
 
 module _ (k : tie.In-loop-b invariant-loop decreases-loop) where
   abbrev l : tie.At-loop-b invariant-loop decreases-loop
@@ -62,7 +61,7 @@ module _ (k : tie.In-loop-b invariant-loop decreases-loop) where
   few = omega (arith, s.requires.0.short)
 
   -- the message bit lies in the message
-  in-message : l.loop-b.walk.ones-c < length message
+  in-message : l.loop-b.walk.ones < length message
   in-message = omega (arith, ones_are mask i l.loop-b.invariant.0, ones_le mask i, inside, s.requires.0.room)
 
   -- fewer than eight bits leave room for one more
@@ -83,7 +82,7 @@ module _ (c : tie.After-placed_bit invariant-loop decreases-loop) where
   bit_is : c.placed_bit.result ≡ bit_at (mask k) (message k) (s k).args.m (l k).loop-b.b
   bit_is =
       let e = (l k).loop-b.invariant.0 in
-      placed-is k (c.before.look-seen.ensures.0 ∙ next_bit (mask k) (i k) e) (c.before.before.ones-c.ensures ∙ ones_are (mask k) (i k) e) c.placed_bit.ensures
+      placed-is k (c.look-seen.ensures.0 ∙ next_bit (mask k) (i k) e) (c.ones-c.ensures ∙ ones_are (mask k) (i k) e) c.placed_bit.ensures
 
   bit_lt : c.placed_bit.result < 2
   bit_lt = omega (arith, bit_is, (bits-placed (mask k) (message k) (8 * length (mask k)) (s k).requires.0.bits).at (i k))
@@ -91,21 +90,19 @@ module _ (c : tie.After-placed_bit invariant-loop decreases-loop) where
 loop-again : tie.Need-loop-b-preserved invariant-loop decreases-loop
 unfolding number
 loop-again c =
-    let p = c.before in
-    let a = (l (k p)).loop-b in (
-      next_walk (mask (k p)) (i (k p)) a.invariant.0 p.before.look-seen.ensures.1
-          ∙ ap (walked (mask (k p))) (add_assoc (8 * (s (k p)).args.m) a.b 1),
+    let a = (l (k c.before)).loop-b in (
+      next_walk (mask (k c.before)) (i (k c.before)) a.invariant.0 c.look-seen.ensures.1
+          ∙ ap (walked (mask (k c.before))) (add_assoc (8 * (s (k c.before)).args.m) a.b 1),
       omega arith,
-      rw add-one (ap₂ (λ (x y : ℕ). x * 2 + y) a.invariant.2 (bit_is p)),
+      rw add-one (ap₂ (λ (x y : ℕ). x * 2 + y) a.invariant.2 (bit_is c.before)),
     )
 
 returns : tie.Need-returns invariant-loop decreases-loop
 returns c =
-    let l = c.before.loop-b in
-    let s = c.before.before.before.before in
+    let l = c.loop-b in
     let e : l.b ≡ 8 = omega arith in
-    let all : 8 * s.args.m + l.b ≡ 8 * (s.args.m + 1) = omega arith in
-    (l.invariant.2 ∙ ap (number (bit_at s.args.mask.now s.args.message.now s.args.m)) e, l.invariant.0 ∙ ap (walked s.args.mask.now) all)
+    let all : 8 * c.args.m + l.b ≡ 8 * (c.args.m + 1) = omega arith in
+    (l.invariant.2 ∙ ap (number (bit_at c.args.mask.now c.args.message.now c.args.m)) e, l.invariant.0 ∙ ap (walked c.args.mask.now) all)
 
 pub placed_byte_spec : {M : Type 1} → statement M
 placed_byte_spec =

@@ -40,35 +40,32 @@ module _ (k : tie.In-loop-i invariant-loop decreases-loop) where
   mask = s.args.mask.now
 
   -- fewer bits are taken than there is room for
-  room : l.loop-i.walk.ones-c < length l.loop-i.message
+  room : l.loop-i.walk.ones < length l.loop-i.message
   room = omega (arith, l.loop-i.invariant.2, ones_are mask l.loop-i.i l.loop-i.invariant.1, ones_le mask l.loop-i.i, s.requires.1)
 
 loop-again : tie.Need-loop-i-preserved invariant-loop decreases-loop
 loop-again c =
-    let after_look = c.before.before.before.before.before.before in
-    let k = after_look.before.before in
-    let a = (l k).loop-i in
-    let u = (s k).args.u.now in
-    let w = (s k).args.message.now in
-    let ones = after_look.before.ones-c in
-    let after = c.before.before.before.take_bit in (
+    let a = (l c.before.before.before.before.before.before.before.before).loop-i in
+    let u = (s c.before.before.before.before.before.before.before.before).args.u.now in
+    let w = (s c.before.before.before.before.before.before.before.before).args.message.now in
+    let ones = c.ones-c in
+    let after = c.take_bit in (
       omega arith,
-      next_walk (mask k) a.i a.invariant.1 after_look.look-seen.ensures.1,
-      after.auto.0 ∙ a.invariant.2,
+      next_walk (mask c.before.before.before.before.before.before.before.before) a.i a.invariant.1 c.look-seen.ensures.1,
+      after.auto.message ∙ a.invariant.2,
       after.ensures
-          ∙ ap (λ (t : ℕ). cond (eqb t 1) (set a.message ones.result (get_or u a.i 0)) a.message) (after_look.look-seen.ensures.0 ∙ next_bit (mask k) a.i a.invariant.1)
-          ∙ take_next (mask k) u w a.message a.i ones.result _ a.invariant.3 (ones.ensures ∙ ones_are (mask k) a.i a.invariant.1) (omega (arith, ones.ensures, room k, a.invariant.2)) refl
-          ∙ ap (λ (n : ℕ). splice w 0 (taken (mask k) u n)) (sym (add-one a.i)),
+          ∙ ap (λ (t : ℕ). cond (eqb t 1) (set a.message ones.result (get_or u a.i 0)) a.message) (c.look-seen.ensures.0 ∙ next_bit (mask c.before.before.before.before.before.before.before.before) a.i a.invariant.1)
+          ∙ take_next (mask c.before.before.before.before.before.before.before.before) u w a.message a.i ones.result _ a.invariant.3 (ones.ensures ∙ ones_are (mask c.before.before.before.before.before.before.before.before) a.i a.invariant.1) (omega (arith, ones.ensures, room c.before.before.before.before.before.before.before.before, a.invariant.2)) refl
+          ∙ ap (λ (n : ℕ). splice w 0 (taken (mask c.before.before.before.before.before.before.before.before) u n)) (sym (add-one a.i)),
     )
 
 returns : tie.Need-returns invariant-loop decreases-loop
 returns c =
-    let l = c.before.before.loop-i in
-    let s = c.before.before.before.before.before.before.before in
-    let mask = s.args.mask.now in
+    let l = c.loop-i in
+    let mask = c.args.mask.now in
     let done : l.i ≡ 8 * length mask = omega arith in (
       c.looks.ensures ∙ ap (λ (w : Walk). w.looks) l.invariant.1 ∙ ap (λ (n : ℕ). (walked mask n).looks) done,
-      l.invariant.3 ∙ ap (λ (n : ℕ). splice s.args.message.now 0 (taken mask s.args.u.now n)) done,
+      l.invariant.3 ∙ ap (λ (n : ℕ). splice c.args.message.now 0 (taken mask c.args.u.now n)) done,
     )
 
 pub take_out_spec : {M : Type 1} → statement M

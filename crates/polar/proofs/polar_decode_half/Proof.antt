@@ -16,4 +16,4 @@ polar_decode_half_spec =
     (λ c κs. search rules)
     (λ c κs. subst (Fits decoded_parts) (sym c.before.before.decode_half.ensures) (decoded_fits (single _) Half _ _ _))
     (λ c. search rules)
-    (λ c. numbered-answer decoded_parts c.decoded_answer.ensures c.before.before.before.decode_half.ensures))
+    (λ c. numbered-answer decoded_parts c.decoded_answer.ensures c.decode_half.ensures))

@@ -16,4 +16,4 @@ polar_decode_restarted_spec =
     (λ c κs. search rules)
     (λ c κs. subst (Fits decoded_parts) (sym c.before.before.decode_restarted.ensures) (decoded_fits (single _) AfterFlip _ _ _))
     (λ c. search rules)
-    (λ c. numbered-answer decoded_parts c.decoded_answer.ensures c.before.before.before.decode_restarted.ensures))
+    (λ c. numbered-answer decoded_parts c.decoded_answer.ensures c.decode_restarted.ensures))

@@ -14,4 +14,4 @@ polar_encode_spec =
     (λ c κs. search rules)
     (λ c κs. subst (Fits encoded_parts) (sym c.before.before.encode.ensures) (encoded-fits _ _ _))
     (λ c. search rules)
-    (λ c. numbered-answer encoded_parts c.encoded_answer.ensures c.before.before.before.encode.ensures))
+    (λ c. numbered-answer encoded_parts c.encoded_answer.ensures c.encode.ensures))

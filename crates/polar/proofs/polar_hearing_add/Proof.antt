@@ -14,4 +14,4 @@ polar_hearing_add_spec =
     (λ c κs. search rules)
     (λ c κs. let x = c.before.before.before.before.before.before.args in subst (Fits kept_parts) (sym c.before.before.add.ensures) (added-fits x.state.now x.channel.now))
     (λ c. search rules)
-    (λ c. numbered-answer kept_parts c.kept_answer.ensures c.before.before.before.add.ensures))
+    (λ c. numbered-answer kept_parts c.kept_answer.ensures c.add.ensures))

@@ -16,4 +16,4 @@ polar_hearing_decode_full_spec =
     (λ c κs. search rules)
     (λ c κs. let x = c.before.before.before.before.before.before.args in subst (Fits decoded_parts) (sym c.before.before.decode_full.ensures) (held_fits Root (state_in x.state.now) x.limit x.payload.now))
     (λ c. search rules)
-    (λ c. numbered-answer decoded_parts c.decoded_answer.ensures c.before.before.before.decode_full.ensures))
+    (λ c. numbered-answer decoded_parts c.decoded_answer.ensures c.decode_full.ensures))

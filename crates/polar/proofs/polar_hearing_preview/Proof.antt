@@ -14,4 +14,4 @@ polar_hearing_preview_spec =
     (λ c κs. search rules)
     (λ c κs. let x = c.before.before.before.before.before.before.before.args in subst (Fits decoded_parts) (sym c.before.before.preview_in.ensures.0) (previewed-fits x.state.now x.channel.now x.limit x.payload.now))
     (λ c. search rules)
-    (λ c. (numbered-answer decoded_parts c.decoded_answer.ensures c.before.before.before.preview_in.ensures.0, refl)))
+    (λ c. (numbered-answer decoded_parts c.decoded_answer.ensures c.preview_in.ensures.0, refl)))

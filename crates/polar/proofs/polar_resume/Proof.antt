@@ -14,4 +14,4 @@ polar_resume_spec =
     (λ c κs. search rules)
     (λ c κs. subst (Fits resumed_parts) (sym c.before.before.resume.ensures) (resumed-fits _ _ _ _))
     (λ c. search rules)
-    (λ c. numbered-answer resumed_parts c.resumed_answer.ensures c.before.before.before.resume.ensures))
+    (λ c. numbered-answer resumed_parts c.resumed_answer.ensures c.resume.ensures))

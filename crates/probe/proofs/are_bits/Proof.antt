@@ -17,18 +17,18 @@ decreases-loop bits i₀ i = length bits - i
 
 returns : tie.Need-returns-then-bits-i-gt1 invariant-loop decreases-loop
 returns c =
-    let l = c.before.before.before.loop-i in
-    all_stop c.before.before.before.before.args.bits.now l.i (omega arith) (omega arith) ∙ l.invariant.1
+    let l = c.loop-i in
+    all_stop c.args.bits.now l.i (omega arith) (omega arith) ∙ l.invariant.1
 
 loop-again : tie.Need-loop-i-preserved invariant-loop decreases-loop
 loop-again c =
-    let l = c.before.before.before.loop-i in
-    (omega arith, all-next c.before.before.before.before.args.bits.now l.i (omega arith) (omega arith) ∙ l.invariant.1)
+    let l = c.loop-i in
+    (omega arith, all-next c.args.bits.now l.i (omega arith) (omega arith) ∙ l.invariant.1)
 
 returns-2 : tie.Need-returns invariant-loop decreases-loop
 returns-2 c =
-    let l = c.before.loop-i in
-    sym (ap all_bits (drop_of_length-le c.before.before.args.bits.now {i = l.i} (omega arith))) ∙ l.invariant.1
+    let l = c.loop-i in
+    sym (ap all_bits (drop_of_length-le c.args.bits.now {i = l.i} (omega arith))) ∙ l.invariant.1
 
 pub are_bits_spec : {M : Type 1} → statement M
 are_bits_spec =

@@ -14,16 +14,12 @@ by numbers x = description_numbers x numbers
 
 returns : tie.Need-returns-in-Accepted
 returns c =
-    let a = c.before.before.before.before.before in
-    let r = a in
-    ap (by r.args.numbers.now) (sym a.in-Accepted.is ∙ r.read_description.ensures)
+    ap (by c.args.numbers.now) (sym c.in-Accepted.is ∙ c.read_description.ensures)
 
 returns-2 : tie.Need-returns-in-Refused
 returns-2 c =
-    let x = c.before in
-    let r = x.before in
-    let numbers = r.args.numbers.now in
-    ap (λ (i : ℕ). (i, numbers)) c.refusal_number.ensures ∙ ap (by numbers) (sym x.in-Refused.is ∙ r.read_description.ensures)
+    let numbers = c.args.numbers.now in
+    ap (λ (i : ℕ). (i, numbers)) c.refusal_number.ensures ∙ ap (by numbers) (sym c.in-Refused.is ∙ c.read_description.ensures)
 
 pub probe_description_spec : {M : Type 1} → statement M
 probe_description_spec =

@@ -9,13 +9,11 @@ use Rattle.probe.proofs.probe_mask_bit.Tie as tie
 
 returns : tie.Need-returns-then-mask-i
 returns c =
-    let s = c.before.before in
-    rw (le-ltb s.args.i (8 * length s.args.mask.now) (omega arith))
+    rw (le-ltb c.args.i (8 * length c.args.mask.now) (omega arith))
 
 returns-2 : tie.Need-returns
 returns-2 c =
-    let s = c.before.before.before in
-    rw (lt-ltb s.args.i (8 * length s.args.mask.now) (omega arith)) c.mask_bit.ensures
+    rw (lt-ltb c.args.i (8 * length c.args.mask.now) (omega arith)) c.mask_bit.ensures
 
 pub probe_mask_bit_spec : {M : Type 1} → statement M
 probe_mask_bit_spec = tie.close (tie.spec returns (λ c κs. omega arith) (λ c. search rules) returns-2)

@@ -10,4 +10,4 @@ probe_ones_spec =
     (tie.spec
     (λ c. rw (lt-ltb _ _ c.if-mask-gt65536.true))
     (λ c κs. search rules)
-    (λ c. rw (le-ltb _ _ c.before.if-mask-gt65536.false) c.ones.ensures))
+    (λ c. rw (le-ltb _ _ c.if-mask-gt65536.false) c.ones.ensures))

@@ -12,22 +12,21 @@ use Rattle.probe.proofs.AllBits.{all-bits}
 use Rattle.probe.proofs.probe_pack.Statement.{statement}
 use Rattle.probe.proofs.probe_pack.Tie as tie
 
-are-bits : (c : tie.Else-not-are_bits) → all_bits c.before.before.before.before.args.bits.now ≡ true
-are-bits c = sym c.before.are_bits.ensures ∙ not-false _ c.if-not-are_bits.false
+are-bits : (c : tie.Else-not-are_bits) → all_bits c.args.bits.now ≡ true
+are-bits c = sym c.are_bits.ensures ∙ not-false _ c.if-not-are_bits.false
 
-full : (c : tie.Else-bytes-bytes_for) → length c.before.before.before.before.before.before.args.bytes.now ≡ bytes_for (length c.before.before.before.before.before.before.args.bits.now)
-full c = c.if-bytes-bytes_for.false ∙ c.before.bytes_for.ensures
+full : (c : tie.Else-bytes-bytes_for) → length c.args.bytes.now ≡ bytes_for (length c.args.bits.now)
+full c = c.if-bytes-bytes_for.false ∙ c.bytes_for.ensures
 
 returns : tie.Need-returns-then-not-are_bits
-returns c = rw (sym c.before.are_bits.ensures ∙ not-true _ c.if-not-are_bits.true)
+returns c = rw (sym c.are_bits.ensures ∙ not-true _ c.if-not-are_bits.true)
 
 returns-2 : tie.Need-returns-then-bytes-bytes_for
-returns-2 c = rw (are-bits c.before.before, ne_eqb _ _ (λ e. c.if-bytes-bytes_for.true (e ∙ sym c.before.bytes_for.ensures)))
+returns-2 c = rw (are-bits c.before.before, ne_eqb _ _ (λ e. c.if-bytes-bytes_for.true (e ∙ sym c.bytes_for.ensures)))
 
 returns-3 : tie.Need-returns
 returns-3 c =
-    let p = c.before.before.before.before in
-    rw (are-bits p.before.before, eq-eqb _ _ (full p)) (ap (λ (bytes : List ℕ). (0, bytes)) c.before.before.pack.ensures)
+    rw (are-bits c.before.before.before.before.before.before, eq-eqb _ _ (full c.before.before.before.before)) (ap (λ (bytes : List ℕ). (0, bytes)) c.pack.ensures)
 
 pub probe_pack_spec : {M : Type 1} → statement M
 probe_pack_spec =

@@ -14,39 +14,34 @@ use Rattle.probe.proofs.probe_place.Statement.{statement}
 use Rattle.probe.proofs.probe_place.Tie as tie
 
 -- the mask is no longer than that of the longest code
-short : (c : tie.Else-mask-gt-BYTES) → length c.before.before.before.before.args.mask.now ≤ longest_bytes
+short : (c : tie.Else-mask-gt-BYTES) → length c.args.mask.now ≤ longest_bytes
 short c = omega (arith, c.if-mask-gt-BYTES.false)
 
 -- there is a bit for each index
-room : (c : tie.Else-message-mask) → 8 * length c.before.before.before.before.before.before.args.mask.now ≤ length c.before.before.before.before.before.before.args.message.now
+room : (c : tie.Else-message-mask) → 8 * length c.args.mask.now ≤ length c.args.message.now
 room c = omega arith
 
-are-bits : (c : tie.Else-not-are_bits) → all_bits c.before.before.before.before.before.before.before.before.args.message.now ≡ true
-are-bits c = sym c.before.are_bits.ensures ∙ not-false _ c.if-not-are_bits.false
+are-bits : (c : tie.Else-not-are_bits) → all_bits c.args.message.now ≡ true
+are-bits c = sym c.are_bits.ensures ∙ not-false _ c.if-not-are_bits.false
 
 returns-3 : tie.Need-returns-then-message-mask
 returns-3 c =
-    let s = c.before.before.before.before.before.before in
-    rw (le-ltb _ _ (short c.before.before), le-ltb _ _ c.before.if-u-mask.false, lt-ltb (length s.args.message.now) (8 * length s.args.mask.now) (omega arith))
+    rw (le-ltb _ _ (short c.before.before), le-ltb _ _ c.if-u-mask.false, lt-ltb (length c.args.message.now) (8 * length c.args.mask.now) (omega arith))
 
 returns-4 : tie.Need-returns-then-not-are_bits
 returns-4 c =
-    let e = c.before.before in
-    rw (le-ltb _ _ (short e.before.before), le-ltb _ _ e.before.if-u-mask.false, le-ltb _ _ (room e), sym c.before.are_bits.ensures ∙ not-true _ c.if-not-are_bits.true)
+    rw (le-ltb _ _ (short c.before.before.before.before), le-ltb _ _ c.if-u-mask.false, le-ltb _ _ (room c.before.before), sym c.are_bits.ensures ∙ not-true _ c.if-not-are_bits.true)
 
 place-requires : tie.Need-place-requires
 place-requires c κs =
     let b = c.before in
     let e = b.before.before in
-    (record { short = short e.before.before; room = room e; bits = all-bits _ (are-bits b) }, e.before.if-u-mask.false)
+    (record { short = short e.before.before; room = room e; bits = all-bits _ (are-bits b) }, e.if-u-mask.false)
 
 returns-5 : tie.Need-returns
 returns-5 c =
-    let p = c.before.before in
-    let b = p.before.before in
-    let e = b.before.before in
-    rw (le-ltb _ _ (short e.before.before), le-ltb _ _ e.before.if-u-mask.false, le-ltb _ _ (room e), are-bits b)
-    (ap₂ (λ (x : ℕ) (u : List ℕ). (x, u)) p.place.ensures.0 p.place.ensures.1)
+    rw (le-ltb _ _ (short c.before.before.before.before.before.before.before.before), le-ltb _ _ c.if-u-mask.false, le-ltb _ _ (room c.before.before.before.before.before.before), are-bits c.before.before.before.before)
+    (ap₂ (λ (x : ℕ) (u : List ℕ). (x, u)) c.place.ensures.0 c.place.ensures.1)
 
 pub probe_place_spec : {M : Type 1} → statement M
 probe_place_spec =

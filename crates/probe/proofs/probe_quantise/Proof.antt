@@ -17,18 +17,13 @@ by numbers e f =
 
 returns : tie.Need-returns-in-Done
 returns c =
-    let s = c.before in
-    let q = s.before.before in
-    by q.args.numbers.now s.in-Done.is q.quantise.ensures
+    by c.args.numbers.now c.in-Done.is c.quantise.ensures
 
 returns-2 : tie.Need-returns-in-Refused
 unfolding of_bits
 returns-2 c =
-    let n = c.before in
-    let x = n.before.before in
-    let q = x.before.before in
-    let numbers = q.args.numbers.now in
-    rw (n.refusal_number.ensures, c.refusal_index.ensures) (by numbers x.in-Refused.is q.quantise.ensures)
+    let numbers = c.args.numbers.now in
+    rw (c.refusal_number.ensures, c.refusal_index.ensures) (by numbers c.in-Refused.is c.quantise.ensures)
 
 pub probe_quantise_spec : {M : Type 1} → statement M
 probe_quantise_spec =

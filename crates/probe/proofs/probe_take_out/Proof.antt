@@ -10,29 +10,25 @@ use Rattle.probe.proofs.probe_take_out.Statement.{statement}
 use Rattle.probe.proofs.probe_take_out.Tie as tie
 
 -- there is a bit for each index
-bits : (c : tie.Else-u-mask) → 8 * length c.before.before.before.before.args.mask.now ≤ length c.before.before.before.before.args.u.now
+bits : (c : tie.Else-u-mask) → 8 * length c.args.mask.now ≤ length c.args.u.now
 bits c = omega arith
 
 -- and room for it
-room : (c : tie.Else-message-mask) → 8 * length c.before.before.before.before.before.args.mask.now ≤ length c.before.before.before.before.before.args.message.now
+room : (c : tie.Else-message-mask) → 8 * length c.args.mask.now ≤ length c.args.message.now
 room c = omega arith
 
 returns : tie.Need-returns-then-u-mask
 returns c =
-    let s = c.before.before.before.before in
-    rw (lt-ltb (length s.args.u.now) (8 * length s.args.mask.now) (omega arith))
+    rw (lt-ltb (length c.args.u.now) (8 * length c.args.mask.now) (omega arith))
 
 returns-2 : tie.Need-returns-then-message-mask
 returns-2 c =
-    let s = c.before.before.before.before.before in
-    rw (le-ltb _ _ (bits c.before), lt-ltb (length s.args.message.now) (8 * length s.args.mask.now) (omega arith))
+    rw (le-ltb _ _ (bits c.before), lt-ltb (length c.args.message.now) (8 * length c.args.mask.now) (omega arith))
 
 returns-3 : tie.Need-returns
 returns-3 c =
-    let t = c.before.before in
-    let e = t.before.before in
-    rw (le-ltb _ _ (bits e.before), le-ltb _ _ (room e))
-    (ap₂ (λ (x : ℕ) (message : List ℕ). (x, message)) t.take_out.ensures.0 t.take_out.ensures.1)
+    rw (le-ltb _ _ (bits c.before.before.before.before.before), le-ltb _ _ (room c.before.before.before.before))
+    (ap₂ (λ (x : ℕ) (message : List ℕ). (x, message)) c.take_out.ensures.0 c.take_out.ensures.1)
 
 pub probe_take_out_spec : {M : Type 1} → statement M
 probe_take_out_spec =

@@ -11,14 +11,12 @@ use Rattle.probe.proofs.probe_unpack.Tie as tie
 
 returns : tie.Need-returns-then-bytes-bytes_for
 returns c =
-    let s = c.before.before.before.before in
-    rw (lt-ltb (8 * length s.args.bytes.now) (length s.args.bits.now) (omega (arith, c.before.bytes_for.ensures)))
+    rw (lt-ltb (8 * length c.args.bytes.now) (length c.args.bits.now) (omega (arith, c.bytes_for.ensures)))
 
 returns-2 : tie.Need-returns
 returns-2 c =
-    let s = c.before.before.before.before.before.before.before.before in
-    rw (le-ltb (8 * length s.args.bytes.now) (length s.args.bits.now) (omega arith))
-    (ap (λ (bits : List ℕ). (0, bits)) c.before.before.unpack.ensures)
+    rw (le-ltb (8 * length c.args.bytes.now) (length c.args.bits.now) (omega arith))
+    (ap (λ (bits : List ℕ). (0, bits)) c.unpack.ensures)
 
 pub probe_unpack_spec : {M : Type 1} → statement M
 probe_unpack_spec =

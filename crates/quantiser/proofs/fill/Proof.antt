@@ -35,37 +35,33 @@ abbrev p : tie.In-loop-i invariant-loop decreases-loop → ℕ → Float
 p c = let s = c.before.before.before.before in product s.args.scale s.args.samples.now
 
 -- each that is made is a number
-number : (c : tie.In-loop-i invariant-loop decreases-loop) → T (not (is_nan (p c c.before.loop-i.i)))
-number c = admitted-number c.before.before.before.before.requires c.before.loop-i.i (omega arith)
+number : (c : tie.In-loop-i invariant-loop decreases-loop) → T (not (is_nan (p c c.loop-i.i)))
+number c = admitted-number c.requires c.loop-i.i (omega arith)
 
-counted : (c : tie.After-quantise_one-level invariant-loop decreases-loop) → let l = c.before.before in l.before.loop-i.clipped + c.quantise_one-level.result.clipped ≡ clipped_of (p l) (suc l.before.loop-i.i)
+counted : (c : tie.After-quantise_one-level invariant-loop decreases-loop) → c.loop-i.clipped + c.quantise_one-level.result.clipped ≡ clipped_of (p c.before) (suc c.loop-i.i)
 unfolding clipped_of
-counted c = ap₂ (λ (x y : ℕ). x + y) c.before.before.before.loop-i.invariant.2 (ap (λ (x : Level). x.clipped) c.quantise_one-level.ensures)
+counted c = ap₂ (λ (x y : ℕ). x + y) c.loop-i.invariant.2 (ap (λ (x : Level). x.clipped) c.quantise_one-level.ensures)
 
 add-clipped : tie.Need-overflow_add-clipped invariant-loop decreases-loop
 add-clipped c =
-    let l = c.before.before.before in
-    omega (arith, counted c.before, clipped_le (p l) (suc l.before.loop-i.i))
+    omega (arith, counted c.before, clipped_le (p c.before) (suc c.loop-i.i))
 
 loop-again : tie.Need-loop-i-preserved invariant-loop decreases-loop
 unfolding peak_of
 loop-again c =
-    let q = c.before.before in
-    let l = q.before.before in
-    let k = l.before.loop-i in
-    let e = q.quantise_one-level.ensures in (
-      filling_more k.invariant.0 k.i q.quantise_one-level.result.byte (omega (arith, l)) (omega arith) (ap (λ (x : Level). x.byte) e),
+    let k = c.loop-i in
+    let e = c.quantise_one-level.ensures in (
+      filling_more k.invariant.0 k.i c.quantise_one-level.result.byte (omega (arith, c.before)) (omega arith) (ap (λ (x : Level). x.byte) e),
       rw add-one (c.larger_of-peak.ensures ∙ ap₂ larger k.invariant.1 (ap (λ (x : Level). x.magnitude) e)),
-      rw add-one (counted q),
+      rw add-one (counted c.before.before),
     )
 
 returns : tie.Need-returns invariant-loop decreases-loop
 returns c =
-    let k = c.before.loop-i in
-    let s = c.before.before.before.before in
-    let p : ℕ → Float = product s.args.scale s.args.samples.now in
-    let e : k.i ≡ length s.args.samples.now = omega arith in
-    let written = filling_whole k.invariant.0 (omega arith) ∙ ap (bytes p) (sym s.requires.same_length) in
+    let k = c.loop-i in
+    let p : ℕ → Float = product c.args.scale c.args.samples.now in
+    let e : k.i ≡ length c.args.samples.now = omega arith in
+    let written = filling_whole k.invariant.0 (omega arith) ∙ ap (bytes p) (sym c.requires.same_length) in
     rw (k.invariant.1, k.invariant.2, e, written)
 
 pub fill_spec : {M : Type 1} → statement M
@@ -78,7 +74,7 @@ fill_spec =
     (λ c. search rules)
     (λ c. search rules)
     (λ c κs. number c.before)
-    (λ c. omega (arith, c.before.before.before.before.before.before.requires, c.before.before.before.loop-i.invariant.0))
+    (λ c. omega (arith, c.requires, c.loop-i.invariant.0))
     add-clipped
     (λ c κs. search rules)
     (λ c. search rules)

@@ -20,16 +20,14 @@ decreases-loop samples i₀ i = length samples - i
 
 returns : tie.Need-returns-then-y invariant-loop decreases-loop
 returns c =
-    let l = c.before.before.before in
-    sym (first-is _ (length l.before.args.samples.now) l.loop-i.i l.loop-i.invariant.0 l.loop-i.invariant.1 (λ h. differs_nan _ c.if-y.true))
+    sym (first-is _ (length c.args.samples.now) c.loop-i.i c.loop-i.invariant.0 c.loop-i.invariant.1 (λ h. differs_nan _ c.if-y.true))
 
 loop-again : tie.Need-loop-i-preserved invariant-loop decreases-loop
-loop-again c = (search rules, below_more _ _ c.before.before.before.loop-i.invariant.1 (same_number _ c.if-y.false))
+loop-again c = (search rules, below_more _ _ c.loop-i.invariant.1 (same_number _ c.if-y.false))
 
 returns-2 : tie.Need-returns invariant-loop decreases-loop
 returns-2 c =
-    let l = c.before in
-    sym (first-is _ (length l.before.args.samples.now) l.loop-i.i l.loop-i.invariant.0 l.loop-i.invariant.1 (λ h. absurd (omega arith)))
+    sym (first-is _ (length c.args.samples.now) c.loop-i.i c.loop-i.invariant.0 c.loop-i.invariant.1 (λ h. absurd (omega arith)))
 
 pub first_nan_spec : {M : Type 1} → statement M
 first_nan_spec =

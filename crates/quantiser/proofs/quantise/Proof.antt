@@ -20,14 +20,12 @@ fine t = sym t.judge_quantising.ensures ∙ t.in-Fine.is
 returns : tie.Need-returns-in-Fine
 unfolding quantised
 returns c =
-    let f = c.before.before in
-    f.fill.ensures ∙ sym (refused_fine _ _ _ (fine f.before.before))
+    c.fill.ensures ∙ sym (refused_fine _ _ _ (fine c.before.before.before.before))
 
 returns-2 : tie.Need-returns-in-Refused
 unfolding quantised
 returns-2 c =
-    let x = c in
-    sym (refused_by _ _ _ _ (sym x.judge_quantising.ensures ∙ x.in-Refused.is))
+    sym (refused_by _ _ _ _ (sym c.judge_quantising.ensures ∙ c.in-Refused.is))
 
 pub quantise_spec : {M : Type 1} → statement M
 quantise_spec =

@@ -11,7 +11,7 @@ use Rattle.quantiser_level.proofs.level_byte.Tie as tie
 
 returns : tie.Need-returns-then-p
 unfolding of_bits
-returns c = rw (level-signed, c.if-p.true) (minus_byte _ (min 31 (quarters c.before.args.p)) (omega arith) (omega arith))
+returns c = rw (level-signed, c.if-p.true) (minus_byte _ (min 31 (quarters c.args.p)) (omega arith) (omega arith))
 
 returns-2 : tie.Need-returns-else-p
 unfolding of_bits

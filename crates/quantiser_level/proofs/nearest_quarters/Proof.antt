@@ -14,11 +14,10 @@ small c = shifted_lt c.clamped-bits.result (omega arith)
 
 returns : tie.Need-returns
 returns c =
-    let s = c.before.before in
-    let v = shifted c.before.clamped-bits.result in
+    let v = shifted c.clamped-bits.result in
     let whole : v % 0x1_0000_0000 ≡ v = omega (arith, small c.before) in
-    c.rounded.ensures ∙ ap (λ (x : ℕ). nearest x 0x200_0000) (whole ∙ ap shifted c.before.clamped-bits.ensures)
-    ∙ quarters-bits s.args.p (subst T (sym s.well_formed.0.1) tt) s.requires
+    c.rounded.ensures ∙ ap (λ (x : ℕ). nearest x 0x200_0000) (whole ∙ ap shifted c.clamped-bits.ensures)
+    ∙ quarters-bits c.args.p (subst T (sym c.well_formed.0.1) tt) c.requires
 
 pub nearest_quarters_spec : {M : Type 1} → statement M
 nearest_quarters_spec =

@@ -15,9 +15,8 @@ made e f g = rw (e, f, g)
 
 returns : tie.Need-returns
 returns c =
-    let b = c.before in
-    let s = b.before.before.args in
-    made b.level_byte-byte.ensures (one_if _ (mul binary32 s.scale s.y) (λ h. omega arith) (λ h. omega arith)) c.absolute-magnitude.ensures
+    let s = c.args in
+    made c.level_byte-byte.ensures (one_if _ (mul binary32 s.scale s.y) (λ h. omega arith) (λ h. omega arith)) c.absolute-magnitude.ensures
 
 pub quantise_one_spec : {M : Type 1} → statement M
 quantise_one_spec =

@@ -15,18 +15,15 @@ case payload e = ap (λ (x : Decoded). answer_line x payload) (sym e)
 
 returns : tie.Need-returns-in-Accepted
 returns c =
-    let a = c.before.before.before.before in
-    put_as c.put_ok.ensures _ (case a.args.payload.now a.in-Accepted.is)
+    put_as c.put_ok.ensures _ (case c.args.payload.now c.in-Accepted.is)
 
 returns-2 : tie.Need-returns-in-Refused16
 returns-2 c =
-    let a = c.before.before.before.before.before in
-    put_as c.put_line.ensures _ (case a.args.payload.now a.in-Refused16.is)
+    put_as c.put_line.ensures _ (case c.args.payload.now c.in-Refused16.is)
 
 returns-3 : tie.Need-returns-in-Refused
 returns-3 c =
-    let a = c.before.before.before.before in
-    put_as c.put_refusal.ensures _ (case a.args.payload.now a.in-Refused.is)
+    put_as c.put_refusal.ensures _ (case c.args.payload.now c.in-Refused.is)
 
 pub put_answer_spec : {M : Type 1} → statement M
 put_answer_spec =

@@ -29,27 +29,24 @@ decoding held bytes = decoding_line held (drop 6 bytes) (word bytes 4)
 abbrev past : List ℕ → List ℕ → List ℕ
 past held bytes = refused_or (judge ((ltb (length bytes) 6, Alone 24) ∷ [])) refuse (decoding held bytes)
 
-past-1 : (c : tie.Else-held-eq0) → channel_line c.before.before.before.before.args.held.now c.before.before.before.before.args.bytes.now ≡ past c.before.before.before.before.args.held.now c.before.before.before.before.args.bytes.now
+past-1 : (c : tie.Else-held-eq0) → channel_line c.args.held.now c.args.bytes.now ≡ past c.args.held.now c.args.bytes.now
 unfolding channel_line
 past-1 c = past-test refuse _ _ (Alone 23) _ (ne_eqb _ _ c.if-held-eq0.false)
 
 returns : tie.Need-returns-then-held-eq0
 unfolding channel_line
-returns c = put_as c.before.before.put_line.ensures _ (at_test refuse _ _ (Alone 23) _ (eq-eqb _ _ c.before.before.before.before.before.if-held-eq0.true))
+returns c = put_as c.put_line.ensures _ (at_test refuse _ _ (Alone 23) _ (eq-eqb _ _ c.if-held-eq0.true))
 
 returns-2 : tie.Need-returns-then-bytes-lt6
 returns-2 c =
-    let t = c.before.before.before.before.before in
-    put_as c.before.before.put_line-then-bytes-lt6.ensures _ (at_test refuse _ _ (Alone 24) [] (lt-ltb _ _ t.if-bytes-lt6.true) ∙ sym (past-1 t.before))
+    put_as c.put_line-then-bytes-lt6.ensures _ (at_test refuse _ _ (Alone 24) [] (lt-ltb _ _ c.if-bytes-lt6.true) ∙ sym (past-1 c.before.before.before.before.before.before.before))
 
 returns-3 : tie.Need-returns
 returns-3 c =
-    let e = c.before.before.before.before.before.before in
-    let s = e.before.before.before.before.before in
-    let bytes = s.args.bytes.now in
-    put_as c.before.before.put_decoding.ensures _
-    (ap₂ (decoding_line s.args.held.now) (take_all _ _ (le_of_eq (length-drop 6 bytes))) c.before.before.before.before.before.read_word-limit.ensures
-    ∙ sym (past-1 e.before ∙ past-test refuse _ _ (Alone 24) [] (le-ltb _ _ e.if-bytes-lt6.false) ∙ past_all refuse _))
+    let bytes = c.args.bytes.now in
+    put_as c.put_decoding.ensures _
+    (ap₂ (decoding_line c.args.held.now) (take_all _ _ (le_of_eq (length-drop 6 bytes))) c.read_word-limit.ensures
+    ∙ sym (past-1 c.before.before.before.before.before.before.before ∙ past-test refuse _ _ (Alone 24) [] (le-ltb _ _ c.if-bytes-lt6.false) ∙ past_all refuse _))
 
 pub put_channel_spec : {M : Type 1} → statement M
 put_channel_spec =

@@ -7,7 +7,7 @@ use Rattle.receive_frame.proofs.put_decoded.Statement.{statement}
 use Rattle.receive_frame.proofs.put_decoded.Tie as tie
 
 returns : tie.Need-returns
-returns c = put_as c.before.before.put_answer.ensures _ (ap line_of_answer c.before.before.before.before.before.before.before.decode_by-answer.ensures)
+returns c = put_as c.put_answer.ensures _ (ap line_of_answer c.decode_by-answer.ensures)
 
 pub put_decoded_spec : {M : Type 1} → statement M
 put_decoded_spec =

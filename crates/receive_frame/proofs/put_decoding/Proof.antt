@@ -75,22 +75,17 @@ put-decoded-requires c κs =
 returns : tie.Need-returns-in-Accepted
 unfolding decoding_line
 returns c =
-    let m = c.before.before.before.before.before.before in
-    let a = m.before.before in
-    let s = a.before.before.before.before.before in
-    let channel = s.args.channel.now in
+    let channel = c.args.channel.now in
     put_as c.put_decoded.ensures _
-    (ap₂ (λ (mask output : List ℕ). under mask (code a) channel s.args.limit output) m.mask_of-mask.ensures (part-is m.before)
-    ∙ ap line_of_answer (sym (under-code (single s.args.limit) AfterFlip (held a) channel (replicate (bytes_for (code a).k) 0) (code a) (sym (accepted a))))
-    ∙ ap (by (held a) channel s.args.limit) (accepted a))
+    (ap₂ (λ (mask output : List ℕ). under mask (code c.before) channel c.args.limit output) c.mask_of-mask.ensures (part-is c.before.before.before.before.before.before.before)
+    ∙ ap line_of_answer (sym (under-code (single c.args.limit) AfterFlip (held c.before) channel (replicate (bytes_for (code c.before).k) 0) (code c.before) (sym (accepted c.before))))
+    ∙ ap (by (held c.before) channel c.args.limit) (accepted c.before))
 
 returns-2 : tie.Need-returns-in-Refused
 unfolding decoding_line
 returns-2 c =
-    let a = c.before.before.before.before in
-    let s = a.before.before.before.before.before in
     put_as c.put_refusal.ensures _
-    (ap (by s.args.held.now s.args.channel.now s.args.limit) (sym a.in-Refused.is ∙ a.read_description.ensures))
+    (ap (by c.args.held.now c.args.channel.now c.args.limit) (sym c.in-Refused.is ∙ c.read_description.ensures))
 
 pub put_decoding_spec : {M : Type 1} → statement M
 put_decoding_spec =

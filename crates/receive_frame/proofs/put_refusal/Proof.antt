@@ -8,8 +8,7 @@ use Rattle.receive_frame.proofs.put_refusal.Tie as tie
 
 returns : tie.Need-returns
 returns c =
-    let p = c.before.before in
-    put_as p.put_line.ensures _ (ap no_line p.before.number.ensures)
+    put_as c.put_line.ensures _ (ap no_line c.number.ensures)
 
 pub put_refusal_spec : {M : Type 1} → statement M
 put_refusal_spec =

@@ -29,11 +29,11 @@ Q t = (put-decimal-below t, put-decimal.Post)
 
 module _ (t : ℕ) where
   -- room for the one digit
-  one-fits : (c : put-decimal-lts.Then-n-lt10 (Q t) (put-decimal-at t) put-decimal.Post) → c.before.before.args.at < length c.before.before.args.line.now
-  one-fits c = omega (arith, c.before.before.requires.1, length-small c.before.before.args.n c.if-n-lt10.true)
+  one-fits : (c : put-decimal-lts.Then-n-lt10 (Q t) (put-decimal-at t) put-decimal.Post) → c.args.at < length c.args.line.now
+  one-fits c = omega (arith, c.requires.1, length-small c.args.n c.if-n-lt10.true)
 
   returns : put-decimal-lts.Need-returns-then-n-lt10 (Q t) (put-decimal-at t) put-decimal.Post
-  returns c = put_as (put_byte (one-fits c)) _ (sym (decimal-small c.before.before.args.n c.if-n-lt10.true))
+  returns c = put_as (put_byte (one-fits c)) _ (sym (decimal-small c.args.n c.if-n-lt10.true))
 
   put-decimal-requires : put-decimal-lts.Need-put_decimal-next-requires (Q t) (put-decimal-at t) put-decimal.Post
   put-decimal-requires c κs =
@@ -46,17 +46,17 @@ module _ (t : ℕ) where
     s = c.before.before.before.before.before.before
 
     big : 10 ≤ s.args.n
-    big = c.before.before.before.before.if-n-lt10.false
+    big = c.if-n-lt10.false
 
     -- room for the last digit
-    last_fits : c.before.before.put_decimal-next.result < length c.before.before.put_decimal-next.new.0
+    last_fits : c.put_decimal-next.result < length c.put_decimal-next.new.line
     last_fits =
-        let p = c.before.before.put_decimal-next.ensures in
+        let p = c.put_decimal-next.ensures in
         omega (arith, s.requires.1, length_more s.args.n big, p.next_is, length_put p)
 
   returns-2 : put-decimal-lts.Need-returns (Q t) (put-decimal-at t) put-decimal.Post
   returns-2 c =
-      put_as (put_more c.before.before.put_decimal-next.ensures (put_byte (last_fits c))) _ (sym (decimal-more (s c).args.n (big c)))
+      put_as (put_more c.put_decimal-next.ensures (put_byte (last_fits c))) _ (sym (decimal-more (s c).args.n (big c)))
 
 pub +put_decimal_spec : {M : Type 1} → statement M
 +put_decimal_spec = close μ-put-decimal λ t. put-decimal-lts.spec (Q t)

@@ -10,13 +10,11 @@ use Rattle.receive_lines.proofs.put_bytes.Tie as tie
 
 returns : tie.Need-returns
 returns c =
-    let k = c.before.before in
-    let s = k.before.before.before.before in
-    let bytes = s.args.bytes.now in
+    let bytes = c.args.bytes.now in
     record {
       next_is = refl;
-      fits = omega (arith, s.requires);
-      after_is = k.copy.ensures ∙ ap (splice s.args.buffer.now s.args.at) (take_all (length bytes) bytes (omega arith));
+      fits = omega (arith, c.requires);
+      after_is = c.copy.ensures ∙ ap (splice c.args.buffer.now c.args.at) (take_all (length bytes) bytes (omega arith));
     }
 
 pub put_bytes_spec : {M : Type 1} → statement M

@@ -20,33 +20,31 @@ abbrev decreases-loop : tie.decreases-loop-i
 decreases-loop line₀ at bytes next₀ i₀ line next i = length bytes - i
 
 -- room for the two digits of a byte
-room : (c : tie.In-loop-i invariant-loop decreases-loop) → c.before.loop-i.next + 2 ≤ length c.before.loop-i.line
+room : (c : tie.In-loop-i invariant-loop decreases-loop) → c.loop-i.next + 2 ≤ length c.loop-i.line
 room c =
-    let s = c.before.before.before.before in
-    let l = c.before.loop-i in
-    let done = take l.i s.args.bytes.now in
-    omega (arith, s.requires, l.invariant.1.next_is, length_put l.invariant.1, length-hex done, length-take-le l.i s.args.bytes.now l.invariant.0)
+    let l = c.loop-i in
+    let done = take l.i c.args.bytes.now in
+    omega (arith, c.requires, l.invariant.1.next_is, length_put l.invariant.1, length-hex done, length-take-le l.i c.args.bytes.now l.invariant.0)
 
 -- the byte that a turn reads
-byte : (c : tie.After-shared_slice_known-in-loop-i-1 invariant-loop decreases-loop) → get_or c.before.before.before.before.before.args.bytes.now c.before.before.loop-i.i 0 < 256
-byte c = omega (arith, c.shared_slice_known-in-loop-i-1.given c.before.before.loop-i.i)
+byte : (c : tie.After-shared_slice_known-in-loop-i-1 invariant-loop decreases-loop) → get_or c.args.bytes.now c.loop-i.i 0 < 256
+byte c = omega (arith, c.shared_slice_known-in-loop-i-1.given c.loop-i.i)
 
 loop-again : tie.Need-loop-i-preserved invariant-loop decreases-loop
 loop-again c =
-    let h = c.before.before.before.before in
-    let l = h.before.loop-i in
-    let bytes = h.before.before.before.before.args.bytes.now in
-    let digits = put_two l.line l.next c.before.before.hex_digit.result c.hex_digit-in-loop-i.result (room h) in (
+    let l = c.loop-i in
+    let bytes = c.args.bytes.now in
+    let digits = put_two l.line l.next c.hex_digit.result c.hex_digit-in-loop-i.result (room c.before.before.before.before) in (
       search rules,
       put_as (put_more l.invariant.1 digits) (hex (take (l.i + 1) bytes))
-          (ap₂ (λ (x y : ℕ). hex (take l.i bytes) ++ (x ∷ y ∷ [])) c.before.before.hex_digit.ensures c.hex_digit-in-loop-i.ensures
-          ∙ sym (hex-next bytes l.i h.loop-i-test.true)),
+          (ap₂ (λ (x y : ℕ). hex (take l.i bytes) ++ (x ∷ y ∷ [])) c.hex_digit.ensures c.hex_digit-in-loop-i.ensures
+          ∙ sym (hex-next bytes l.i c.loop-i-test.true)),
     )
 
 returns : tie.Need-returns invariant-loop decreases-loop
 returns c =
-    let bytes = c.before.before.before.before.args.bytes.now in
-    put_as c.before.loop-i.invariant.1 (hex bytes) (ap hex (take_all c.before.loop-i.i bytes (search rules)))
+    let bytes = c.args.bytes.now in
+    put_as c.loop-i.invariant.1 (hex bytes) (ap hex (take_all c.loop-i.i bytes (search rules)))
 
 pub put_hex_spec : {M : Type 1} → statement M
 put_hex_spec =
@@ -66,5 +64,5 @@ put_hex_spec =
     (λ c. search rules)
     (λ c. search rules)
     loop-again
-    (λ c. length_put c.before.loop-i.invariant.1)
+    (λ c. length_put c.loop-i.invariant.1)
     returns)

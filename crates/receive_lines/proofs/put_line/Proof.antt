@@ -6,9 +6,9 @@ use Rattle.receive_lines.proofs.put_line.Tie as tie
 
 returns : tie.Need-returns
 returns c =
-    put_more c.before.before.before.before.before.before.before.before.before.before.before.put_bytes-at.ensures
-    (put_more c.before.before.before.before.before.before.before.put_number-at.ensures.0
-    c.before.before.put_bytes.ensures)
+    put_more c.put_bytes-at.ensures
+    (put_more c.put_number-at.ensures.0
+    c.put_bytes.ensures)
 
 pub put_line_spec : {M : Type 1} → statement M
 put_line_spec =

@@ -18,7 +18,7 @@ digits c = length-decimal c.args.n 19 (omega arith)
 space : (c : tie.Start) → PutPost c.args.line.now c.args.at (text " ") (set c.args.line.now c.args.at 0x20) (c.args.at + 1)
 space c = put_byte (omega (arith, c.requires))
 
-number : (c : tie.After-put_decimal) → PutPost c.before.before.before.args.line.now c.before.before.before.args.at (spaced (decimal c.before.before.before.args.n)) c.put_decimal.new.0 c.put_decimal.result
+number : (c : tie.After-put_decimal) → PutPost c.args.line.now c.args.at (spaced (decimal c.args.n)) c.put_decimal.new.line c.put_decimal.result
 number c = put_more (space c.before.before.before) c.put_decimal.ensures
 
 pub put_number_spec : {M : Type 1} → statement M

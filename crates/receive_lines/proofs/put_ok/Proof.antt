@@ -11,19 +11,19 @@ use Rattle.receive_lines.proofs.put_ok.Tie as tie
 -- what was put before the line feed, and where each part ends
 module _ (h : tie.After-put_hex-at) where
   abbrev n2 : tie.After-put_number-at-2
-  n2 = h.before.before.before.before.before.before.before.before.before
+  n2 = h.before.before.before.before.before.before.before.before.before.before
 
   abbrev word : tie.After-put_bytes-at
   word = n2.before.before.before.before.before.before.before.before
 
   abbrev s : tie.Start
-  s = word.before.before.before.before.before
+  s = word.before.before.before.before.before.before
 
   room : h.put_hex-at.result + 1 ≤ length h.put_hex-at.last.0
   room =
-      let trial = n2.before.before.before.before.put_number-at.ensures in
+      let trial = n2.put_number-at.ensures in
       let steps = n2.put_number-at-2.ensures in
-      let space = h.before.before.before.before.put_bytes-at-2.ensures in
+      let space = h.put_bytes-at-2.ensures in
       let payload = h.put_hex-at.ensures in
       omega (
         arith,
@@ -43,13 +43,12 @@ module _ (h : tie.After-put_hex-at) where
 
 returns : tie.Need-returns
 returns c =
-    let h = c.before.before.before.before.before.before.before in
-    put_more (word h).put_bytes-at.ensures
-    (put_more (n2 h).before.before.before.before.put_number-at.ensures.0
-    (put_more (n2 h).put_number-at-2.ensures.0
-    (put_more h.before.before.before.before.put_bytes-at-2.ensures
-    (put_more h.put_hex-at.ensures
-    c.before.before.put_bytes.ensures))))
+    put_more (word c.before.before.before.before.before.before.before.before).put_bytes-at.ensures
+    (put_more (n2 c.before.before.before.before.before.before.before.before).put_number-at.ensures.0
+    (put_more (n2 c.before.before.before.before.before.before.before.before).put_number-at-2.ensures.0
+    (put_more c.put_bytes-at-2.ensures
+    (put_more c.put_hex-at.ensures
+    c.put_bytes.ensures))))
 
 pub put_ok_spec : {M : Type 1} → statement M
 put_ok_spec =

@@ -12,8 +12,8 @@ made length kind = record { length = length; kind = kind }
 
 returns : tie.Need-returns
 returns c =
-    let known = c.before.before.shared_slice_known-1.given in
-    (ap₂ made c.before.read_word.ensures c.read_word-2.ensures, omega (arith, c.before.read_word.ensures, known 0, known 1))
+    let known = c.shared_slice_known-1.given in
+    (ap₂ made c.read_word.ensures c.read_word-2.ensures, omega (arith, c.read_word.ensures, known 0, known 1))
 
 pub read_header_spec : {M : Type 1} → statement M
 read_header_spec =

@@ -29,10 +29,10 @@ by-1 held bytes t = cond t (description_response held bytes) (past held bytes)
 
 module _ (c : tie.After-read_header-kind) where
   abbrev held : List ℕ
-  held = let a = c.before.before.before.before.args in take a.size a.held.now
+  held = let a = c.args in take a.size a.held.now
 
   abbrev bytes : List ℕ
-  bytes = c.before.before.before.before.args.bytes.now
+  bytes = c.args.bytes.now
 
   kind-is : c.read_header-kind.result.kind ≡ word bytes 2
   kind-is = ap (λ (h : Header). h.kind) c.read_header-kind.ensures.0
@@ -41,31 +41,25 @@ module _ (c : tie.After-read_header-kind) where
 described : (c : tie.After-is_description) → c.is_description.result ≡ is_description (word (bytes c.before) 2)
 described c = c.is_description.ensures ∙ ap is_description (kind-is c.before)
 
-past-1 : (c : tie.Else-is_description) → let h = c.before.before in responded (held h) (bytes h) ≡ past (held h) (bytes h)
+past-1 : (c : tie.Else-is_description) → responded (held c.before.before) (bytes c.before.before) ≡ past (held c.before.before) (bytes c.before.before)
 unfolding responded
-past-1 c = let h = c.before.before in ap (by-1 (held h) (bytes h)) (sym (described c.before) ∙ c.if-is_description.false)
+past-1 c = ap (by-1 (held c.before.before) (bytes c.before.before)) (sym (described c.before) ∙ c.if-is_description.false)
 
 returns : tie.Need-returns-then-is_description
 unfolding responded
 returns c =
-    let t = c.before.before.before.before.before.before.before in
-    let h = t.before.before in
-    answers_as c.before.before.before.before.respond_description.ensures _ (ap (by-1 (held h) (bytes h)) (sym t.if-is_description.true ∙ described t.before))
+    answers_as c.respond_description.ensures _ (ap (by-1 (held c.before.before.before.before.before.before.before.before.before) (bytes c.before.before.before.before.before.before.before.before.before)) (sym c.if-is_description.true ∙ described c.before.before.before.before.before.before.before.before))
 
 returns-2 : tie.Need-returns-then-kind-eq2
 returns-2 c =
-    let t = c.before.before.before.before.before in
-    let h = t.before.before.before in
-    answers_as (answers-line c.before.before.put_channel-end.ensures h.before.before.before.before.requires.size_most) _
-    (sym (past-1 t.before ∙ ap (by_2 (held h) (bytes h)) (eq-eqb _ _ (sym (kind-is h) ∙ t.if-kind-eq2.true))))
+    answers_as (answers-line c.put_channel-end.ensures c.requires.size_most) _
+    (sym (past-1 c.before.before.before.before.before ∙ ap (by_2 (held c.before.before.before.before.before.before.before) (bytes c.before.before.before.before.before.before.before)) (eq-eqb _ _ (sym (kind-is c.before.before.before.before.before.before.before) ∙ c.if-kind-eq2.true))))
 
 returns-3 : tie.Need-returns
 returns-3 c =
-    let e = c.before.before.before.before.before in
-    let h = e.before.before.before in
-    answers_as (answers-line c.before.before.put_line-end.ensures h.before.before.before.before.requires.size_most) _
-    (ap (λ (kind : ℕ). (skip_line kind, held h)) (kind-is h)
-    ∙ sym (past-1 e.before ∙ ap (by_2 (held h) (bytes h)) (ne_eqb _ _ (λ q. e.if-kind-eq2.false (kind-is h ∙ q)))))
+    answers_as (answers-line c.put_line-end.ensures c.requires.size_most) _
+    (ap (λ (kind : ℕ). (skip_line kind, held c.before.before.before.before.before.before.before.before.before)) (kind-is c.before.before.before.before.before.before.before.before.before)
+    ∙ sym (past-1 c.before.before.before.before.before.before.before ∙ ap (by_2 (held c.before.before.before.before.before.before.before.before.before) (bytes c.before.before.before.before.before.before.before.before.before)) (ne_eqb _ _ (λ q. c.if-kind-eq2.false (kind-is c.before.before.before.before.before.before.before.before.before ∙ q)))))
 
 pub respond_spec : {M : Type 1} → statement M
 respond_spec =
@@ -78,7 +72,7 @@ respond_spec =
     (λ c. search rules)
     returns
     (λ c. search rules)
-    (λ c. sym (length-take-le _ _ c.before.before.before.before.before.before.before.before.before.requires.size_most))
+    (λ c. sym (length-take-le _ _ c.requires.size_most))
     (λ c κs. search rules)
     (λ c. search rules)
     (λ c. search rules)

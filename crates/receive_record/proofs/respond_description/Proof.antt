@@ -48,24 +48,20 @@ unfolding description_response
 returns c =
     let kept = c.put_bytes.ensures in
     let line = c.put_code.ensures in
-    let a = c.before.before.before.before.before.before.before.before.before.before in
-    let s = a.before.before.before.before.before in
     record {
       line_fits = omega (arith, line.fits, length_put line);
       held_fits = omega (arith, kept.fits, length_put kept);
       answer_is = ap₂ (λ (x y : List ℕ). (x, y)) (take_put line) (take_put kept)
-          ∙ ap (λ (size : ℕ). (code_line size (code a).k (code a).r, d a)) (one_shl (code a).n 64 (omega (arith, (facts a).coded.n_most)))
-          ∙ ap (by (take s.args.size s.args.held.now) (d a)) (accepted a);
+          ∙ ap (λ (size : ℕ). (code_line size (code c.before).k (code c.before).r, d c.before)) (one_shl (code c.before).n 64 (omega (arith, (facts c.before).coded.n_most)))
+          ∙ ap (by (take c.args.size c.args.held.now) (d c.before)) (accepted c.before);
     }
 
 returns-2 : tie.Need-returns-in-Refused
 unfolding description_response
 returns-2 c =
-    let a = c.before.before.before.before in
-    let s = a.before.before.before.before.before in
-    let held = take s.args.size s.args.held.now in
-    answers_as (answers-line c.put_refusal.ensures s.requires.size_most) _
-    (ap (by held s.args.bytes.now) (sym a.in-Refused.is ∙ a.read_description.ensures))
+    let held = take c.args.size c.args.held.now in
+    answers_as (answers-line c.put_refusal.ensures c.requires.size_most) _
+    (ap (by held c.args.bytes.now) (sym c.in-Refused.is ∙ c.read_description.ensures))
 
 pub respond_description_spec : {M : Type 1} → statement M
 respond_description_spec =

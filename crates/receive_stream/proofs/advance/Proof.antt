@@ -38,29 +38,24 @@ respond-to-requires c κs =
 
 returns : tie.Need-returns-then-there-eq0
 returns c =
-    let a = c.before.before.before.before.before.before.before.before.before.before.before.before.before.before in
-    advance_end a.args.stream a.args.got a.args.bytes.now a.args.held.now a.args.output.now a.requires c.if-there-eq0.true c.finish.ensures
+    advance_end c.args.stream c.args.got c.args.bytes.now c.args.held.now c.args.output.now c.requires c.if-there-eq0.true c.finish.ensures
 
 returns-2 : tie.Need-returns-then-got-eq0
 returns-2 c =
-    let a = c.before.before.before.before.before.before.before.before.before.before.before.before.before.before.before in
-    advance_cut a.args.stream a.args.got a.args.bytes.now a.args.held.now a.args.output.now a.requires (says c.before.before.before.before.before.before.before _ c.in-Missing.is) c.if-got-eq0.true c.if-there-eq0.false c.cut-then-got-eq0.ensures
+    advance_cut c.args.stream c.args.got c.args.bytes.now c.args.held.now c.args.output.now c.requires (says c.before.before.before.before.before.before.before _ c.in-Missing.is) c.if-got-eq0.true c.if-there-eq0.false c.cut-then-got-eq0.ensures
 
 returns-3 : tie.Need-returns-in-Whole
 returns-3 c =
-    let a = c.before.before.before.before.before.before.before.before.before.before.before.before.before.before.before.before in
-    advance_whole a.args.stream a.args.got a.args.bytes.now a.args.held.now a.args.output.now a.requires (says c.before.before.before.before.before.before.before.before.before Whole c.in-Whole.is) c.respond_to.ensures
+    advance_whole c.args.stream c.args.got c.args.bytes.now c.args.held.now c.args.output.now c.requires (says c.before.before.before.before.before.before.before.before Whole c.in-Whole.is) c.respond_to.ensures
 
 returns-4 : tie.Need-returns-in-Short
 returns-4 c =
-    let a = c.before.before.before.before.before.before.before.before.before.before.before.before in
-    advance_short a.args.stream a.args.got a.args.bytes.now a.args.held.now a.args.output.now a.requires (says c.before.before.before.before.before Short c.in-Short.is) c.cut.ensures
+    advance_short c.args.stream c.args.got c.args.bytes.now c.args.held.now c.args.output.now c.requires (says c.before.before.before.before.before Short c.in-Short.is) c.cut.ensures
 
 returns-5 : tie.Need-returns-else-got-eq0
 returns-5 c =
-    let a = c.before.before.before.before.before.before.before.before.before.before.before.before in
     let told = c.missing-1.given in
-    advance_more a.args.stream a.args.got a.args.bytes.now a.args.held.now a.args.output.now a.requires (says c.before.before.before.before _ told.1) (fits c.before.before.before.before _ told.1) c.if-got-eq0.false
+    advance_more c.args.stream c.args.got c.args.bytes.now c.args.held.now c.args.output.now c.requires (says c.before.before.before.before _ told.1) (fits c.before.before.before.before _ told.1) c.if-got-eq0.false
 
 pub advance_spec : {M : Type 1} → statement M
 advance_spec =

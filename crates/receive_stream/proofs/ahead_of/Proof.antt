@@ -15,28 +15,26 @@ use Rattle.receive_stream.proofs.ahead_of.Tie as tie
 -- the record's length
 module _ (c : tie.After-read_header-size) where
   abbrev bytes : List ℕ
-  bytes = c.before.before.before.args.bytes.now
+  bytes = c.args.bytes.now
 
   size_is : c.read_header-size.result.length ≡ word bytes 0
   size_is = ap (λ (h : Header). h.length) c.read_header-size.ensures.0
 
 returns : tie.Need-returns-then-there-lt-HEADER
-returns c = (sym (ahead_few c.before.before.args.bytes.now c.if-there-lt-HEADER.true), omega arith)
+returns c = (sym (ahead_few c.args.bytes.now c.if-there-lt-HEADER.true), omega arith)
 
 returns-2 : tie.Need-returns-then-size-lt4
 returns-2 c = (sym (ahead_short (bytes c.before) (omega arith) (omega (arith, size_is c.before))), tt)
 
 returns-3 : tie.Need-returns-then-there-size
 returns-3 c =
-    let r = c.before.before in
-    let size = size_is r in
-    (ap (λ (n : ℕ). Missing (n - length (bytes r))) size ∙ sym (ahead_part (bytes r) (omega arith) (omega arith) (omega arith)), omega (arith, r.read_header-size.ensures.1))
+    let size = size_is c.before.before in
+    (ap (λ (n : ℕ). Missing (n - length (bytes c.before.before))) size ∙ sym (ahead_part (bytes c.before.before) (omega arith) (omega arith) (omega arith)), omega (arith, c.read_header-size.ensures.1))
 
 returns-4 : tie.Need-returns
 returns-4 c =
-    let r = c.before.before in
-    let size = size_is r in
-    (sym (ahead_whole (bytes r) (omega arith) (omega arith) (omega arith)), tt)
+    let size = size_is c.before.before in
+    (sym (ahead_whole (bytes c.before.before) (omega arith) (omega arith) (omega arith)), tt)
 
 pub ahead_of_spec : {M : Type 1} → statement M
 ahead_of_spec =

@@ -12,8 +12,8 @@ use Rattle.receive_stream.proofs.cut.Tie as tie
 
 returns : tie.Need-returns
 returns c =
-    let a = c.before.before.before.before.before.before.before.before.before.args in
-    let end = c.before.before.finish.ensures in
+    let a = c.args in
+    let end = c.finish.ensures in
     let text = end_line a.stream.count in
     record {
       there_is = end.there_is;
@@ -25,7 +25,7 @@ returns c =
       same_size = search rules;
       ready_most = end.ready_most;
       lines_are = end.lines_are
-          ∙ ap (λ (x : List ℕ). x ++ text) (put_behind a.output.now a.stream.waiting (length a.output.now - a.stream.waiting) (omega arith) c.before.before.before.before.before.before.put_cut-end.ensures)
+          ∙ ap (λ (x : List ℕ). x ++ text) (put_behind a.output.now a.stream.waiting (length a.output.now - a.stream.waiting) (omega arith) c.put_cut-end.ensures)
           ∙ append_assoc (take a.stream.waiting a.output.now) cut_line text;
     }
 

@@ -9,7 +9,7 @@ use Rattle.receive_stream.proofs.finish.Tie as tie
 
 returns : tie.Need-returns
 returns c =
-    let a = c.before.before.before.before.before.before.args in
+    let a = c.args in
     record {
       there_is = search rules;
       wanted_is = search rules;
@@ -19,7 +19,7 @@ returns c =
       waiting_is = search rules;
       same_size = search rules;
       ready_most = search rules;
-      lines_are = put_behind a.output.now a.stream.waiting (length a.output.now - a.stream.waiting) (omega arith) c.before.before.before.put_end-end.ensures;
+      lines_are = put_behind a.output.now a.stream.waiting (length a.output.now - a.stream.waiting) (omega arith) c.put_end-end.ensures;
     }
 
 pub finish_spec : {M : Type 1} → statement M

@@ -34,18 +34,15 @@ decode-by-requires c κs =
 
 returns : tie.Need-returns-in-Accepted
 returns c =
-    let m = c.before.before.before.before in
-    let a = m.before in
-    let x = (s a).args in
+    let x = (s c.before.before.before.before.before).args in
     c.decode_by.ensures
-    ∙ ap (λ (mask : List ℕ). decoded_under (sets x.search.w x.search.limit) x.search.restart mask (code a) x.channel.now x.output.now) m.mask_of.ensures
-    ∙ sym (under-code (sets x.search.w x.search.limit) x.search.restart x.description.now x.channel.now x.output.now (code a) (accepted a))
+    ∙ ap (λ (mask : List ℕ). decoded_under (sets x.search.w x.search.limit) x.search.restart mask (code c.before.before.before.before.before) x.channel.now x.output.now) c.mask_of.ensures
+    ∙ sym (under-code (sets x.search.w x.search.limit) x.search.restart x.description.now x.channel.now x.output.now (code c.before.before.before.before.before) (accepted c.before.before.before.before.before))
 
 returns-2 : tie.Need-returns-in-Refused
 returns-2 c =
-    let r = c.before in
-    let x = r.args in
-    sym (description_refused (sets x.search.w x.search.limit) x.search.restart x.description.now x.channel.now x.output.now _ (sym r.read_description.ensures ∙ c.in-Refused.is))
+    let x = c.args in
+    sym (description_refused (sets x.search.w x.search.limit) x.search.restart x.description.now x.channel.now x.output.now _ (sym c.read_description.ensures ∙ c.in-Refused.is))
 
 pub decode_spec : {M : Type 1} → statement M
 decode_spec =

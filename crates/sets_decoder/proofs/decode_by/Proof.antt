@@ -20,32 +20,29 @@ use Rattle.sets_decoder.proofs.decode_by.Tie as tie
 -- no refusal before 16 applies
 module _ (c : tie.In-Fine) where
   abbrev s : tie.Start
-  s = c.before.before.before.before.before.before.before.before
+  s = c.before.before.before.before.before.before
 
   abbrev p : Decoder
   p = sets s.args.search.w s.args.search.limit
 
   fine : judge (refusals_of p s.args.code s.args.channel.now s.args.output.now) ≡ Fine
-  fine = let j = c.before in sym (j.judge_call.ensures p j.judge_search-own.ensures) ∙ c.in-Fine.is
+  fine = sym (c.judge_call.ensures p c.judge_search-own.ensures) ∙ c.in-Fine.is
 
 returns : tie.Need-returns-in-Fine
 returns c =
-    let d = c.before.before in
-    let t = d.before.before in
-    let x = (s t).args in
+    let x = (s c.before.before.before.before).args in
     let v : List ℤ = channel_values x.channel.now in
-    d.decode_in.ensures
+    c.decode_in.ensures
     ∙ ap (λ (flips : List (List ℕ)). answer_of x.mask.now x.code x.output.now (run (trial_passes x.mask.now x.code) 0 0 (first_trial x.mask.now x.code v ∷ map (later_trial x.search.restart x.mask.now x.code v) flips)))
     (tried-by x.search x.mask.now x.code v)
-    ∙ sym (fine-answer (p t) x.search.restart x.mask.now x.code x.channel.now x.output.now (fine t))
+    ∙ sym (fine-answer (p c.before.before.before.before) x.search.restart x.mask.now x.code x.channel.now x.output.now (fine c.before.before.before.before))
 
 returns-2 : tie.Need-returns-in-Refused
 returns-2 c =
-    let j = c.before in
-    let x = j.args in
+    let x = c.args in
     let p : Decoder = sets x.search.w x.search.limit in
     sym (refused_answer p x.search.restart x.mask.now x.code x.channel.now x.output.now _
-    (sym (j.judge_call.ensures p j.judge_search-own.ensures) ∙ c.in-Refused.is))
+    (sym (c.judge_call.ensures p c.judge_search-own.ensures) ∙ c.in-Refused.is))
 
 -- what the run asks
 decode-in-requires : tie.Need-decode_in-requires

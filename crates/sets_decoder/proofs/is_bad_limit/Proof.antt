@@ -12,4 +12,4 @@ is_bad_limit_spec =
     (λ c. search rules)
     (λ c κs. search rules)
     (λ c κs. search rules)
-    (λ c. c.is_outside.ensures ∙ ap (outside c.before.before.before.args.search.limit 1) c.before.most_limit.ensures))
+    (λ c. c.is_outside.ensures ∙ ap (outside c.args.search.limit 1) c.most_limit.ensures))

@@ -19,5 +19,5 @@ most_limit_spec =
     (λ c. search rules)
     (λ c. search rules)
     (λ c. search rules)
-    (λ c. let t = c.before.before in sym (ap (chosen t.before.args.code) (eq-eqb _ _ t.if-w-eq1.true)))
-    (λ c. sym (ap (chosen c.before.args.code) (ne_eqb _ _ c.if-w-eq1.false))))
+    (λ c. sym (ap (chosen c.args.code) (eq-eqb _ _ c.if-w-eq1.true)))
+    (λ c. sym (ap (chosen c.args.code) (ne_eqb _ _ c.if-w-eq1.false))))

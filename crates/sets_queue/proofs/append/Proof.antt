@@ -13,20 +13,16 @@ use Rattle.sets_queue.proofs.append.Tie as tie
 
 returns : tie.Need-returns-then-mask_bit-eq0
 returns c =
-    let s = c.before.before.before.before in
-    let x = s.args in
+    let x = c.args in
     subst (λ (new : List ℕ). Inserted x.low x.count x.room x.count new x.keys.now x.keys.now)
-    (sym (keys_frozen x.mask.now x.leaves.now x.stem x.small x.j (sym c.before.mask_bit.ensures ∙ c.if-mask_bit-eq0.true))) (inserted-none s.requires.4)
+    (sym (keys_frozen x.mask.now x.leaves.now x.stem x.small x.j (sym c.mask_bit.ensures ∙ c.if-mask_bit-eq0.true))) (inserted-none c.requires.4)
 
 returns-2 : tie.Need-returns
 returns-2 c =
-    let i = c.before.before in
-    let k = i.before.before in
-    let b = k.before.before in
-    let x = b.before.before.before.args in
-    let one : mask_bit x.mask.now x.j ≡ 1 = omega (arith, k.before.if-mask_bit-eq0.false, b.mask_bit.ensures, mask_bit_lt x.mask.now x.j) in
-    subst (λ (new : List ℕ). Inserted x.low x.count x.room i.insert.result new x.keys.now i.insert.new.1.1.1.1.0)
-    (ap (λ (key : ℕ). key ∷ []) k.key_with.ensures ∙ sym (keys_one x.mask.now x.leaves.now x.stem x.small x.j one)) i.insert.ensures
+    let x = c.args in
+    let one : mask_bit x.mask.now x.j ≡ 1 = omega (arith, c.if-mask_bit-eq0.false, c.mask_bit.ensures, mask_bit_lt x.mask.now x.j) in
+    subst (λ (new : List ℕ). Inserted x.low x.count x.room c.insert.result new x.keys.now c.insert.new.keys)
+    (ap (λ (key : ℕ). key ∷ []) c.key_with.ensures ∙ sym (keys_one x.mask.now x.leaves.now x.stem x.small x.j one)) c.insert.ensures
 
 pub append_spec : {M : Type 1} → statement M
 append_spec =

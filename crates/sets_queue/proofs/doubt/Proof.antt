@@ -14,24 +14,22 @@ module _ (c : tie.Else-mask_bit-eq0) where
   s = c.before.before.before
 
   one : mask_bit s.args.mask.now s.args.j ≡ 1
-  one = omega (arith, c.if-mask_bit-eq0.false, c.before.mask_bit.ensures, mask_bit_lt s.args.mask.now s.args.j)
+  one = omega (arith, c.if-mask_bit-eq0.false, c.mask_bit.ensures, mask_bit_lt s.args.mask.now s.args.j)
 
 returns : tie.Need-returns-then-mask_bit-eq0
 returns c =
-    let a = c.before.before.before.args in
-    sym (doubt-frozen a.mask.now a.leaves.now a.j (sym c.before.mask_bit.ensures ∙ c.if-mask_bit-eq0.true))
+    let a = c.args in
+    sym (doubt-frozen a.mask.now a.leaves.now a.j (sym c.mask_bit.ensures ∙ c.if-mask_bit-eq0.true))
 
 returns-2 : tie.Need-returns-then-magnitude_at-le20
 returns-2 c =
-    let e = c.before.before in
-    let a = (s e).args in
-    sym (doubt-low a.mask.now a.leaves.now a.j (one e) (omega (arith, c.before.magnitude_at.ensures, c.if-magnitude_at-le20.true)))
+    let a = (s c.before.before).args in
+    sym (doubt-low a.mask.now a.leaves.now a.j (one c.before.before) (omega (arith, c.magnitude_at.ensures, c.if-magnitude_at-le20.true)))
 
 returns-3 : tie.Need-returns
 returns-3 c =
-    let e = c.before.before in
-    let a = (s e).args in
-    sym (doubt_high a.mask.now a.leaves.now a.j (one e) (omega (arith, c.before.magnitude_at.ensures, c.if-magnitude_at-le20.false)))
+    let a = (s c.before.before).args in
+    sym (doubt_high a.mask.now a.leaves.now a.j (one c.before.before) (omega (arith, c.magnitude_at.ensures, c.if-magnitude_at-le20.false)))
 
 pub doubt_spec : {M : Type 1} → statement M
 doubt_spec =

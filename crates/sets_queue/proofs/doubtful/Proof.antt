@@ -37,10 +37,10 @@ doubtful_spec =
     decreases-loop
     (λ c. (omega arith, sym (doubtful-none _ _)))
     (λ c κs. let p = c.before.before.before.requires in (p.0, omega (arith, c.loop-j-test.true, p.1)))
-    (λ c. omega (arith, few c, c.before.loop-j-test.true, (s c).requires.0.fits, (s c).requires.1))
+    (λ c. omega (arith, few c, c.loop-j-test.true, (s c).requires.0.fits, (s c).requires.1))
     (λ c. search rules)
     (λ c. search rules)
-    (λ c. (omega (arith, c.before.loop-j-test.true), more c))
+    (λ c. (omega (arith, c.loop-j-test.true), more c))
     (λ c.
     let l = c.before in
     let s = l.before.before in

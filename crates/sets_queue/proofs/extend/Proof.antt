@@ -49,15 +49,14 @@ module _ (c : tie.After-stem_of-stem invariant-loop decreases-loop) where
 
 loop-holds : tie.Need-loop-j-init invariant-loop decreases-loop
 loop-holds c =
-    let t = c.before in
-    let from : ℕ = t.stem_of-stem.result.from in
-    let none = extensions-none (mask t) (leaves t) (set t) from (omega (arith, from_is t)) in (
-      omega (arith, from_is t),
-      omega (arith, from_is t, (s t).requires.1.past),
+    let from : ℕ = c.stem_of-stem.result.from in
+    let none = extensions-none (mask c.before) (leaves c.before) (set c.before) from (omega (arith, from_is c.before)) in (
+      omega (arith, from_is c.before),
+      omega (arith, from_is c.before, (s c.before).requires.1.past),
       c.doubtful-small.ensures,
       refl,
-      subst (λ (new : List ℕ). Inserted (s t).args.low (s t).args.count (s t).args.room (s t).args.count new (s t).args.keys.now (s t).args.keys.now)
-          (ap (map set_key) (sym none)) (inserted-none (s t).requires.2),
+      subst (λ (new : List ℕ). Inserted (s c.before).args.low (s c.before).args.count (s c.before).args.room (s c.before).args.count new (s c.before).args.keys.now (s c.before).args.keys.now)
+          (ap (map set_key) (sym none)) (inserted-none (s c.before).requires.2),
     )
 
 -- one index more is counted
@@ -72,32 +71,28 @@ module _ (c : tie.After-doubt-small invariant-loop decreases-loop) where
   more = ap₂ ◌+◌ l.loop-j.invariant.2 c.doubt-small.ensures ∙ sym (doubtful-more (mask t) (leaves t) l.loop-j.j)
 
   few : l.loop-j.small + c.doubt-small.result ≤ longest
-  few = omega (arith, more, doubtful-most (mask t) (leaves t) (l.loop-j.j + 1), c.before.loop-j-test.true, (s t).requires.0.fits)
+  few = omega (arith, more, doubtful-most (mask t) (leaves t) (l.loop-j.j + 1), c.loop-j-test.true, (s t).requires.0.fits)
 
 loop-again : tie.Need-loop-j-preserved invariant-loop decreases-loop
 loop-again c =
-    let r = c.before.before in
-    let d = r.before.before in
-    let i = (l d).loop-j.invariant in
-    let p = t d in
-    let keys-are = ap (λ (x : Stem). keys_with (mask p) (leaves p) x ((l d).loop-j.small + d.doubt-small.result) (l d).loop-j.j) p.stem_of-stem.ensures in (
+    let i = (l c.before.before.before.before).loop-j.invariant in
+    let p = t c.before.before.before.before in
+    let keys-are = ap (λ (x : Stem). keys_with (mask p) (leaves p) x ((l c.before.before.before.before).loop-j.small + c.doubt-small.result) (l c.before.before.before.before).loop-j.j) p.stem_of-stem.ensures in (
       omega (arith, i.0),
-      omega (arith, d.before.loop-j-test.true),
-      more d,
-      r.append-end.auto.1.1.1.1.1.1.1.1.0 ∙ i.3,
-      subst (λ (new : List ℕ). Inserted (s p).args.low (s p).args.count (s p).args.room r.append-end.result new (s p).args.keys.now r.append-end.new.1.1.1.1.1.1.1.1.0)
-          (ap (λ (xs : List ℕ). map set_key (extensions (mask p) (leaves p) (set p) (l d).loop-j.j) ++ xs) keys-are
-          ∙ sym (extension_keys (mask p) (leaves p) (set p) (l d).loop-j.j ((l d).loop-j.small + d.doubt-small.result) (s p).requires.1.few i.0 (more d)))
-          (inserted-more i.4 r.append-end.ensures),
+      omega (arith, c.loop-j-test.true),
+      more c.before.before.before.before,
+      c.append-end.auto.keys ∙ i.3,
+      subst (λ (new : List ℕ). Inserted (s p).args.low (s p).args.count (s p).args.room c.append-end.result new (s p).args.keys.now c.append-end.new.keys)
+          (ap (λ (xs : List ℕ). map set_key (extensions (mask p) (leaves p) (set p) (l c.before.before.before.before).loop-j.j) ++ xs) keys-are
+          ∙ sym (extension_keys (mask p) (leaves p) (set p) (l c.before.before.before.before).loop-j.j ((l c.before.before.before.before).loop-j.small + c.doubt-small.result) (s p).requires.1.few i.0 (more c.before.before.before.before)))
+          (inserted-more i.4 c.append-end.ensures),
     )
 
 returns : tie.Need-returns invariant-loop decreases-loop
 returns c =
-    let k = c.before in
-    let p = k.before.before in
-    let i = k.loop-j.invariant in
-    let e : k.loop-j.j ≡ 8 * length (mask p) = omega (arith, i.1, c.loop-j-test.false) in
-    subst (λ (n : ℕ). Inserted (s p).args.low (s p).args.count (s p).args.room k.loop-j.end (map set_key (extensions (mask p) (leaves p) (set p) n)) (s p).args.keys.now k.loop-j.keys) e i.4
+    let i = c.loop-j.invariant in
+    let e : c.loop-j.j ≡ 8 * length (mask c.before.before.before) = omega (arith, i.1, c.loop-j-test.false) in
+    subst (λ (n : ℕ). Inserted (s c.before.before.before).args.low (s c.before.before.before).args.count (s c.before.before.before).args.room c.loop-j.end (map set_key (extensions (mask c.before.before.before) (leaves c.before.before.before) (set c.before.before.before) n)) (s c.before.before.before).args.keys.now c.loop-j.keys) e i.4
 
 pub extend_spec : {M : Type 1} → statement M
 extend_spec =
@@ -119,5 +114,5 @@ extend_spec =
     (λ c. search rules)
     (λ c. search rules)
     loop-again
-    (λ c. c.before.loop-j.invariant.3)
+    (λ c. c.loop-j.invariant.3)
     returns)

@@ -12,41 +12,38 @@ use Rattle.sets_queue.proofs.insert.Tie as tie
 
 returns : tie.Need-returns-then-at-room
 returns c =
-    let s = c.before.before.before.before in
-    record { places = s.requires; holds = λ ks pool. pool_full pool c.before.place_of-at.ensures s.requires c.if-at-room.true }
+    record { places = c.requires; holds = λ ks pool. pool_full pool c.place_of-at.ensures c.requires c.if-at-room.true }
 
 -- there is room for it
 module _ (c : tie.Else-at-room) where
   abbrev s : tie.Start
-  s = c.before.before.before.before
+  s = c.before.before.before
 
   abbrev at : ℕ
-  at = c.before.place_of-at.result
+  at = c.place_of-at.result
 
   below : at < s.args.room
-  below = omega (arith, c.if-at-room.false, c.before.place_of-at.ensures.most, s.requires.count_most)
+  below = omega (arith, c.if-at-room.false, c.place_of-at.ensures.most, s.requires.count_most)
 
 shift-requires : tie.Need-shift-requires
 shift-requires c κs =
     let e = c.before.before in
-    let l = c.before.min.ensures in
-    (omega (arith, l, below e, e.before.place_of-at.ensures.most), omega (arith, l, below e, (s e).requires.room_most))
+    let l = c.min.ensures in
+    (omega (arith, l, below e, e.place_of-at.ensures.most), omega (arith, l, below e, (s e).requires.room_most))
 
 returns-2 : tie.Need-returns
 returns-2 c =
-    let h = c.before.before.before in
-    let e = h.before.before.before in
-    let x = (s e).args in
-    let shifted : Shifted (at e) (min x.count (x.room - 1)) x.keys.now h.shift.new.1.1.0 =
-    subst (λ (k : ℕ). Shifted (at e) k x.keys.now h.shift.new.1.1.0) h.before.before.min.ensures h.shift.ensures in
-    subst (λ (r : ℕ). Inserted x.low x.count x.room r (x.key ∷ []) x.keys.now (set h.shift.new.1.1.0 (at e) x.key)) (sym c.min-2.ensures)
+    let x = (s c.before.before.before.before.before.before).args in
+    let shifted : Shifted (at c.before.before.before.before.before.before) (min x.count (x.room - 1)) x.keys.now c.shift.new.keys =
+    subst (λ (k : ℕ). Shifted (at c.before.before.before.before.before.before) k x.keys.now c.shift.new.keys) c.min.ensures c.shift.ensures in
+    subst (λ (r : ℕ). Inserted x.low x.count x.room r (x.key ∷ []) x.keys.now (set c.shift.new.keys (at c.before.before.before.before.before.before) x.key)) (sym c.min-2.ensures)
     (record {
       places = record {
-        low_most = omega (arith, (s e).requires.low_most, (s e).requires.count_most, below e, e.before.place_of-at.ensures.least);
+        low_most = omega (arith, (s c.before.before.before.before.before.before).requires.low_most, (s c.before.before.before.before.before.before).requires.count_most, below c.before.before.before.before.before.before, c.place_of-at.ensures.least);
         count_most = omega arith;
-        room_most = omega (arith, length-set h.shift.new.1.1.0 (at e) x.key, shifted.whole, (s e).requires.room_most);
+        room_most = omega (arith, length-set c.shift.new.keys (at c.before.before.before.before.before.before) x.key, shifted.whole, (s c.before.before.before.before.before.before).requires.room_most);
       };
-      holds = λ ks pool. pool_put pool e.before.place_of-at.ensures (s e).requires (below e) shifted;
+      holds = λ ks pool. pool_put pool c.place_of-at.ensures (s c.before.before.before.before.before.before).requires (below c.before.before.before.before.before.before) shifted;
     })
 
 pub insert_spec : {M : Type 1} → statement M

@@ -24,7 +24,7 @@ key_with_spec =
     (λ c. search rules)
     (λ c. search rules)
     (λ c. omega (arith, product c.before.before.before))
-    (λ c. let s = c.before.before.before.before in omega (arith, product s, s.requires.2.digits_most))
+    (λ c. omega (arith, product c.before.before.before.before, c.requires.2.digits_most))
     (λ c.
     let m = c.before.before.before in
     let s = m.before in

@@ -14,10 +14,9 @@ use Rattle.sets_queue.proofs.magnitude_at.Tie as tie
 leaf-back : (s : tie.Start) → back w32 (get_or s.args.leaves.now s.args.j (pos 0)) ≡ get_or s.args.leaves.now s.args.j (pos 0)
 leaf-back s = back-small w32 _ s.requires.1
 
-magnitude-back : (c : tie.After-magnitude) → back w32 c.magnitude.result ≡ pos (magnitude_at c.before.before.args.leaves.now c.before.before.args.j)
+magnitude-back : (c : tie.After-magnitude) → back w32 c.magnitude.result ≡ pos (magnitude_at c.args.leaves.now c.args.j)
 magnitude-back c =
-    let s = c.before.before in
-    back_is w32 c.magnitude.result (record { sfits = c.magnitude.type-inv }) ∙ c.magnitude.ensures ∙ ap (λ (z : ℤ). pos (nat_abs z)) (leaf-back s)
+    back_is w32 c.magnitude.result (record { sfits = c.magnitude.type-inv }) ∙ c.magnitude.ensures ∙ ap (λ (z : ℤ). pos (nat_abs z)) (leaf-back c.before.before)
 
 pub magnitude_at_spec : {M : Type 1} → statement M
 magnitude_at_spec =
@@ -26,5 +25,5 @@ magnitude_at_spec =
     (λ c. search rules)
     (λ c. search rules)
     (λ c κs. search rules)
-    (λ c. cast_nat w64 _ _ (magnitude-back c) (omega (arith, c.before.before.requires.1)))
+    (λ c. cast_nat w64 _ _ (magnitude-back c) (omega (arith, c.requires.1)))
     (λ c. ap nat_abs (magnitude-back c)))

@@ -14,17 +14,17 @@ decreases-loop key low end keys j₀ j = j - low
 
 returns : tie.Need-returns-then-keys-j invariant-loop decreases-loop
 returns c =
-    let i = c.before.before.before.loop-j.invariant in
+    let i = c.loop-j.invariant in
     record { least = i.0; most = i.1; past = λ _. c.if-keys-j.true; above = i.2.at }
 
 loop-again : tie.Need-loop-j-preserved invariant-loop decreases-loop
 loop-again c =
-    let i = c.before.before.before.loop-j.invariant in
-    (omega (arith, c.before.before.loop-j-test.true), omega (arith, i.1), above_more i.2 c.if-keys-j.false)
+    let i = c.loop-j.invariant in
+    (omega (arith, c.loop-j-test.true), omega (arith, i.1), above_more i.2 c.if-keys-j.false)
 
 returns-2 : tie.Need-returns invariant-loop decreases-loop
 returns-2 c =
-    let i = c.before.loop-j.invariant in
+    let i = c.loop-j.invariant in
     record { least = i.0; most = i.1; past = λ l. absurd (omega (arith, c.loop-j-test.false)); above = i.2.at }
 
 pub place_of_spec : {M : Type 1} → statement M
@@ -38,7 +38,7 @@ place_of_spec =
     (λ c. search rules)
     (λ c. search rules)
     returns
-    (λ c. omega (arith, c.before.before.loop-j-test.true))
+    (λ c. omega (arith, c.loop-j-test.true))
     (λ c. search rules)
     loop-again
     returns-2)

@@ -14,9 +14,7 @@ decreases-loop at end keys₀ j₀ keys j = j - at
 
 loop-again : tie.Need-loop-j-preserved invariant-loop decreases-loop
 loop-again c =
-    let l = c.before.before in
-    let s = l.before in
-    shift_more l.loop-j.invariant c.before.loop-j-test.true (omega (arith, l.loop-j.invariant.most, s.requires.1))
+    shift_more c.loop-j.invariant c.loop-j-test.true (omega (arith, c.loop-j.invariant.most, c.requires.1))
 
 pub shift_spec : {M : Type 1} → statement M
 shift_spec =
@@ -26,12 +24,12 @@ shift_spec =
     decreases-loop
     (λ c. shift_none _ _ _ c.requires.0)
     (λ c. omega (arith, c.loop-j-test.true))
-    (λ c. omega (arith, c.before.loop-j.invariant.most, c.before.before.requires.1))
+    (λ c. omega (arith, c.loop-j.invariant.most, c.requires.1))
     (λ c. search rules)
     (λ c. search rules)
     (λ c. search rules)
-    (λ c. omega (arith, c.before.loop-j-test.true))
+    (λ c. omega (arith, c.loop-j-test.true))
     (λ c. search rules)
     loop-again
-    (λ c. c.before.loop-j.invariant.whole)
-    (λ c. shift_done c.before.loop-j.invariant c.loop-j-test.false))
+    (λ c. c.loop-j.invariant.whole)
+    (λ c. shift_done c.loop-j.invariant c.loop-j-test.false))

@@ -27,19 +27,19 @@ module _ (c : tie.After-stem_with-one) where
   one = c.stem_with-one.ensures
 
   some : 0 < length set
-  some = omega (arith, c.before.before.if-set-eq0.false)
+  some = omega (arith, c.if-set-eq0.false)
 
 stem-with-requires : tie.Need-stem_with-one-requires
 stem-with-requires c κs =
     let s = c.before.before.before in
-    let l : 0 < length s.args.set.now = omega (arith, c.before.if-set-eq0.false) in
+    let l : 0 < length s.args.set.now = omega (arith, c.if-set-eq0.false) in
     (s.requires.below 0 l, s.requires.small 0 l, omega arith, omega arith, omega arith)
 
 stem-with-requires-2 : tie.Need-stem_with-requires
 stem-with-requires-2 c κs =
     let a = c.before.before in
     let p = (s a).requires in
-    let l : 1 < length (set a) = omega (arith, some a, c.before.if-set-eq1.false) in
+    let l : 1 < length (set a) = omega (arith, some a, c.if-set-eq1.false) in
     let i = p.below 0 (some a) in (
       p.below 1 l,
       p.small 1 l,
@@ -50,16 +50,15 @@ stem-with-requires-2 c κs =
 
 returns-3 : tie.Need-returns
 returns-3 c =
-    let a = c.before.before.before in
-    let two : length (set a) ≡ 2 = omega (arith, some a, c.before.before.if-set-eq1.false, (s a).requires.few) in
-    c.stem_with.ensures ∙ ap (λ (x : Stem). stem_with (leaves a) x (get_or (set a) 1 0)) (one a) ∙ sym (stem_two (leaves a) (set a) two)
+    let two : length (set c.before.before.before) ≡ 2 = omega (arith, some c.before.before.before, c.if-set-eq1.false, (s c.before.before.before).requires.few) in
+    c.stem_with.ensures ∙ ap (λ (x : Stem). stem_with (leaves c.before.before.before) x (get_or (set c.before.before.before) 1 0)) (one c.before.before.before) ∙ sym (stem_two (leaves c.before.before.before) (set c.before.before.before) two)
 
 pub stem_of_spec : {M : Type 1} → statement M
 stem_of_spec =
     tie.close
     (tie.spec
     (λ c. search rules)
-    (λ c. let s = c.before.before in sym (stem-none s.args.leaves.now s.args.set.now c.if-set-eq0.true))
+    (λ c. sym (stem-none c.args.leaves.now c.args.set.now c.if-set-eq0.true))
     (λ c. search rules)
     stem-with-requires
     (λ c. one c.before ∙ sym (stem_one (leaves c.before) (set c.before) c.if-set-eq1.true))

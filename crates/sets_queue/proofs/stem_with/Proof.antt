@@ -15,11 +15,10 @@ product s = let l : s.args.i + 1 ≤ longest = omega (arith, s.requires.0) in mu
 
 returns : tie.Need-returns
 returns c =
-    let m = c.before.before.before.before in
-    let a = m.before.args in
+    let a = c.args in
     ap {B = Stem}
     (λ (x : ℕ). record { sum = a.stem.sum + x; digits = a.stem.digits + (a.i + 1) * a.stem.weight; weight = a.stem.weight / base; from = a.i + 1 })
-    m.magnitude_at.ensures
+    c.magnitude_at.ensures
 
 pub stem_with_spec : {M : Type 1} → statement M
 stem_with_spec =
@@ -29,6 +28,6 @@ stem_with_spec =
     (λ c. search rules)
     (λ c. search rules)
     (λ c. omega (arith, product c.before.before.before))
-    (λ c. let s = c.before.before.before.before in omega (arith, product s, s.requires.3))
+    (λ c. omega (arith, product c.before.before.before.before, c.requires.3))
     (λ c. search rules)
     returns)

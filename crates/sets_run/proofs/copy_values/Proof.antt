@@ -23,22 +23,20 @@ decreases-loop source target₀ count j₀ target j = count - j
 
 loop-again : tie.Need-loop-j-preserved invariant-loop decreases-loop
 loop-again c =
-    let s = c.before.before.before in
-    let l = c.before.before.loop-j in
-    let here = c.before.loop-j-test.true in
-    let source = s.args.source.now in
+    let l = c.loop-j in
+    let here = c.loop-j-test.true in
+    let source = c.args.source.now in
     filling_more l.invariant _ _ here (omega arith)
-    (back-small w32 (get_or source l.j (pos 0)) (omega (arith, s.requires.2.at l.j here)) ∙ sym (get_or-take s.args.count source l.j (pos 0) here))
+    (back-small w32 (get_or source l.j (pos 0)) (omega (arith, c.requires.2.at l.j here)) ∙ sym (get_or-take c.args.count source l.j (pos 0) here))
 
 returns : tie.Need-returns invariant-loop decreases-loop
 returns c =
-    let s = c.before.before in
-    let source = s.args.source.now in
-    let count = s.args.count in
-    let long = length-take-le count source (omega (arith, s.requires)) in
-    filling_done c.before.loop-j.invariant (omega arith) (omega (arith, s.requires))
-    ∙ ap (λ (n : ℕ). splice s.args.target.now 0 (table (λ i. get_or (take count source) i (pos 0)) n)) (sym long)
-    ∙ ap (splice s.args.target.now 0) (table-get_or (take count source) (pos 0))
+    let source = c.args.source.now in
+    let count = c.args.count in
+    let long = length-take-le count source (omega (arith, c.requires)) in
+    filling_done c.loop-j.invariant (omega arith) (omega (arith, c.requires))
+    ∙ ap (λ (n : ℕ). splice c.args.target.now 0 (table (λ i. get_or (take count source) i (pos 0)) n)) (sym long)
+    ∙ ap (splice c.args.target.now 0) (table-get_or (take count source) (pos 0))
 
 pub copy_values_spec : {M : Type 1} → statement M
 copy_values_spec =
@@ -48,11 +46,11 @@ copy_values_spec =
     decreases-loop
     (λ c. filling_none)
     (λ c. search rules)
-    (λ c. omega (arith, c.loop-j-test.true, c.before.before.requires.0))
+    (λ c. omega (arith, c.loop-j-test.true, c.requires.0))
     (λ c. search rules)
-    (λ c. omega (arith, c.before.loop-j-test.true, c.before.before.before.requires.0))
+    (λ c. omega (arith, c.loop-j-test.true, c.requires.0))
     (λ c. search rules)
     (λ c. search rules)
     loop-again
-    (λ c. c.before.loop-j.invariant.same)
+    (λ c. c.loop-j.invariant.same)
     returns)

@@ -16,7 +16,7 @@ use Rattle.sets_run.proofs.decode_in.Tie as tie
 
 run-trials-requires : tie.Need-run_trials-ended-requires
 run-trials-requires c κs =
-    (c.before.before.before.before.before.before.before.before.requires.sets, refl, record { work = refl; bits = refl; sums = refl; leaves = refl })
+    (c.requires.sets, refl, record { work = refl; bits = refl; sums = refl; leaves = refl })
 
 -- the run
 module _ (c : tie.After-run_trials-ended) where
@@ -24,7 +24,7 @@ module _ (c : tie.After-run_trials-ended) where
   s = c.before.before.before.before.before.before.before.before.before
 
   abbrev message : List ℕ
-  message = c.run_trials-ended.new.1.1.1.1.1.1.1.1.0
+  message = c.run_trials-ended.new.sums
 
   abbrev verdict : Verdict
   verdict = verdict_by s.args.search s.args.mask.now s.args.code s.args.channel.now
@@ -44,10 +44,8 @@ answer-requires c κs =
 
 returns : tie.Need-returns
 returns c =
-    let a = c.before.before in
-    let r = a.before.before.before in
-    let x = (s r).args in
-    a.answer.ensures ∙ ran_answers x.mask.now x.code x.output.now (verdict r) r.run_trials-ended.result (message r) (ran r)
+    let x = (s c.before.before.before.before.before).args in
+    c.answer.ensures ∙ ran_answers x.mask.now x.code x.output.now (verdict c.before.before.before.before.before) c.run_trials-ended.result (message c.before.before.before.before.before) (ran c.before.before.before.before.before)
 
 pub decode_in_spec : {M : Type 1} → statement M
 decode_in_spec =

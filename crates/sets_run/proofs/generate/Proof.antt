@@ -17,8 +17,7 @@ use Rattle.sets_run.proofs.generate.Tie as tie
 
 returns : tie.Need-returns-then-search-flips
 returns c =
-    let s = c.before.before.before.before.before in
-    rw (le-ltb _ _ c.if-search-flips.true) (inserted-none s.requires.3)
+    rw (le-ltb _ _ c.if-search-flips.true) (inserted-none c.requires.3)
 
 -- the set is not the largest
 module _ (c : tie.Else-search-flips) where
@@ -57,14 +56,14 @@ module _ (c : tie.After-copy_values) where
   abbrev r : tie.Else-search-flips
   r = c.before.before
 
-  held : c.copy_values.new.1.0 ≡ leaves_from (s r).args.q (values r) (leaves r)
+  held : c.copy_values.new.target ≡ leaves_from (s r).args.q (values r) (leaves r)
   held = c.copy_values.ensures
 
-  small : Small (size r) c.copy_values.new.1.0
+  small : Small (size r) c.copy_values.new.target
   small = subst (Small (size r)) (sym held) (there r).small
 
-  same-room : length c.copy_values.new.1.0 ≡ length (leaves r)
-  same-room = c.copy_values.auto.1.0
+  same-room : length c.copy_values.new.target ≡ length (leaves r)
+  same-room = c.copy_values.auto.target
 
 extend-requires : tie.Need-extend-requires
 extend-requires c κs =
@@ -77,9 +76,7 @@ extend-requires c κs =
 
 returns-2 : tie.Need-returns
 returns-2 c =
-    let w = c.before.before in
-    let k = w.before.before.before.before.before in
-    rw (lt-ltb _ _ (more (r k)), ← held k) w.extend.ensures
+    rw (lt-ltb _ _ (more (r c.before)), ← held c.before.before.before.before.before.before) c.extend.ensures
 
 pub generate_spec : {M : Type 1} → statement M
 generate_spec =
@@ -89,7 +86,7 @@ generate_spec =
     returns
     copy-values-requires
     (λ c. search rules)
-    (λ c. let k = c.before.before in omega (arith, (s (r k)).requires.2.limit_least))
+    (λ c. omega (arith, (s (r c.before)).requires.2.limit_least))
     extend-requires
     (λ c. search rules)
     (λ c. search rules)

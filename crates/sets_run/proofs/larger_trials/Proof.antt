@@ -19,7 +19,7 @@ extend-requires c κs =
 set-trials-requires : tie.Need-set_trials-requires
 set-trials-requires c κs =
     let e = c.before.before.before.before.before.before.before in
-    let p = e.before.before.before.before.before.before.before.requires in
+    let p = e.requires in
     (p.0, p.1.later, (λ _. p.1.leaves), first_pool p.0 p.1.leaves e.extend-sets.ensures, record { work = p.1.whole.work; bits = p.1.whole.bits; sums = p.1.whole.sums; leaves = refl })
 
 pub larger_trials_spec : {M : Type 1} → statement M

@@ -18,12 +18,10 @@ begin-requires c κs =
 
 returns : tie.Need-returns-then-search-eq1
 returns c =
-    let t = c.before.before in
-    let b = t.before in
-    let x = b.args in
-    let made = t.trials-1.given.0 in
-    let e = subst (BeginPost _ _ _ _ _ _) t.in-Failed.is b.begin.ensures in (
-      subst (λ (w : Verdict). Ran x.mask.now x.code w (Failed made.0 made.1.0) b.begin.new.1.1.1.1.1.1.1.0)
+    let x = c.args in
+    let made = c.trials-1.given.0 in
+    let e = subst (BeginPost _ _ _ _ _ _) c.in-Failed.is c.begin.ensures in (
+      subst (λ (w : Verdict). Ran x.mask.now x.code w (Failed made.0 made.1.0) c.begin.new.sums)
           (sym (e.1.later.goes_on _ ∙ none_allowed x.search x.mask.now x.code (channel_values x.channel.now) made.1.0 c.if-search-eq1.true))
           (ap (λ (m : ℕ). Failed m made.1.0) e.0),
       e.1.whole.sums,
@@ -49,8 +47,7 @@ larger-trials-requires c κs =
 
 returns-3 : tie.Need-returns-in-Passed
 returns-3 c =
-    let t = c in
-    let e = subst (BeginPost _ _ _ _ _ _) t.in-Passed.is t.begin.ensures in
+    let e = subst (BeginPost _ _ _ _ _ _) c.in-Passed.is c.begin.ensures in
     e _
 
 pub run_trials_spec : {M : Type 1} → statement M

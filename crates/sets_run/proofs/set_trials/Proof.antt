@@ -46,7 +46,7 @@ decreases-loop search mask code channel first values rules₀ work₀ sums₀ le
 
 loop-holds : tie.Need-loop-at-init invariant-loop decreases-loop
 loop-holds c =
-    let p = c.before.before.before.requires in
+    let p = c.requires in
     ((_, search_starts (steps_fit p.0.frame.coded.n_most p.1.start_most) p.3), p.1.plain, record { work = p.4.work; bits = refl; sums = p.4.sums; leaves = p.4.leaves }, refl)
 
 -- at the loop's head
@@ -96,7 +96,7 @@ module _ (c : tie.After-indices_of-size invariant-loop decreases-loop) where
   h = l i
 
   abbrev set : List ℕ
-  set = take c.indices_of-size.result c.indices_of-size.new.1.0
+  set = take c.indices_of-size.result c.indices_of-size.new.set
 
   size_is : c.indices_of-size.result ≡ length set
   size_is = c.indices_of-size.ensures.1 ∙ ap length (sym c.indices_of-size.ensures.0)
@@ -107,12 +107,12 @@ module _ (c : tie.After-indices_of-size invariant-loop decreases-loop) where
   set-flips : Flips (mask h) (code_length (s h).args.code) set
   set-flips = (next_flips (s h).requires.0 (next i).2 set_is).flips
 
-  room : c.indices_of-size.result ≤ length c.indices_of-size.new.1.0
-  room = omega (arith, size_is, length-take c.indices_of-size.result c.indices_of-size.new.1.0)
+  room : c.indices_of-size.result ≤ length c.indices_of-size.new.set
+  room = omega (arith, size_is, length-take c.indices_of-size.result c.indices_of-size.new.set)
 
   -- its lowest index is the first
-  low-is : get_or c.indices_of-size.new.1.0 0 0 ≡ get_or set 0 0
-  low-is = sym (get_or-take c.indices_of-size.result c.indices_of-size.new.1.0 0 0 (omega (arith, size_is, set-flips.some)))
+  low-is : get_or c.indices_of-size.new.set 0 0 ≡ get_or set 0 0
+  low-is = sym (get_or-take c.indices_of-size.result c.indices_of-size.new.set 0 0 (omega (arith, size_is, set-flips.some)))
 
 restart-index-requires : tie.Need-restart_index-q-requires invariant-loop decreases-loop
 restart-index-requires c κs =
@@ -181,19 +181,18 @@ module _ (c : tie.After-trial_passes invariant-loop decreases-loop) where
   ok-is = c.trial_passes.ensures.0 ∙ ap (trial_passes (mask (a k)) (s (a k)).args.code) (made-is k).bits
 
   -- the message stands in the place of the sums
-  same-room : length c.trial_passes.new.1.1.1.0 ≡ longest
-  same-room = c.trial_passes.auto.1.1.1.0 ∙ (made-is k).whole.sums
+  same-room : length c.trial_passes.new.message ≡ longest
+  same-room = c.trial_passes.auto.message ∙ (made-is k).whole.sums
 
 returns : tie.Need-returns-then-trial_passes invariant-loop decreases-loop
 returns c =
-    let p = c.before in
-    let t = k p in
+    let t = k c.before in
     let b = a t in
     let on = (s b).requires in (
-      subst (λ (w : Verdict). Ran (mask b) (s b).args.code w (Passed (b.loop-at.at + 1 + 1) (b.loop-at.steps + t.later_trial-done.result.steps)) p.trial_passes.new.1.1.1.0)
-          (sym (on.1.goes_on _ ∙ search_passes on.0 (next (i (j (r t)))).2 (set_is (j (r t))) (took t) (sym (ok-is p) ∙ c.if-trial_passes.true)))
-          (ran_passed on.0.frame.coded _ _ (made-is t).bits p.trial_passes.ensures.1 (later-bits (mask b) (s b).args.code (v b) (is t) (q t))),
-      same-room p,
+      subst (λ (w : Verdict). Ran (mask b) (s b).args.code w (Passed (b.loop-at.at + 1 + 1) (b.loop-at.steps + t.later_trial-done.result.steps)) c.trial_passes.new.message)
+          (sym (on.1.goes_on _ ∙ search_passes on.0 (next (i (j (r t)))).2 (set_is (j (r t))) (took t) (sym (ok-is c.before) ∙ c.if-trial_passes.true)))
+          (ran_passed on.0.frame.coded _ _ (made-is t).bits c.trial_passes.ensures.1 (later-bits (mask b) (s b).args.code (v b) (is t) (q t))),
+      same-room c.before,
     )
 
 -- what its failed trial generates
@@ -216,30 +215,27 @@ generate-requires c κs =
 
 loop-again : tie.Need-loop-at-preserved invariant-loop decreases-loop
 loop-again c =
-    let w = c.before.before in
-    let e = w.before.before.before.before in
-    let p = e.before in
-    let t = k p in
+    let t = k c.before.before.before.before.before.before.before in
     let b = a t in
     let on = (s b).requires in
     let whole = (made-is t).whole in (
       (
         _,
-        search_goes_on on.0 (next (i (j (r t)))).2 (set_is (j (r t))) (took t) (sym (ok-is p) ∙ e.if-trial_passes.false) (few t)
-            (subst (λ (new : List Candidate). Inserted (b.loop-at.at + 1) b.loop-at.end ((s b).args.search.limit - 1) w.generate-end.result (map set_key new) b.loop-at.keys w.generate-end.new.1.1.1.1.1.1.1.1.0)
-            (generated-is on.0 (set-flips (j (r t))) on.2 (made-is t) (coded-size t) (resumes-at t)) w.generate-end.ensures),
+        search_goes_on on.0 (next (i (j (r t)))).2 (set_is (j (r t))) (took t) (sym (ok-is c.before.before.before.before.before.before.before) ∙ c.if-trial_passes.false) (few t)
+            (subst (λ (new : List Candidate). Inserted (b.loop-at.at + 1) b.loop-at.end ((s b).args.search.limit - 1) c.generate-end.result (map set_key new) b.loop-at.keys c.generate-end.new.keys)
+            (generated-is on.0 (set-flips (j (r t))) on.2 (made-is t) (coded-size t) (resumes-at t)) c.generate-end.ensures),
       ),
       plain_after b.loop-at.invariant.1 on.1.first_bits (set-flips (j (r t))) (s b).args.search.restart (coded-size t) (resumes (r t)) t.later_trial-done.ensures.1 (size_fits b),
-      record { work = whole.work; bits = whole.bits; sums = same-room p; leaves = w.generate-end.auto.1.1.1.1.1.0 ∙ whole.leaves },
-      w.generate-end.auto.1.1.1.1.1.1.1.1.0 ∙ b.loop-at.invariant.3,
+      record { work = whole.work; bits = whole.bits; sums = same-room c.before.before.before.before.before.before.before; leaves = c.generate-end.auto.leaves ∙ whole.leaves },
+      c.generate-end.auto.keys ∙ b.loop-at.invariant.3,
     )
 
 returns-2 : tie.Need-returns invariant-loop decreases-loop
 returns-2 c =
-    let b = c.before in (
-      subst (λ (w : Verdict). Ran (mask b) (s b).args.code w (Failed (b.loop-at.at + 1) b.loop-at.steps) b.loop-at.sums)
-          (sym ((s b).requires.1.goes_on _ ∙ search_ends (going b) c.loop-at-test.false)) refl,
-      b.loop-at.invariant.2.sums,
+    (
+      subst (λ (w : Verdict). Ran (mask c.before) (s c.before).args.code w (Failed (c.loop-at.at + 1) c.loop-at.steps) c.loop-at.sums)
+          (sym ((s c.before).requires.1.goes_on _ ∙ search_ends (going c.before) c.loop-at-test.false)) refl,
+      c.loop-at.invariant.2.sums,
     )
 
 pub set_trials_spec : {M : Type 1} → statement M
@@ -250,7 +246,7 @@ set_trials_spec =
     decreases-loop
     loop-holds
     (λ c. search rules)
-    (λ c. let i = c.before in omega (arith, i.loop-at-test.true, (going (l i)).places.count_most, (going (l i)).places.room_most))
+    (λ c. omega (arith, c.loop-at-test.true, (going (l c.before)).places.count_most, (going (l c.before)).places.room_most))
     indices-of-requires
     (λ c. search rules)
     restart-index-requires
@@ -258,7 +254,7 @@ set_trials_spec =
     (λ c. size_is c.before.before)
     later-trial-requires
     (λ c. omega (arith, at_most (a c)))
-    (λ c. let t = c.before in omega (arith, few t, (going (a t)).few, at_most (a t)))
+    (λ c. omega (arith, few c.before, (going (a c.before)).few, at_most (a c.before)))
     (λ c. omega (arith, at_most (a c.before)))
     (λ c. omega (arith, at_most (a c.before)))
     trial-passes-requires
@@ -274,5 +270,5 @@ set_trials_spec =
     loop-again
     (λ c. omega (arith, at_most c.before))
     (λ c. omega (arith, at_most c.before))
-    (λ c. c.before.loop-at.invariant.3)
+    (λ c. c.loop-at.invariant.3)
     returns-2)

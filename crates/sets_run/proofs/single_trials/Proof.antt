@@ -20,7 +20,7 @@ extend-requires c κs =
 set-trials-requires : tie.Need-set_trials-requires
 set-trials-requires c κs =
     let e = c.before.before.before.before.before.before.before in
-    let p = e.before.before.before.before.before.before.before.before.requires in
+    let p = e.requires in
     (p.0, p.1.later, (λ l. absurd (omega (arith, l, p.2))), first_pool p.0 p.1.leaves e.extend-sets.ensures, p.1.whole)
 
 pub single_trials_spec : {M : Type 1} → statement M

@@ -28,45 +28,43 @@ Q t = (xor-halves-reads.Asked, xor-halves-reads.Learnt, fold-below t, fold.Post)
 
 module _ (t : ℕ) where
   returns : fold-lts.Need-returns-then-layer-eq0 (Q t) (fold_at t) fold.Post
-  returns c = single c.if-layer-eq0.true c.before.requires.1.1
+  returns c = single c.if-layer-eq0.true c.requires.1.1
 
   xor-halves-requires : fold-lts.Need-xor_halves-requires (Q t) (fold_at t) fold.Post
   xor-halves-requires c κs =
       let s = c.before.before.before in
-      halves (halving_pair c.before.if-layer-eq1.true s.requires.1.0) s.requires.1.1
+      halves (halving_pair c.if-layer-eq1.true s.requires.1.0) s.requires.1.1
 
   returns-2 : fold-lts.Need-returns-then-layer-eq1 (Q t) (fold_at t) fold.Post
   returns-2 c =
-      let s = c.before.before.before.before in
-      let p = s.requires.1.1 in
-      let d = halving_pair c.before.before.if-layer-eq1.true s.requires.1.0 in
+      let p = c.requires.1.1 in
+      let d = halving_pair c.if-layer-eq1.true c.requires.1.0 in
       combined d p (both_halves d p (single refl (left-bytes d p)) (single refl (right-next d p (single refl (left-bytes d p))))) c.xor_halves.ensures
 
   fold-requires : fold-lts.Need-fold-requires (Q t) (fold_at t) fold.Post
   fold-requires c κs =
       let s = c.before.before.before in
-      let d = halving c.before.before.if-layer-eq0.false s.requires.1.0 in
+      let d = halving c.if-layer-eq0.false s.requires.1.0 in
       (omega (arith, s.requires.0, d.below), (d.pow, left-bytes d s.requires.1.1))
 
   fold-requires-2 : fold-lts.Need-fold-requires-2 (Q t) (fold_at t) fold.Post
   fold-requires-2 c κs =
       let s = c.before.before.before.before.before in
-      let d = halving c.before.before.before.before.if-layer-eq0.false s.requires.1.0 in
-      (omega (arith, s.requires.0, d.below), (d.pow, right-next d s.requires.1.1 c.before.fold.ensures))
+      let d = halving c.if-layer-eq0.false s.requires.1.0 in
+      (omega (arith, s.requires.0, d.below), (d.pow, right-next d s.requires.1.1 c.fold.ensures))
 
   xor-halves-requires-2 : fold-lts.Need-xor_halves-requires-2 (Q t) (fold_at t) fold.Post
   xor-halves-requires-2 c κs =
       let s = c.before.before.before.before.before.before.before in
       let p = s.requires.1.1 in
-      let d = halving c.before.before.before.before.before.before.if-layer-eq0.false s.requires.1.0 in
-      combine_next d p (both_halves d p c.before.before.before.fold.ensures c.before.fold-2.ensures)
+      let d = halving c.if-layer-eq0.false s.requires.1.0 in
+      combine_next d p (both_halves d p c.fold.ensures c.fold-2.ensures)
 
   returns-3 : fold-lts.Need-returns (Q t) (fold_at t) fold.Post
   returns-3 c =
-      let s = c.before.before.before.before.before.before.before.before in
-      let p = s.requires.1.1 in
-      let d = halving c.before.before.before.before.before.before.before.if-layer-eq0.false s.requires.1.0 in
-      combined d p (both_halves d p c.before.before.before.before.fold.ensures c.before.before.fold-2.ensures) c.xor_halves-2.ensures
+      let p = c.requires.1.1 in
+      let d = halving c.if-layer-eq0.false c.requires.1.0 in
+      combined d p (both_halves d p c.fold.ensures c.fold-2.ensures) c.xor_halves-2.ensures
 
 pub +fold_spec : {M : Type 1} → statement M
 +fold_spec = close μ λ t. fold-lts.spec (Q t)

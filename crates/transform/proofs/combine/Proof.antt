@@ -7,13 +7,12 @@ use Rattle.transform.proofs.combine.Statement.{statement}
 use Rattle.transform.proofs.combine.Tie as tie
 
 xor-halves-requires : tie.Need-xor_halves-requires
-xor-halves-requires c κs = let p = c.before.requires in record { whole = p.whole; fits = p.fits }
+xor-halves-requires c κs = let p = c.requires in record { whole = p.whole; fits = p.fits }
 
 returns : tie.Need-returns
 returns c =
-    let s = c.before.before in
     c.xor_halves.ensures
-    ∙ ap (splice s.args.bits.now s.args.base) (xor_bytes-bits s.args.h _ _ (left-half s.requires).bits (right-half s.requires).bits)
+    ∙ ap (splice c.args.bits.now c.args.base) (xor_bytes-bits c.args.h _ _ (left-half c.requires).bits (right-half c.requires).bits)
 
 pub combine_spec : {M : Type 1} → statement M
 combine_spec = tie.close (tie.spec xor-halves-requires returns)

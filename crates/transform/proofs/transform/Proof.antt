@@ -9,16 +9,15 @@ use Rattle.transform.proofs.transform.Tie as tie
 
 fold-requires : tie.Need-fold-requires
 fold-requires c κs =
-    let p = c.before.requires in
+    let p = c.requires in
     (p.0, record { whole = p.1.whole; fits = p.1.fits })
 
 returns : tie.Need-returns
 returns c =
-    let s = c.before.before in
-    let p = s.requires.1 in
-    let w = s.args.bits.now in
-    let long = length-segment w s.args.base s.args.size (omega (arith, p.whole, p.fits)) ∙ s.requires.0 in
-    c.fold.ensures ∙ ap (splice w s.args.base) (folded-bits s.args.layer _ long p.bits)
+    let p = c.requires.1 in
+    let w = c.args.bits.now in
+    let long = length-segment w c.args.base c.args.size (omega (arith, p.whole, p.fits)) ∙ c.requires.0 in
+    c.fold.ensures ∙ ap (splice w c.args.base) (folded-bits c.args.layer _ long p.bits)
 
 pub transform_spec : {M : Type 1} → statement M
 transform_spec = tie.close (tie.spec fold-requires returns)

@@ -17,11 +17,11 @@ decreases-loop size bytes₀ m₀ bytes m = size - m
 
 loop-again : tie.Need-loop-m-preserved invariant-loop decreases-loop
 loop-again c =
-    let l = c.before.before.before.loop-m in
+    let l = c.loop-m in
     filling_more l.invariant l.m _ (omega arith) (omega arith) (c.transform_byte.ensures ∙ ap transformed_byte (filling_past l.invariant l.m 0 (omega arith)))
 
 returns : tie.Need-returns invariant-loop decreases-loop
-returns c = filling_done c.before.loop-m.invariant (omega arith) (omega (arith, c.before.before.requires.whole, c.before.before.requires.fits))
+returns c = filling_done c.loop-m.invariant (omega arith) (omega (arith, c.requires.whole, c.requires.fits))
 
 pub transform_bytes_spec : {M : Type 1} → statement M
 transform_bytes_spec =

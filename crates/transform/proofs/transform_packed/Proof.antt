@@ -43,12 +43,11 @@ module _ {room size : ℕ} {w w₁ : List ℕ} (layer : ℕ) (pow : size ≡ 2 ^
 fold-requires : tie.Need-fold-requires
 fold-requires c κs =
     let s = c.before.before.before in
-    (s.requires.0, each-whole s.args.layer s.requires.0 s.requires.1 c.before.transform_bytes.ensures)
+    (s.requires.0, each-whole s.args.layer s.requires.0 s.requires.1 c.transform_bytes.ensures)
 
 returns : tie.Need-returns
 returns c =
-    let s = c.before.before.before.before in
-    then-folded s.args.layer s.requires.0 s.requires.1 c.before.before.transform_bytes.ensures c.fold.ensures
+    then-folded c.args.layer c.requires.0 c.requires.1 c.transform_bytes.ensures c.fold.ensures
 
 pub transform_packed_spec : {M : Type 1} → statement M
 transform_packed_spec = tie.close (tie.spec (λ c κs. c.before.requires.1) fold-requires returns)

@@ -25,11 +25,10 @@ decreases-loop bytes₀ base h j₀ bytes j = h - j
 
 loop-again : tie.Need-loop-j-preserved invariant-loop decreases-loop
 loop-again c =
-    let l = c.before.before.before.loop-j in
-    let s = c.before.before.before.before in
-    let w = s.args.bytes.now in
-    let base = s.args.base in
-    let h = s.args.h in
+    let l = c.loop-j in
+    let w = c.args.bytes.now in
+    let base = c.args.base in
+    let h = c.args.h in
     let j = l.j in
     let old : (at : ℕ) → base + j ≤ at + j → get_or l.bytes (at + j) 0 ≡ get_or (segment w at h) j 0 =
     λ at k. filling_past l.invariant (at + j) 0 k ∙ sym (get_or-segment w at h j 0 (omega arith)) in
@@ -38,7 +37,7 @@ loop-again c =
 
 returns : tie.Need-returns invariant-loop decreases-loop
 unfolding xor_bytes
-returns c = filling_done c.before.loop-j.invariant (omega arith) (omega (arith, c.before.before.requires.whole, c.before.before.requires.fits))
+returns c = filling_done c.loop-j.invariant (omega arith) (omega (arith, c.requires.whole, c.requires.fits))
 
 pub xor_halves_spec : {M : Type 1} → statement M
 xor_halves_spec =
