@@ -46,7 +46,7 @@ loop-again : tie.Need-loop-i-preserved invariant-loop decreases-loop
 loop-again c =
     let l = c.loop-i in
     let here = c.loop-i-test.true in
-    let key = back_is w32 c.key_under.result (record { sfits = c.key_under.type-inv }) ∙ c.key_under.ensures
+    let key = back_is w32 c.key_under.result (record { sfits = c.key_under.type_inv }) ∙ c.key_under.ensures
     ∙ ap (λ (z : ℤ). pos (key_under c.args.mask.now z l.i)) (leaf-back c.requires l.invariant here) in
     filling_more l.invariant _ _ here (omega arith) key
 

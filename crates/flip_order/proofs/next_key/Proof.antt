@@ -31,8 +31,8 @@ loop-again c =
     let keys : List ℤ = c.args.keys.now in
     let last : ℤ = back w32 c.args.last in
     let key = back_is w32 (get_or keys l.i (pos 0)) (record { sfits = c.above-arg-1.given }) in
-    let a = back_is w32 c.above.result (record { sfits = c.above.type-inv }) ∙ c.above.ensures ∙ ap (above last) key in
-    let b = back_is w32 c.lesser-best.result (record { sfits = c.lesser-best.type-inv }) ∙ c.lesser-best.ensures ∙ ap₂ lesser a l.invariant.0 in
+    let a = back_is w32 c.above.result (record { sfits = c.above.type_inv }) ∙ c.above.ensures ∙ ap (above last) key in
+    let b = back_is w32 c.lesser-best.result (record { sfits = c.lesser-best.type_inv }) ∙ c.lesser-best.ensures ∙ ap₂ lesser a l.invariant.0 in
     (b ∙ ap (least_above last keys) (sym (add-one l.i)), omega arith)
 
 returns : tie.Need-returns invariant-loop decreases-loop
