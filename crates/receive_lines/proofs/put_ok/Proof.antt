@@ -8,44 +8,34 @@ use Rattle.receive_lines.proofs.Putting.{put_more, length_put}
 use Rattle.receive_lines.proofs.put_ok.Statement.{statement}
 use Rattle.receive_lines.proofs.put_ok.Tie as tie
 
--- what was put before the line feed, and where each part ends
-module _ (h : tie.After-put_hex-at) where
-  abbrev n2 : tie.After-put_number-at-2
-  n2 = h.before.before.before.before.before.before.before.before.before.before
-
-  abbrev word : tie.After-put_bytes-at
-  word = n2.before.before.before.before.before.before.before.before
-
-  abbrev s : tie.Start
-  s = word.before.before.before.before.before.before
-
-  room : h.put_hex-at.result + 1 ≤ length h.put_hex-at.last.0
-  room =
-      let trial = n2.put_number-at.ensures in
-      let steps = n2.put_number-at-2.ensures in
-      let space = h.put_bytes-at-2.ensures in
-      let payload = h.put_hex-at.ensures in
-      omega (
-        arith,
-        s.requires,
-        word.put_bytes-at.ensures.next_is,
-        trial.1,
-        steps.1,
-        space.next_is,
-        payload.next_is,
-        length-hex s.args.payload.now,
-        length_put word.put_bytes-at.ensures,
-        length_put trial.0,
-        length_put steps.0,
-        length_put space,
-        length_put payload,
-      )
+-- there is room for the line feed
+room : (h : tie.After-put_hex-at) → h.put_hex-at.result + 1 ≤ length h.put_hex-at.new.line
+room h =
+    let trial = h.put_number-at.ensures in
+    let steps = h.put_number-at-2.ensures in
+    let space = h.put_bytes-at-2.ensures in
+    let payload = h.put_hex-at.ensures in
+    omega (
+      arith,
+      h.requires,
+      h.put_bytes-at.ensures.next_is,
+      trial.1,
+      steps.1,
+      space.next_is,
+      payload.next_is,
+      length-hex h.args.payload.now,
+      length_put h.put_bytes-at.ensures,
+      length_put trial.0,
+      length_put steps.0,
+      length_put space,
+      length_put payload,
+    )
 
 returns : tie.Need-returns
 returns c =
-    put_more (word c.before.before.before.before.before.before.before.before).put_bytes-at.ensures
-    (put_more (n2 c.before.before.before.before.before.before.before.before).put_number-at.ensures.0
-    (put_more (n2 c.before.before.before.before.before.before.before.before).put_number-at-2.ensures.0
+    put_more c.put_bytes-at.ensures
+    (put_more c.put_number-at.ensures.0
+    (put_more c.put_number-at-2.ensures.0
     (put_more c.put_bytes-at-2.ensures
     (put_more c.put_hex-at.ensures
     c.put_bytes.ensures))))
@@ -54,14 +44,11 @@ pub put_ok_spec : {M : Type 1} → statement M
 put_ok_spec =
     tie.close
     (tie.spec
-    (λ c. search rules)
     (λ c κs. search rules)
     (λ c κs. search rules)
     (λ c κs. search rules)
-    (λ c. search rules)
     (λ c κs. search rules)
     (λ c κs. search rules)
-    (λ c. search rules)
-    (λ c κs. room c.before.before.before.before)
+    (λ c κs. room c.before.before.before.before.before)
     (λ c. search rules)
     returns)
