@@ -1,7 +1,7 @@
 /* Encodes a payload, disturbs the frame, decodes it with and without restarting, and prints what came back.
  *
- *   rt staticlib polar
- *   gcc -std=c11 -Wall -Wextra -Werror -Iinclude examples/frame.c target/staticlib/libpolar.a -o target/frame && target/frame
+ *   (cd crates/polar && rt lib)
+ *   gcc -std=c11 -Wall -Wextra -Werror -Iinclude examples/frame.c crates/polar/out/libpolar.a -o target/frame && target/frame
  */
 #include <stdio.h>
 

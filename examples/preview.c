@@ -1,7 +1,7 @@
 /* Holds one hearing of a frame, too weak to decode, previews each repeat, keeps the one that settles the frame, and prints what came back.
  *
- *   rt staticlib polar
- *   gcc -std=c11 -Wall -Wextra -Werror -Iinclude examples/preview.c target/staticlib/libpolar.a -o target/preview && target/preview
+ *   (cd crates/polar && rt lib)
+ *   gcc -std=c11 -Wall -Wextra -Werror -Iinclude examples/preview.c crates/polar/out/libpolar.a -o target/preview && target/preview
  */
 #include <stdio.h>
 #include <string.h>

@@ -1,7 +1,7 @@
 /* Hears a frame twice, each time too weakly to decode it, adds up both hearings, decodes the sums, and prints what came back.
  *
- *   rt staticlib polar
- *   gcc -std=c11 -Wall -Wextra -Werror -Iinclude examples/repeat.c target/staticlib/libpolar.a -o target/repeat && target/repeat
+ *   (cd crates/polar && rt lib)
+ *   gcc -std=c11 -Wall -Wextra -Werror -Iinclude examples/repeat.c crates/polar/out/libpolar.a -o target/repeat && target/repeat
  */
 #include <stdio.h>
 
