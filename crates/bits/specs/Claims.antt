@@ -2,7 +2,7 @@
 use Rattle.std.specs.Prelude.{List, ℕ, zero, suc, ◌+◌, ◌<◌, get_or}
 use Rattle.std.specs.Int.Count.{ones}
 
--- the counts of ones in the first m bytes, added up; at m = length mask this is `ones_in mask` (`byteCounts-is` of proofs/Mask.antt)
+-- the counts of ones in the first m bytes, added up; at m = length mask this is `ones_in mask` (`byte_counts-is` of proofs/Mask.antt)
 unfoldable pub byte_counts : List ℕ → ℕ → ℕ
 byte_counts mask zero = 0
 byte_counts mask (suc m) = byte_counts mask m + ones (get_or mask m 0)

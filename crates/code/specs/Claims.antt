@@ -21,7 +21,7 @@ pub record Laid (d : List ℕ) : Type 0 where
   pub n_most : get_or d 4 0 ≤ largest_n
   pub size : length d ≡ mask_at (word d 2) + 2 ^ get_or d 4 0 / 8
 
--- refusals 1 to 7, 25 and 8 in turn do not apply. `well-formed-exactly` of proofs/WellFormed.antt: a description is accepted exactly if it is
+-- refusals 1 to 7, 25 and 8 in turn do not apply. `well_formed_exactly` of proofs/WellFormed.antt: a description is accepted exactly if it is
 -- well-formed.
 pub record WellFormed (d : List ℕ) : Type 0 where
   pub laid : Laid d
@@ -38,7 +38,7 @@ accepts (Accepted c) = true
 accepts (Refused x) = false
 
 -- d describes a code, and the rest of a call's input is well-formed under it, which W says. An operation that takes a description accepts exactly
--- this input: `well-formed-exactly` of each.
+-- this input: `well_formed_exactly` of each.
 pub record WellFormedUnder (d : List ℕ) (W : Code → Type 0) : Type 0 where
   pub code : Code
   pub describes : describe d ≡ Accepted code
@@ -88,13 +88,13 @@ code_at at start d = record { n = get_or d 4 0; r = get_or d 5 0; polynomial = w
 abbrev pub describe_kind1 : List ℕ → Description
 describe_kind1 d = refused_or (judge (refusals_at 1 8 [] d)) Refused (Accepted (code_at 8 0 d))
 
--- Document 02, request 2.1, by itself knows kind 4: at least 10 bytes, refusal 25 between 7 and 8, and the mask from byte 10 on. `kind-4`: the
+-- Document 02, request 2.1, by itself knows kind 4: at least 10 bytes, refusal 25 between 7 and 8, and the mask from byte 10 on. `kind_4`: the
 -- answer to every slice that says kind 4.
 abbrev pub describe_kind4 : List ℕ → Description
 describe_kind4 d =
     refused_or (judge (refusals_at 4 10 ((is_wide (word d 8) (get_or d 5 0), Alone 25) ∷ []) d)) Refused (Accepted (code_at 10 (word d 8) d))
 
--- the record of kind 4 with the fields and the mask of the record d of kind 1, and a start value. `start-0`: with start 0 it has the answer
+-- the record of kind 4 with the fields and the mask of the record d of kind 1, and a start value. `start_0`: with start 0 it has the answer
 -- to d, if d has the 8 bytes of its fields.
 abbrev pub with_start : ℕ → List ℕ → List ℕ
 with_start start d =

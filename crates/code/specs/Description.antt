@@ -69,7 +69,7 @@ code_of d = record { n = get_or d 4 0; r = get_or d 5 0; polynomial = word d 6; 
 unfoldable pub describe_up_to : ℕ → List ℕ → Description
 describe_up_to largest d = refused_or (judge (refusals_up_to largest d)) Refused (Accepted (code_of d))
 
--- the answer, with `largestN` as the largest n
+-- the answer, with `largest_n` as the largest n
 abbrev pub describe : List ℕ → Description
 describe d = describe_up_to largest_n d
 

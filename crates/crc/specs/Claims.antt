@@ -14,7 +14,7 @@ abbrev pub mul : List ℕ → List ℕ → List ℕ
 mul t [] = replicate (length t) 0
 mul t (a ∷ q) = add_highest (scale a (1 ∷ t)) (0 ∷ mul t q)
 
--- p is a multiple of z^r + t: `check-multiple` and `check-only` of proofs/Message.antt prove it of a payload with its check
+-- p is a multiple of z^r + t: `check_multiple` and `check_only` of proofs/Message.antt prove it of a payload with its check
 pub record Multiple (t p : List ℕ) : Type 0 where
   pub quotient : List ℕ
   pub bits : Bits quotient

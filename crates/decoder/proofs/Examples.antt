@@ -84,7 +84,7 @@ leaves_on channel is = (later_trial Root (mask_of wide_d) wide_code (channel_val
 abbrev pub metric_on : List ℕ → List ℕ → List ℕ → ℕ
 metric_on channel is set = metric_of (mask_of wide_d) (leaves_on channel is) set
 
--- all sets of one or two information indices, in the order in which `usedUpV` has them tried
+-- all sets of one or two information indices, in the order in which `used_up_v` has them tried
 abbrev pub ten : List (List ℕ)
 ten = (3 ∷ []) ∷ (3 ∷ 5 ∷ []) ∷ (3 ∷ 6 ∷ []) ∷ (5 ∷ []) ∷ (6 ∷ []) ∷ (5 ∷ 6 ∷ []) ∷ (5 ∷ 7 ∷ []) ∷ (7 ∷ []) ∷ (3 ∷ 7 ∷ []) ∷ (6 ∷ 7 ∷ []) ∷ []
 

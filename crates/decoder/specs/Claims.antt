@@ -11,7 +11,7 @@ abbrev pub Allowed : Decoder → Code → Type 0
 Allowed (single limit) c = (1 ≤ limit) × (limit ≤ information_count c + 1)
 Allowed (sets w limit) c = (1 ≤ w) × (w ≤ 3) × (1 ≤ limit) × (limit ≤ most_limit w c)
 
--- `WellFormed.fine`, test by test: `spelt-out` of proofs/Decoder.antt
+-- `WellFormed.fine`, test by test: `spelt_out` of proofs/Decoder.antt
 pub record SpeltOut (p : Decoder) (c : Code) (channel output : List ℕ) : Type 0 where
   -- not 12
   pub channel_size : length channel ≡ code_length c

@@ -213,7 +213,7 @@ module _ (byte byte' : ℕ) where
       (λ x. absurd (omega (arith, one_kind (set_examples byte).by_single_flips.1 x.1)))
       both.answers
 
--- On `pairV` all four flips fail, and the q are 5, 6, 7 and, since no information index follows 7, 8.
+-- On `pair_v` all four flips fail, and the q are 5, 6, 7 and, since no information index follows 7, 8.
 skipped_after_all : {qs : List ℕ} → Each (3 ∷ 5 ∷ 6 ∷ 7 ∷ []) qs → skipped_over 3 qs ≡ 70
 unfolding skipped
 skipped_after_all (Forall₂.cons a (Forall₂.cons b (Forall₂.cons c (Forall₂.cons d Forall₂.nil)))) =
@@ -296,7 +296,7 @@ bits_by restart channel t flips =
     let v : List ℤ = channel_values channel in
     get_or (map (λ o. o.bits) (first_trial (mask_of wide_d) wide_code v ∷ map (later_trial restart (mask_of wide_d) wide_code v) flips)) (t - 1) []
 
--- sets on `pairV`: trial 3, of [3, 5], passes, and what is written is encoded as the transform of its bits
+-- sets on `pair_v`: trial 3, of [3, 5], passes, and what is written is encoded as the transform of its bits
 pub pair_passes : trial_passes (mask_of wide_d) wide_code (bits_on pair_v (3 ∷ 5 ∷ [])) ≡ true
 pair_passes =
     subst (λ (flips : List (List ℕ)). trial_passes (mask_of wide_d) wide_code (bits_by AfterFlip pair_v 3 flips) ≡ true) (set_examples 0).by_own_trial.3

@@ -51,7 +51,7 @@ pub record SameRun (p : Decoder) (d : List ℕ) (c : Code) (channel : List ℕ) 
   pub most : made ≤ limit_of p
   -- an index for each trial made after the first
   pub each : length (lowest_of_each p d c channel made) + 1 ≡ made
-  -- One trial number with one payload. Or refusal 16 after trial 1 and a trial of each set of `flipsOf`, with each output as it was: these trials are as
+  -- One trial number with one payload. Or refusal 16 after trial 1 and a trial of each set of `flips_of`, with each output as it was: these trials are as
   -- many as the limit allows (`made ≡ limit_of p`), or no untried set is left (`AllTried`).
   pub answers :
       ((payload : List ℕ) × Answers p d channel size (λ restart output. (Accepted made (steps restart), payload)))

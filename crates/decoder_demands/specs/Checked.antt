@@ -1,5 +1,5 @@
 -- Document 01, "Flip decoding, full and restarted", and the owner's reason for the demands: what is accepted passed its check, and 16 is answered only to
--- "a frame that still fails its check after every permitted trial". `only-checked` and `after-all` of proofs/Checked.antt prove it of every decoder at
+-- "a frame that still fails its check after every permitted trial". `only_checked` and `after-all` of proofs/Checked.antt prove it of every decoder at
 -- every restart.
 use Rattle.std.specs.Prelude.{◌≡◌, true, false, List, [], map, ℕ, ◌-◌, ◌/◌, ◌≤◌, ℤ, length, get_or}
 use Rattle.bits.specs.Packing.{packed}

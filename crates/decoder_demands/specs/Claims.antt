@@ -84,14 +84,14 @@ abbrev pub in_second_half : ℕ → List ℕ → ℕ
 in_second_half N [] = 0
 in_second_half N (i ∷ is) = cond (leb (N / 2) i) 1 0 + in_second_half N is
 
--- half restart saves n × N/2 steps for each trial made after the first whose lowest index lies in the second half: `half-steps` of
+-- half restart saves n × N/2 steps for each trial made after the first whose lowest index lies in the second half: `half_steps` of
 -- proofs/HalfSteps.antt
 abbrev pub HalfSteps : Type 0
 HalfSteps =
     (p : Decoder) (d : List ℕ) (c : Code) (channel : List ℕ) (size : ℕ) (x : SameRun p d c channel size)
     → x.steps Root ≡ x.steps Half + in_second_half (code_length c) (lowest_of_each p d c channel x.made) * (c.n * (code_length c / 2))
 
--- restarted decoding takes fewer steps than half restart, by at least one in each later trial: `restarted-fewer` of proofs/HalfSteps.antt
+-- restarted decoding takes fewer steps than half restart, by at least one in each later trial: `restarted_fewer` of proofs/HalfSteps.antt
 abbrev pub RestartedFewer : Type 0
 RestartedFewer =
     (p : Decoder) (d : List ℕ) (c : Code) (channel : List ℕ) (size : ℕ) (x : SameRun p d c channel size) → 1 ≤ c.n

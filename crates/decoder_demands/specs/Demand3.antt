@@ -1,5 +1,5 @@
 -- Document 01, "Flip decoding, full and restarted": demand 3, in the owner's words, about the definitions that the promises of both decoders cite.
--- `demand-3` of proofs/Demand3.antt proves it from `Agreement`.
+-- `demand_3` of proofs/Demand3.antt proves it from `Agreement`.
 use Rattle.std.specs.Prelude.{◌≡◌, ◌⊎◌, ℕ, ◌+◌, ◌-◌, ◌*◌, ◌≤◌, length, take}
 use mathlib.Core.List.{List, Forall₂}
 use Rattle.code.specs.declared.Code.{Code}

@@ -1,5 +1,5 @@
 -- Document 02, request 2.4: "Also show that, with single flips, a frame accepted under one T has the same payload, trial and steps under any larger T that
--- 14 allows." `stays-accepted` of proofs/Larger.antt proves it of every decoder at every restart.
+-- 14 allows." `stays_accepted` of proofs/Larger.antt proves it of every decoder at every restart.
 use Rattle.std.specs.Prelude.{◌≡◌, List, ℕ, ◌≤◌, length}
 use Rattle.refusal.specs.declared.Judgement.TheVariants.{Fine}
 use Rattle.refusal.specs.Judge.{judge}

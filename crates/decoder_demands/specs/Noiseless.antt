@@ -1,5 +1,5 @@
 -- Document 01, "Flip decoding, full and restarted": the noiseless clause of demand 2. "Any such codeword received with right signs and no zero
--- strength, in a well-formed call, decodes to its payload on trial 1." `noiseless` and `noiseless-decoding` of proofs/Noiseless.antt prove it.
+-- strength, in a well-formed call, decodes to its payload on trial 1." `noiseless` and `noiseless_decoding` of proofs/Noiseless.antt prove it.
 use Rattle.std.specs.Prelude.{◌≡◌, List, ℕ, ◌*◌, ◌<◌, nat_abs, get_or}
 use Rattle.bits.specs.Packing.{unpacked}
 use Rattle.code.specs.declared.Code.{Code}

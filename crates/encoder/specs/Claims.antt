@@ -1,5 +1,5 @@
 -- Document 01, "Check and encoder": a payload and an output are well-formed if none of refusals 9 to 11 applies. Encode accepts exactly
--- these: `well-formed-exactly` of proofs/WellFormed.antt.
+-- these: `well_formed_exactly` of proofs/WellFormed.antt.
 use Rattle.std.specs.Prelude.{◌≡◌, Bool, true, false, List, ℕ, ◌/◌, length}
 use Rattle.bits.specs.Packing.{bytes_for, unused_bits}
 use Rattle.code.specs.declared.Code.{Code}

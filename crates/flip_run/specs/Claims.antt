@@ -3,7 +3,7 @@ use Rattle.std.specs.Prelude.{Bool, true, false}
 use Rattle.flip_run.specs.declared.Decoded.{Decoded}
 use Rattle.flip_run.specs.declared.Decoded.TheVariants.{Accepted, Refused16, Refused}
 
--- whether an answer comes from a run of trials: no refusal before 16. A call is well-formed exactly if its answer does: `well-formed-exactly` of
+-- whether an answer comes from a run of trials: no refusal before 16. A call is well-formed exactly if its answer does: `well_formed_exactly` of
 -- decoder/proofs/Decoder.antt.
 abbrev pub of_run : Decoded → Bool
 of_run (Accepted trial steps) = true

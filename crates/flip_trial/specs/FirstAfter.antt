@@ -1,5 +1,5 @@
 -- Document 01, "Flip decoding, full and restarted": demand 3's "q is the first information index after that trial's flipped one, or N if
--- none". `resume-at` of proofs/Restartable.antt proves it of `resumeAt`.
+-- none". `resume_at_lem` of proofs/Restartable.antt proves it of `resume_at`.
 use Rattle.std.specs.Prelude.{◌≡◌, ◌⊎◌, List, ℕ, ◌<◌, ◌≤◌}
 use Rattle.bits.specs.Mask.{mask_bit}
 

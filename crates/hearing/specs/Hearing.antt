@@ -42,7 +42,7 @@ abbrev pub add_refusals : Code → ℕ → List ℕ → List (Bool × Refusal)
 add_refusals c count channel = channel_refusals c channel ++ ((eqb count 255, Alone 27) ∷ [])
 
 -- whether a list of adds and clears can leave this hearing under a code: a count of at most 255, values in −31..31, and zeros after the N of its code, or
--- zeros alone if the count is 0. Adds and clears leave exactly these: `held_after` and `left-by-some` of crate `hearing_demands`.
+-- zeros alone if the count is 0. Adds and clears leave exactly these: `held_after` and `left_by_some` of crate `hearing_demands`.
 abbrev pub is_hearing : Code → Hearing → Bool
 is_hearing c h =
     leb h.count 255

@@ -5,7 +5,7 @@ use Rattle.code.specs.Code.{longest_description}
 use Rattle.hearing_state.specs.State.{State}
 use Rattle.hearing_buffer.specs.Lent.{hearing_size, bytes_of, state_in}
 
--- a state that was written is read back, if its lists have the sizes of a buffer's parts: `read-written`
+-- a state that was written is read back, if its lists have the sizes of a buffer's parts: `read_written`
 abbrev pub ReadWritten : Type 0
 ReadWritten = (s : State) → length s.description ≡ longest_description → length s.hearing.values ≡ 2 ^ largest_n → state_in (bytes_of s) ≡ s
 

@@ -26,7 +26,7 @@ pub record Bounds (c : Code) (s : State) (vectors : List (List ℕ)) : Type 0 wh
 abbrev pub HeldBounds : Type 0
 HeldBounds = (d : List ℕ) (c : Code) (calls : List Call) → describe d ≡ Description.Accepted c → Bounds c (after (opened d).1 calls) (accepted_in c [] calls)
 
--- a refused call changes nothing: `refused-keeps`
+-- a refused call changes nothing: `refused_keeps`
 abbrev pub RefusedKeeps : Type 0
 RefusedKeeps = (s : State) (call : Call) (x : Refusal) → (called s call).0 ≡ Refused x → (called s call).1 ≡ s
 
@@ -37,7 +37,7 @@ pub record FitsBuffer (s : State) : Type 0 where
   pub bytes : (i : ℕ) → get_or s.hearing.values i 0 < 256
 
 -- Refusal 40 is for what no list of calls leaves: a state that is not refused is left by some adds, from a fresh hearing of its description.
--- `left-by-some` of proofs/Left.antt. That what calls leave is not refused is `Holds.code_is`.
+-- `left_by_some` of proofs/Left.antt. That what calls leave is not refused is `Holds.code_is`.
 abbrev pub LeftBySome : Type 0
 LeftBySome = (s : State) (c : Code) → FitsBuffer s → code_of_state s ≡ Description.Accepted c → (calls : List Call) × (after (opened (description_of s)).1 calls ≡ s)
 

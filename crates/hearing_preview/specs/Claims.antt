@@ -21,7 +21,7 @@ abbrev pub previewed : State → List ℕ → ℕ → List ℕ → Decoded × Li
 previewed s channel limit output =
     refused_or (added s channel).0 (λ x. (Refused x, output)) (decoded_held_with AfterFlip (added s channel).1 limit output)
 
--- the preview in a buffer, whatever it holds, is that of its state: `on-a-copy`
+-- the preview in a buffer, whatever it holds, is that of its state: `on_a_copy`
 abbrev pub OnACopy : Type 0
 OnACopy = (b channel : List ℕ) (limit : ℕ) (output : List ℕ) → previewed_in b channel limit output ≡ previewed (state_in b) channel limit output
 
@@ -38,13 +38,13 @@ pub record Previews (d : List ℕ) (c : Code) (s : State) (vectors : List (List 
   -- and they are the sums of a state that holds this vector too
   pub sums : judge (add_refusals c (length vectors) channel) ≡ judgement.Fine → Holds d c (added s channel).1 (vectors ++ (channel ∷ []))
 
--- any code, and any list of adds and clears from a fresh hearing: `preview-after`
+-- any code, and any list of adds and clears from a fresh hearing: `preview_after`
 abbrev pub PreviewAfter : Type 0
 PreviewAfter =
     (d : List ℕ) (c : Code) (calls : List Call) (channel : List ℕ)
     → describe d ≡ Description.Accepted c → Previews d c (after (opened d).1 calls) (accepted_in c [] calls) channel
 
--- in any buffer of the right size in which a hearing is opened, the answer is that of the state of `after`: `preview-in-after`
+-- in any buffer of the right size in which a hearing is opened, the answer is that of the state of `after`: `preview_in_after`
 abbrev pub PreviewInAfter : Type 0
 PreviewInAfter =
     (d b : List ℕ) (c : Code) (calls : List Call) (channel : List ℕ) (limit : ℕ) (output : List ℕ)

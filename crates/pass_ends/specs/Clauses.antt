@@ -6,7 +6,7 @@ use Rattle.values.specs.Clauses.{rule_of}
 use Rattle.pass_tree.specs.declared.Work.{Work}
 use Rattle.pass_tree.specs.Node.{Out, node}
 
--- the rule at index i of an array of rule bytes (`ruleOf` of values)
+-- the rule at index i of an array of rule bytes (`rule_of` of values)
 abbrev pub rule_at : List ℕ → ℕ → Rule
 rule_at rules i = rule_of (get_or rules i 0)
 

@@ -1,5 +1,5 @@
 -- Document 01, "Resume": the input is well-formed if nothing of 12, 13 and 17 to 19 applies. Resume accepts exactly there:
--- `well-formed-exactly` of proofs/WellFormed.antt.
+-- `well_formed_exactly` of proofs/WellFormed.antt.
 use Rattle.std.specs.Prelude.{◌≡◌, Bool, true, false, List, ℕ, ◌≤◌, length}
 use Rattle.code.specs.declared.Code.{Code}
 use Rattle.code.specs.Code.{code_length}

@@ -1,5 +1,5 @@
 -- Document 01, "Resume": the steps are "n·N less the sum of q − (q mod 2^j) for j = 0..n − 1", and the first q bits are the prefix.
--- `resume-steps` of proofs/ResumeSteps.antt proves it from the count of `node`.
+-- `resume_steps` of proofs/ResumeSteps.antt proves it from the count of `node`.
 use Rattle.std.specs.Prelude.{◌≡◌, List, ℕ, ◌+◌, ◌*◌, length, take}
 use Rattle.code.specs.declared.Code.{Code}
 use Rattle.code.specs.declared.Description.TheVariants.{Accepted}

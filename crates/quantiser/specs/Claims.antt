@@ -6,7 +6,7 @@ use Rattle.quantiser.specs.declared.Quantised.{Quantised}
 use Rattle.quantiser.specs.declared.Quantised.TheVariants.{Done, Refused}
 use Rattle.quantiser.specs.Quantise.{first_nan, valid_scale}
 
--- None of refusals 20 to 22 applies. The quantiser accepts exactly then: `well-formed-exactly` of proofs/WellFormed.antt.
+-- None of refusals 20 to 22 applies. The quantiser accepts exactly then: `well_formed_exactly` of proofs/WellFormed.antt.
 pub record WellFormed (scale : Float) (samples : List Float) (output : List ℕ) : Type 0 where
   -- not 20
   pub same_length : length samples ≡ length output
@@ -24,7 +24,7 @@ accepts (Refused x) = false
 abbrev pub Under : Float → Float → Type 0
 Under x y = lt y x ≡ false
 
--- the peak of n products; `peak-largest` of proofs/Accepted.antt proves it
+-- the peak of n products; `peak_largest` of proofs/Accepted.antt proves it
 pub record Peak (p : ℕ → Float) (n : ℕ) (peak : Float) : Type 0 where
   -- it is a number
   pub number : is_nan peak ≡ false

@@ -12,7 +12,7 @@ unfoldable pub decimal_in : ℕ → ℕ → List ℕ
 decimal_in zero n = []
 decimal_in (suc places) n = cond (ltb n 10) (digit n ∷ []) (decimal_in places (n / 10) ++ (digit (n % 10) ∷ []))
 
--- a number in decimal, with no leading zero; `decimal-reads` and `decimal-leads` of proofs/Decimal.antt prove it
+-- a number in decimal, with no leading zero; `decimal_reads` and `decimal_leads` of proofs/Decimal.antt prove it
 abbrev pub decimal : ℕ → List ℕ
 decimal n = decimal_in (suc n) n
 

@@ -11,7 +11,7 @@ use Rattle.receive_stream.specs.Stream.{starts_whole, records_in, records_of}
 use Rattle.receive_stream.specs.Claims.{IsRecord, Split}
 use Rattle.receive_stream.proofs.Whole.{Starts, starts-whole, whole-starts, none-whole, word-append}
 
--- one step of `recordsIn`: the records after the first are `more`
+-- one step of `records_in`: the records after the first are `more`
 abbrev step : Bool → List ℕ → List (List ℕ) × List ℕ → List (List ℕ) × List ℕ
 step whole input more = cond whole (take (word input 0) input ∷ more.0, more.1) ([], input)
 

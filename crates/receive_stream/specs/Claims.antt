@@ -13,7 +13,7 @@ pub record IsRecord (bytes : List ℕ) : Type 0 where
   pub length_is : word bytes 0 ≡ length bytes
 
 -- Whole records in order, and what is left of the input.
--- `records-of` and `records-only` of proofs/Split.antt prove that `recordsOf` finds these and no others.
+-- `records_of_lem` and `records_only` of proofs/Split.antt prove that `records_of` finds these and no others.
 pub record Split (input : List ℕ) (records : List (List ℕ)) (left : List ℕ) : Type 0 where
   -- together they are the input
   pub joins : flatten records ++ left ≡ input

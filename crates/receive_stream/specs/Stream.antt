@@ -15,7 +15,7 @@ records_in (suc most) input =
     let more = records_in most (drop (word input 0) input) in
     cond (starts_whole input) (take (word input 0) input ∷ more.0, more.1) ([], input)
 
--- there are at most as many records as bytes; `records-of` of proofs/Split.antt proves that no whole record is left
+-- there are at most as many records as bytes; `records_of_lem` of proofs/Split.antt proves that no whole record is left
 abbrev pub records_of : List ℕ → List (List ℕ) × List ℕ
 records_of input = records_in (length input) input
 

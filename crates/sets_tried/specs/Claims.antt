@@ -14,7 +14,7 @@ use Rattle.decoder.specs.declared.Search.{Search}
 use Rattle.decoder.specs.Candidate.{past_largest, metric_of, Candidate, candidate, precedes, insert_each}
 use Rattle.decoder.specs.Clauses.{search_of, leaves_of, generated_by, tried_by}
 
--- a set that a trial can flip, of at most w indices: `flip-set-each` of proofs/Sets.antt proves it of each set that is tried
+-- a set that a trial can flip, of at most w indices: `flip_set_each` of proofs/Sets.antt proves it of each set that is tried
 pub record FlipSet (mask : List ℕ) (size w : ℕ) (is : List ℕ) : Type 0 where
   pub flips : Flips mask size is
   pub most : length is ≤ w
@@ -28,17 +28,17 @@ pub record OwnDecisions (restart : Restart) (mask : List ℕ) (c : Code) (v : Li
   pub others : (j : ℕ) → j < code_length c → member j is ≡ false → mask_bit mask j ≡ 1
       → get_or (later_trial restart mask c v is).bits j 0 ≡ hard (get_or (leaves_of restart mask c v is) j (pos 0))
 
--- x is the set `is` with an information index below n appended that is above all of its own: `extension-member` of proofs/Members.antt
+-- x is the set `is` with an information index below n appended that is above all of its own: `extension_member` of proofs/Members.antt
 abbrev pub Extends : List ℕ → List ℤ → List ℕ → ℕ → Candidate → Type 0
 Extends mask leaves is n x =
     (j : ℕ) × (j < n) × (mask_bit mask j ≡ 1) × (past_largest is ≤ j) × (x ≡ candidate mask leaves (is ++ (j ∷ [])))
 
--- each of some candidates in its place, as by `insertEach`, but all are kept
+-- each of some candidates in its place, as by `insert_each`, but all are kept
 unfoldable pub insert_all : List Candidate → List Candidate → List Candidate
 insert_all [] untried = untried
 insert_all (x ∷ xs) untried = insert_all xs (insert_by precedes x untried)
 
--- the sets that are tried while m trials remain by a search that keeps every untried set. `kept-loses-nothing` of proofs/Kept.antt proves
+-- the sets that are tried while m trials remain by a search that keeps every untried set. `kept_loses_nothing` of proofs/Kept.antt proves
 -- that they are those of `tried`.
 unfoldable pub tried_of_all : (List ℕ → List Candidate) → ℕ → List Candidate → List (List ℕ)
 tried_of_all generate zero untried = []
@@ -51,7 +51,7 @@ kept_after generate m zero untried = untried
 kept_after generate m (suc t) [] = []
 kept_after generate m (suc t) (x ∷ untried) = kept_after generate (m - 1) t (insert_each (m - 1) (generate x.flips) untried)
 
--- "After every insertion, keep only as many untried sets as trials remain." `kept-few` of proofs/Kept.antt
+-- "After every insertion, keep only as many untried sets as trials remain." `kept_few` of proofs/Kept.antt
 abbrev pub KeptFew : Type 0
 KeptFew = (generate : List ℕ → List Candidate) (m t : ℕ) → length (kept_after generate m t (insert_each m (generate []) [])) ≤ m - t
 

@@ -1,4 +1,4 @@
--- What the theorems of this crate state besides `OldAnswers`: which answers a larger n changes, and the operations with n up to `largestN`.
+-- What the theorems of this crate state besides `OldAnswers`: which answers a larger n changes, and the operations with n up to `largest_n`.
 use Rattle.std.specs.Prelude.{◌≡◌, List, ℕ, ◌<◌, ◌≤◌, get_or}
 use Rattle.refusal.specs.declared.Refusal.TheVariants.{Alone}
 use Rattle.code.specs.declared.Description.TheVariants.{Refused}
@@ -19,8 +19,8 @@ pub record NewAnswer (small large : ℕ) (d : List ℕ) : Type 0 where
   pub most : get_or d 4 0 ≤ large
   pub other : describe_up_to large d ≡ Refused (Alone 4) → ⊥
 
--- Every operation answers d as with n up to `largest`. `as-accepted` of proofs/Longer.antt: this holds if d is accepted with n up to `largest`;
--- `as-10` is the case of document 01's largest n.
+-- Every operation answers d as with n up to `largest`. `as_accepted` of proofs/Longer.antt: this holds if d is accepted with n up to `largest`;
+-- `as_10` is the case of document 01's largest n.
 pub record AnswersAs (largest : ℕ) (d : List ℕ) : Type 0 where
   -- what the bytes describe
   pub description : describe d ≡ describe_up_to largest d

@@ -44,14 +44,14 @@ TrialsAlike =
     (p : Decoder) (restart : Restart) (mask : List ℕ) (c : Code) (v : List ℤ) (start : ℕ)
     → trials_of p restart mask (starting_at start c) v ≡ trials_of p restart mask c v
 
--- Given bits pass with at most one start: `one-start` of proofs/Silence.antt. So of all starts of a code at most one for each trial accepts silence.
+-- Given bits pass with at most one start: `one_start` of proofs/Silence.antt. So of all starts of a code at most one for each trial accepts silence.
 abbrev pub OneStart : Type 0
 OneStart =
     (d : List ℕ) (c : Code) (bits : List ℕ) (s s' : ℕ) → describe d ≡ Description.Accepted c → Bits bits → s < 2 ^ c.r → s' < 2 ^ c.r
     → trial_passes (mask_of d) (starting_at s c) bits ≡ true → trial_passes (mask_of d) (starting_at s' c) bits ≡ true → s ≡ s'
 
 -- Document 01's operations by themselves: a description of kind 1, its mask from byte 8 on, and the check with start 0, which is the one of
--- payload · z^r (`check-multiple-zero` and `check-only-zero` of crc/proofs/Message.antt). `encode-kind-1`, `resume-kind-1` and `decode-kind-1`
+-- payload · z^r (`check_multiple_zero` and `check_only_zero` of crc/proofs/Message.antt). `encode_kind_1`, `resume_kind_1` and `decode_kind_1`
 -- of proofs/TwoKinds.antt: these are the answers under every slice that does not say kind 4.
 
 -- encode

@@ -1,4 +1,4 @@
--- Document 02, request 2.1: "With a nonzero start, the zero vector must fail trial 1." `trial-1-fails`, `silence-fails` and `silence-later` of
+-- Document 02, request 2.1: "With a nonzero start, the zero vector must fail trial 1." `trial_1_fails`, `silence_fails` and `silence-later` of
 -- proofs/Silence.antt prove it of every code and every decoder at every restart.
 use Rattle.std.specs.Prelude.{◌≡◌, false, List, ℕ, ◌*◌, ◌<◌, ◌≤◌, length, replicate}
 use Rattle.refusal.specs.declared.Judgement.TheVariants.{Fine}

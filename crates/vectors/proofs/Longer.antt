@@ -38,7 +38,7 @@ long n =
 abbrev long_code : ℕ → Code
 long_code n = record { n = n; r = 1; polynomial = 1; start = 0; k = 2 ^ n / 2 - 1 }
 
--- n = 3 is D's. If n may be at most 10, 10 is accepted, and 11, 12 and 13 are refused as 4; of these 11 and 12 are accepted with `largestN`.
+-- n = 3 is D's. If n may be at most 10, 10 is accepted, and 11, 12 and 13 are refused as 4; of these 11 and 12 are accepted with `largest_n`.
 pub long_rows :
     (long 3 ≡ D)
     × (describe_up_to 10 D ≡ Accepted (long_code 3))

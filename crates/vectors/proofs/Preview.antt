@@ -52,7 +52,7 @@ in_bounds =
     subst (Bounds wide_code (added heard_once second_v).1) both-accepted
     (held-bounds wide_d wide_code (add vector ∷ clear ∷ add first_v ∷ add second_v ∷ []) describes)
 
--- the second hearing would settle the frame: for every T that 14 allows, whatever byte the output held; `neither-decodes` has what each alone gives
+-- the second hearing would settle the frame: for every T that 14 allows, whatever byte the output held; `neither_decodes` has what each alone gives
 pub second_settles : (T byte : ℕ) → 1 ≤ T → T ≤ 5 → previewed heard_once second_v T (byte ∷ []) ≡ (Accepted 1 24, 0x80 ∷ [])
 second_settles T byte least most =
     let held = (previews second_v).sums second_fine in

@@ -1,4 +1,4 @@
--- Document 02, request 2.2: theorems on the sets that are tried, on the frames of `set-examples`. Every premise of a theorem is met, so none can become
+-- Document 02, request 2.2: theorems on the sets that are tried, on the frames of `set_examples`. Every premise of a theorem is met, so none can become
 -- one that nothing meets.
 use mathlib.Core.Path.{◌≡◌, refl, sym, ap, ◌∙◌, subst}
 use mathlib.Core.List.{List, [], ◌∷◌, map, Memᴰ}
@@ -27,7 +27,7 @@ use Rattle.decoder_demands.proofs.Metrics.{metrics_fit}
 
 -- ---- the sets that are tried
 
--- the sets of restarted decoding on `usedUpV`
+-- the sets of restarted decoding on `used_up_v`
 tried-ten : tried_by (search_of AfterFlip 2 512) (mask_of wide_d) wide_code (channel_values used_up_v) ≡ ten
 tried-ten = tried-by (search_of AfterFlip 2 512) (mask_of wide_d) wide_code (channel_values used_up_v) ∙ (set_examples 0).used_up.2
 
@@ -45,11 +45,11 @@ EachFlips tried = (a : ℕ) → a < length tried → FlipSet (mask_of wide_d) 8 
 pub ten_flip : EachFlips ten
 ten_flip = subst EachFlips tried-ten (flip_set_each (search_of AfterFlip 2 512) (mask_of wide_d) wide_code (channel_values used_up_v))
 
--- the sets of restarted decoding on `equalV`
+-- the sets of restarted decoding on `equal_v`
 tried_equal : tried_by (search_of AfterFlip 2 4) (mask_of wide_d) wide_code (channel_values equal_v) ≡ (3 ∷ []) ∷ (3 ∷ 6 ∷ []) ∷ (5 ∷ []) ∷ []
 tried_equal = tried-by (search_of AfterFlip 2 4) (mask_of wide_d) wide_code (channel_values equal_v) ∙ (set_examples 0).by_first_entry.2
 
--- what failed trials on `equalV` generate, with w = 2 and T = 4
+-- what failed trials on `equal_v` generate, with w = 2 and T = 4
 abbrev generate_on : List ℕ → List Candidate
 generate_on = generated_by (search_of AfterFlip 2 4) (mask_of wide_d) wide_code (channel_values equal_v)
 
@@ -68,7 +68,7 @@ singles_on_vector = singles (mask_of wide_d) wide_code (channel_values vector)
 pub singles_are : map (λ i. i ∷ []) (take 4 singles_on_vector.is) ≡ (3 ∷ []) ∷ (5 ∷ []) ∷ (6 ∷ []) ∷ (7 ∷ []) ∷ []
 singles_are = sym (singles_on_vector.sets_are AfterFlip 5) ∙ tried-by (search_of AfterFlip 1 5) (mask_of wide_d) wide_code (channel_values vector) ∙ (set_examples 0).by_metric.1
 
--- of the untried sets the least is tried first, on `equalV` three times: when [3] has been tried, that is [3, 6]
+-- of the untried sets the least is tried first, on `equal_v` three times: when [3] has been tried, that is [3, 6]
 pub least_on_equal : (t : ℕ) → t < 3 → LeastFirst (search_of AfterFlip 2 4) (mask_of wide_d) wide_code (channel_values equal_v) t
 least_on_equal t l = least_first (search_of AfterFlip 2 4) (mask_of wide_d) wide_code (channel_values equal_v) t (omega (arith, ap length tried_equal))
 

@@ -16,6 +16,6 @@ unfoldable pub walked : List ℕ → ℕ → Walk
 walked mask zero = at_start
 walked mask (suc n) = looked mask (walked mask n)
 
--- n looks are counted as n, and the ones are those of the indices below n: `walk-counts` of proofs/Walked.antt
+-- n looks are counted as n, and the ones are those of the indices below n: `walk_counts` of proofs/Walked.antt
 abbrev pub WalkCounts : Type 0
 WalkCounts = (mask : List ℕ) (n : ℕ) → ((walked mask n).looks ≡ n) × ((walked mask n).ones ≡ ones_below mask n)

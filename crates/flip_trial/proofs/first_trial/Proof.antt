@@ -1,4 +1,4 @@
--- `flip_trial::first_trial` meets its contract, by `first-post` of proofs/Passes.antt.
+-- `flip_trial::first_trial` meets its contract, by `first_post` of proofs/Passes.antt.
 use native.Mathlib.Omega.{arith}
 use borrow.Author.Rules.{rules}
 use Rattle.arrays.proofs.Sizes.{fits}
