@@ -32,19 +32,19 @@ loop-holds c = (filling_none, refl, refl)
 
 -- the products
 abbrev p : tie.In-loop-i invariant-loop decreases-loop → ℕ → Float
-p c = let s = c.before.before.before.before in product s.args.scale s.args.samples.now
+p c = product c.args.scale c.args.samples.now
 
 -- each that is made is a number
 number : (c : tie.In-loop-i invariant-loop decreases-loop) → T (not (is_nan (p c c.loop-i.i)))
 number c = admitted-number c.requires c.loop-i.i (omega arith)
 
-counted : (c : tie.After-quantise_one-level invariant-loop decreases-loop) → c.loop-i.clipped + c.quantise_one-level.result.clipped ≡ clipped_of (p c.before) (suc c.loop-i.i)
+counted : (c : tie.After-quantise_one-level invariant-loop decreases-loop) → c.loop-i.clipped + c.quantise_one-level.result.clipped ≡ clipped_of (p c.before.before) (suc c.loop-i.i)
 unfolding clipped_of
 counted c = ap₂ (λ (x y : ℕ). x + y) c.loop-i.invariant.2 (ap (λ (x : Level). x.clipped) c.quantise_one-level.ensures)
 
 add-clipped : tie.Need-overflow_add-clipped invariant-loop decreases-loop
 add-clipped c =
-    omega (arith, counted c.before, clipped_le (p c.before) (suc c.loop-i.i))
+    omega (arith, counted c.before, clipped_le (p c.before.before.before) (suc c.loop-i.i))
 
 loop-again : tie.Need-loop-i-preserved invariant-loop decreases-loop
 unfolding peak_of

@@ -35,7 +35,7 @@ past-1 : (c : tie.Else-samples-output) → judge (from 0 (s1 c)) ≡ judge (from
 past-1 c = judge_no _ _ _ (differs_no _ _ c.if-samples-output.false)
 
 past-2 : (c : tie.Else-not-is_valid) → judge (from 0 (s2 c)) ≡ judge (from 2 (s2 c))
-past-2 c = past-1 c.before.before ∙ judge_no _ _ _ (ap not (sym c.is_valid.ensures) ∙ c.if-not-is_valid.false)
+past-2 c = past-1 c.before.before ∙ judge_no _ _ _ (ap not (sym c.is_valid.ensures ∙ c.if-not-is_valid.false))
 
 past-3 : (c : tie.Else-index-samples) → judge (from 0 (s3 c)) ≡ judge (from 3 (s3 c))
 past-3 c =
@@ -46,11 +46,11 @@ returns : tie.Need-returns-then-samples-output
 returns c = sym (judge_yes _ _ _ (ap not (ne_eqb _ _ c.if-samples-output.true)))
 
 returns-2 : tie.Need-returns-then-not-is_valid
-returns-2 c = sym (past-1 c.before.before ∙ judge_yes _ _ _ (ap not (sym c.is_valid.ensures) ∙ c.if-not-is_valid.true))
+returns-2 c = sym (past-1 c.before.before ∙ judge_yes _ _ _ (ap not (sym c.is_valid.ensures ∙ c.if-not-is_valid.true)))
 
 returns-3 : tie.Need-returns-then-index-samples
 returns-3 c =
-    let samples = (s2 c.before).args.samples.now in
+    let samples = c.args.samples.now in
     ap (λ (k : ℕ). Refused (At 22 k)) c.first_nan-index.ensures
     ∙ sym (past-2 c.before.before ∙ judge_yes _ _ _ (lt-ltb (first_nan samples) (length samples) (omega arith)))
 

@@ -9,12 +9,8 @@ use Rattle.quantiser.proofs.WellFormed.{fine_well_formed}
 use Rattle.quantiser.proofs.quantise.Statement.{statement}
 use Rattle.quantiser.proofs.quantise.Tie as tie
 
--- the call's start, from the judgement
-abbrev start : tie.After-judge_quantising → tie.Start
-start j = j.before.before.before.before
-
 -- no refusal applies
-fine : (t : tie.In-Fine) → let s = (start t.before).args in judge (quantising_refusals s.scale s.samples.now s.output.now) ≡ Fine
+fine : (t : tie.In-Fine) → let s = t.args in judge (quantising_refusals s.scale s.samples.now s.output.now) ≡ Fine
 fine t = sym t.judge_quantising.ensures ∙ t.in-Fine.is
 
 returns : tie.Need-returns-in-Fine
