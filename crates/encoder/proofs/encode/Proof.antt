@@ -25,7 +25,7 @@ module _ (c : tie.In-Accepted) where
   d = c.args.description.now
 
   abbrev code : Code
-  code = c.in-Accepted.FIELD0
+  code = c.in-Accepted.code
 
   accepted : Accepted code ≡ describe d
   accepted = sym c.in-Accepted.is ∙ c.read_description.ensures

@@ -67,7 +67,7 @@ module _ (c : tie.After-message_of) where
 
 place-requires : tie.Need-place-requires
 place-requires c κs =
-    let m = c.before.before.before.before in
+    let m = c.before.before.before in
     let p = (s m).requires in
     let bits : Bits (message m) = subst Bits (sym (message-is m)) (bits-message (s m).args.code _ (bits-unpacked _ _)) in (
       record {

@@ -72,7 +72,7 @@ fits-room : (s : tie.Start) → length s.args.output.now ≤ longest
 fits-room s = omega (arith, mask_fits s.requires.n_most s.requires.output_size)
 
 copy-requires : tie.Need-copy-requires
-copy-requires c κs = let s = c.before.before.before in (omega arith, omega (arith, s.requires.room_size, fits-room s))
+copy-requires c κs = let s = c.before.before in (omega arith, omega (arith, s.requires.room_size, fits-room s))
 
 transform-packed-requires : tie.Need-transform_packed-requires
 transform-packed-requires c κs =
@@ -95,7 +95,7 @@ copy-requires-2 c κs = let t = c.before.before.before in (omega (arith, whole t
 
 returns : tie.Need-returns
 returns c =
-    c.copy-2.ensures ∙ word-put (s c.before.before.before.before.before.before).requires (fits-room (s c.before)) (k c.before.before.before.before.before.before).copy.ensures c.transform_packed.ensures
+    c.copy-2.ensures ∙ word-put (s c.before.before.before.before.before.before).requires (fits-room (s c.before.before.before.before.before.before)) (k c.before.before.before.before.before.before).copy.ensures c.transform_packed.ensures
 
 pub transform_in_spec : {M : Type 1} → statement M
 transform_in_spec =

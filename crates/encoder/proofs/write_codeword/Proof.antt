@@ -37,7 +37,7 @@ module _ (c : tie.After-place_message) where
   output = c.place_message.new.output
 
   long : 8 * length output ≡ code_length s.args.code
-  long = omega (arith, c.place_message.auto.output, s.requires.1.output_size, s.requires.0.mask_Size)
+  long = omega (arith, c.place_message.auto.output, s.requires.1.output_size, s.requires.0.mask_size)
 
   bits : unpacked output (code_length s.args.code) ≡ u
   bits =
