@@ -1,5 +1,6 @@
 // The longest code, the working arrays that are made for it, and lists with zeros after them.
 #![tactic(auto)]
+
 ghost use Rattle.std.specs.Prelude.{◌≡◌, ◌+◌, ◌≤◌, min, max, length, drop};
 ghost use Rattle.laws.specs.Clauses.{splice, segment};
 ghost use Rattle.arrays.specs.Padded.{all_zero};

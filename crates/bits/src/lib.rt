@@ -1,5 +1,6 @@
 // Bits in bytes: a mask's bits, least bit first, and packed bits, highest bit first.
 #![tactic(auto)]
+
 ghost use Rattle.std.specs.Prelude.{◌≡◌, ◌*◌, ◌<◌, ◌≤◌, length, get_or};
 ghost use Rattle.bits.specs.Bit.{bit};
 ghost use Rattle.bits.specs.Claims.{Bits};

@@ -1,5 +1,6 @@
 // Channel values: bytes in two's complement, their range, and refusals 12 and 13.
 #![tactic(auto)]
+
 ghost use Rattle.std.specs.Prelude.{◌≡◌, not, ◌≤◌, ltb, eqb, nat_abs, length};
 ghost use Rattle.refusal.specs.Judge.{judge};
 ghost use Rattle.arrays.specs.Sizes.{largest_n};

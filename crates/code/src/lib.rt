@@ -1,5 +1,6 @@
 // Code descriptions: records of kinds 1 and 4.
 #![tactic(auto)]
+
 ghost use Rattle.std.specs.Prelude.{◌≡◌, cond, ◌+◌, ◌<◌, ◌≤◌, ltb, length, take, drop};
 ghost use Rattle.refusal.specs.Judge.{judge};
 ghost use Rattle.code.specs.Description.{word, has_start, is_description, mask_at, mask_of, start_of, is_wide, bad_polynomial, describe};

@@ -1,5 +1,6 @@
 // The cyclic check: a register of r bits, into which the payload goes bit by bit. Bits are bytes of 0 and 1.
 #![tactic(auto)]
+
 ghost use Rattle.std.specs.Prelude.{◌≡◌, ◌++◌, ◌+◌, ◌*◌, ◌%◌, ◌^◌, ◌<◌, ◌≤◌, length, take, drop};
 ghost use Rattle.laws.specs.Clauses.{splice};
 ghost use Rattle.bits.specs.Bit.{bit, bits_of};

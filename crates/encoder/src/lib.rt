@@ -1,5 +1,6 @@
 // The encoder.
 #![tactic(auto)]
+
 ghost use Rattle.std.specs.Prelude.{◌≡◌, ◌^◌, length};
 ghost use Rattle.refusal.specs.Judge.{differs, judge};
 ghost use Rattle.bits.specs.Packing.{bytes_for, packed, unpacked, unused_bits};

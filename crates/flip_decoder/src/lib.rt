@@ -1,5 +1,6 @@
 // Flip decoding: full, by half restart, and restarted.
 #![tactic(auto)]
+
 ghost use Rattle.std.specs.Prelude.{◌≡◌, ◌≤◌};
 ghost use Rattle.refusal.specs.Judge.{judge};
 ghost use Rattle.arrays.specs.Claims.{longest};

@@ -1,5 +1,6 @@
 // The order of flipped indices: each information index has a key, and the next one in order has the least key above the last.
 #![tactic(auto)]
+
 ghost use Rattle.std.specs.Prelude.{◌≡◌, ◌%◌, ◌≤◌, pos, nat_abs, length};
 ghost use Rattle.arrays.specs.Claims.{longest};
 ghost use Rattle.flip_order.specs.Clauses.{KeyPre, KeysPre, key_under, keys_of, above, lesser, least_above};

@@ -1,5 +1,6 @@
 // The run of trials of flip decoding.
 #![tactic(auto)]
+
 ghost use Rattle.std.specs.Prelude.{◌≡◌, ◌≤◌, length, take};
 ghost use Rattle.bits.specs.Packing.{bytes_for};
 ghost use Rattle.pass_ends.specs.Clauses.{arrays, Whole};

@@ -1,5 +1,6 @@
 // One trial of flip decoding: trial 1, a later trial, and its check.
 #![tactic(auto)]
+
 ghost use Rattle.std.specs.Prelude.{◌≡◌, ◌+◌, ◌-◌, ◌*◌, ◌≤◌, ◌<◌, length, take, get_or, replicate};
 ghost use Rattle.laws.specs.Clauses.{splice};
 ghost use Rattle.code.specs.Code.{code_length, information_count};

@@ -1,5 +1,6 @@
 // The combined values of a frame that is heard more than once: sums, the refusals of an add, and the test of values and count.
 #![tactic(auto)]
+
 ghost use Rattle.std.specs.Prelude.{◌≡◌, ◌^◌, ◌≤◌, eqb, nat_abs, length, take};
 ghost use Rattle.laws.specs.Clauses.{splice};
 ghost use Rattle.refusal.specs.Judge.{judge};

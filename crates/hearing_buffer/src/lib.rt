@@ -1,5 +1,6 @@
 // A state in a buffer that the caller lends, and the operations on it.
 #![tactic(auto)]
+
 ghost use Rattle.std.specs.Prelude.{◌≡◌, ◌++◌, ◌-◌, ◌≤◌, length, take, replicate};
 ghost use Rattle.code.specs.Code.{longest_description};
 ghost use Rattle.decoder.specs.Decoder.{single, decoded_as};

@@ -1,5 +1,6 @@
 // A vector that is tried before it is kept: an add to a copy of the values in a buffer, and restarted decoding of the sums.
 #![tactic(auto)]
+
 ghost use Rattle.std.specs.Prelude.{◌≡◌};
 ghost use Rattle.hearing.specs.Hearing.{added_to};
 ghost use Rattle.hearing_state.specs.State.{code_of_state, with_hearing, decoded_held_with};

@@ -1,5 +1,6 @@
 // What is kept of a frame that is heard more than once, by its parts: the code of a state, and decoding of its values.
 #![tactic(auto)]
+
 ghost use Rattle.std.specs.Prelude.{◌≡◌, ◌≤◌, length, take, drop};
 ghost use Rattle.arrays.specs.Sizes.{largest_n};
 ghost use Rattle.arrays.specs.Padded.{all_zero};

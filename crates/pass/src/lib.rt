@@ -1,5 +1,6 @@
 // One decoding pass by successive cancellation.
 #![tactic(auto)]
+
 ghost use Rattle.std.specs.Prelude.{◌≡◌, ◌&&◌, ◌+◌, ◌*◌, ◌≤◌, eqb, leb, length};
 ghost use Rattle.laws.specs.Clauses.{segment};
 ghost use Rattle.values.specs.Values.{mask_rule};

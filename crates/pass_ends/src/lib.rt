@@ -1,5 +1,6 @@
 // Nodes of the tree that end the recursion: all bits forced, a leaf, and small nodes with no forced bit.
 #![tactic(auto)]
+
 ghost use Rattle.std.specs.Prelude.{◌≡◌, [], ◌∷◌, ◌+◌, ◌^◌, ◌<◌, ◌≤◌, nat_abs, length, get_or};
 ghost use Rattle.laws.specs.Clauses.{splice, segment};
 ghost use Rattle.arrays.specs.Sizes.{largest_n};

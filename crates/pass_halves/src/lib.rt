@@ -1,5 +1,6 @@
 // The values of a node's halves, in place.
 #![tactic(auto)]
+
 ghost use Rattle.std.specs.Prelude.{◌+◌, ◌≤◌};
 ghost use Rattle.laws.specs.Clauses.{segment};
 ghost use Rattle.values.specs.Values.{right_values, left_values};

@@ -1,5 +1,6 @@
 // Resume: one decoding pass whose first bits are given.
 #![tactic(auto)]
+
 ghost use Rattle.std.specs.Prelude.{◌≡◌, ◌*◌, ◌≤◌, length};
 ghost use Rattle.refusal.specs.Judge.{judge};
 ghost use Rattle.code.specs.Claims.{Coded};

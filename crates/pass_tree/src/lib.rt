@@ -1,5 +1,6 @@
 // The work of a node of the tree.
 #![tactic(auto)]
+
 ghost use Rattle.std.specs.Prelude.{◌≡◌, [], ◌+◌, ◌^◌, ◌<◌};
 ghost use Rattle.pass_tree.specs.Node.{work_of, plus_work};
 ghost use Rattle.pass_tree.specs.Clauses.{counted};

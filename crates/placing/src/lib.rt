@@ -1,5 +1,6 @@
 // Placing bits by a mask, and taking them out again. Each walks the mask once, counts its looks and keeps the count of ones.
 #![tactic(auto)]
+
 ghost use Rattle.std.specs.Prelude.{◌≡◌, cond, ◌+◌, ◌*◌, ◌≤◌, ◌<◌, eqb, length, get_or, set};
 ghost use Rattle.laws.specs.Clauses.{splice};
 ghost use Rattle.placing.specs.Place.{taken, placed};

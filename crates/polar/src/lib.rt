@@ -1,5 +1,6 @@
 // The codec for host firmware in C; include/polar.h has the prototypes.
 #![tactic(auto)]
+
 ghost use Rattle.std.specs.Prelude.{◌≡◌};
 ghost use Rattle.encoder.specs.Encode.{encoded};
 ghost use Rattle.pass_resume.specs.Resume.{resumed};

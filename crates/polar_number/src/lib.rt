@@ -1,5 +1,6 @@
 // The number that an answer comes back as to C.
 #![tactic(auto)]
+
 ghost use Rattle.std.specs.Prelude.{◌≡◌, ◌<◌, ◌^◌};
 ghost use Rattle.polar_number.specs.Number.{parts, packed_parts, refusal_parts, encoded_parts, resumed_parts, decoded_parts, kept_parts};
 ghost use Rattle.polar_number.specs.Clauses.{Fitting};

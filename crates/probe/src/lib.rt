@@ -1,6 +1,7 @@
 // Exports for tests only: what document 01 does not export to C. None has a `requires`: a call that the tested function does not admit is
 // answered by a number that is no result.
 #![tactic(auto)]
+
 ghost use Rattle.std.specs.Prelude.{◌≡◌};
 ghost use Rattle.refusal.specs.Judge.{number_of};
 ghost use Rattle.code.specs.Description.{describe};

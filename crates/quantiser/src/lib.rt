@@ -1,5 +1,6 @@
 // The sample quantiser: samples times a scale, as channel values in quarter units.
 #![tactic(auto)]
+
 ghost use Rattle.std.specs.Prelude.{◌≡◌};
 ghost use Rattle.refusal.specs.Judge.{judge};
 ghost use Rattle.quantiser.specs.Quantise.{larger, valid_scale, first_nan, quantising_refusals, quantised};

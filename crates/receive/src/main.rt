@@ -1,6 +1,7 @@
 // Reads records from standard input, and prints a line for each. What is read next, what is printed and when it is written is decided and proved
 // in `receive_stream`: this file only reads and writes.
 #![tactic(auto)]
+
 ghost use Rattle.receive.specs.Clauses.{Rooms, StreamOver};
 
 use code::LONGEST;

@@ -1,5 +1,6 @@
 // The line of a channel record: restarted decoding under the description that is held.
 #![tactic(auto)]
+
 ghost use Rattle.std.specs.Prelude.{◌≤◌, length};
 ghost use Rattle.refusal.specs.Judge.{number_of};
 ghost use Rattle.code.specs.Claims.{Coded};

@@ -1,5 +1,6 @@
 // The lines that `receive` prints, put into a buffer.
 #![tactic(auto)]
+
 ghost use Rattle.std.specs.Prelude.{◌≡◌, [], ◌∷◌, ◌+◌, ◌*◌, ◌≤◌, ◌<◌, length};
 ghost use Rattle.receive_lines.specs.Line.{decimal, hex_digit, hex, code_line, ok_line, cut_line, end_line, line as line_of};
 ghost use Rattle.receive_lines.specs.Clauses.{spaced, PutPost};

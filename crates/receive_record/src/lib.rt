@@ -1,5 +1,6 @@
 // What `receive` does with one record: the line that it prints, and the description that it holds.
 #![tactic(auto)]
+
 ghost use Rattle.std.specs.Prelude.{◌≡◌, ◌≤◌, ◌<◌, length, take};
 ghost use Rattle.receive_record.specs.Clauses.{RespondPre, RespondPost, header_of};
 ghost use Rattle.receive_record.specs.Respond.{description_response, responded};

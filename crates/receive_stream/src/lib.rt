@@ -1,6 +1,7 @@
 // What `receive` prints for a stream of records: how many bytes it reads next, what they say, and when its output is written. The program only
 // reads and writes.
 #![tactic(auto)]
+
 ghost use Rattle.std.specs.Prelude.{◌≡◌, ◌++◌, ◌+◌, ◌≤◌, ◌<◌, length};
 ghost use Rattle.receive_lines.specs.Line.{cut_line, end_line};
 ghost use Rattle.receive_stream.specs.Clauses.{room, most_turns, starting, ahead_of, Fits};

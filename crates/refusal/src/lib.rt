@@ -1,5 +1,6 @@
 // Refusals as data.
 #![tactic(auto)]
+
 ghost use Rattle.std.specs.Prelude.{◌≡◌};
 ghost use Rattle.refusal.specs.Judge.{outside, number_of};
 

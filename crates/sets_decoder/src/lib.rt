@@ -1,5 +1,6 @@
 // Decoding by sets of flipped indices: full, by half restart, and restarted.
 #![tactic(auto)]
+
 ghost use Rattle.std.specs.Prelude.{◌≡◌, ◌≤◌};
 ghost use Rattle.refusal.specs.Judge.{outside, judge};
 ghost use Rattle.arrays.specs.Claims.{longest};

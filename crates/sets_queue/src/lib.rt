@@ -1,5 +1,6 @@
 // The untried sets of a search, in order, each as one number.
 #![tactic(auto)]
+
 ghost use Rattle.std.specs.Prelude.{◌≡◌, [], ◌∷◌, map, ◌*◌, ◌^◌, ◌≤◌, ◌<◌, length, take};
 ghost use Rattle.flip_order.specs.Order.{magnitude_at};
 ghost use Rattle.flip_order.specs.Clauses.{most_magnitude};

@@ -1,5 +1,6 @@
 // The run of trials of decoding by sets.
 #![tactic(auto)]
+
 ghost use Rattle.std.specs.Prelude.{◌≡◌, map, ◌-◌, ◌*◌, ◌≤◌, ◌<◌, length, take};
 ghost use Rattle.laws.specs.Clauses.{splice};
 ghost use Rattle.pass_ends.specs.Clauses.{arrays, Whole};

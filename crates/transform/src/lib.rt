@@ -1,5 +1,6 @@
 // The polar transform, in place: of bits, one a byte, on a segment of a working array, and of packed bits.
 #![tactic(auto)]
+
 ghost use Rattle.std.specs.Prelude.{◌≡◌, ◌+◌, ◌*◌, ◌^◌, get_or};
 ghost use Rattle.laws.specs.Table.{table};
 ghost use Rattle.laws.specs.Clauses.{splice, segment};

@@ -1,5 +1,6 @@
 // The values of a node, and the decision at a leaf.
 #![tactic(auto)]
+
 ghost use Rattle.std.specs.Prelude.{◌≡◌, ◌+◌, ◌^◌, ◌<◌, min, pos, nat_abs};
 ghost use Rattle.values.specs.Values.{decided, g, f, hard};
 ghost use Rattle.values.specs.Clauses.{rule_of};

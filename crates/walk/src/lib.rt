@@ -1,5 +1,6 @@
 // A walk along a mask. Its counts are private: only `start` and `look` make a walk, so that n looks are reported by n calls of `look` alone.
 #![tactic(auto)]
+
 ghost use Rattle.std.specs.Prelude.{◌≡◌, ◌*◌, ◌^◌, ◌≤◌, ◌<◌, length};
 ghost use Rattle.bits.specs.Mask.{mask_bit};
 ghost use Rattle.walk.specs.Walked.{at_start, looked};

@@ -213,12 +213,11 @@ loop-again c =
     )
 
 returns-2 : tie.Need-returns invariant-loop decreases-loop
-returns-2 c =
-    (
-      subst (λ (w : Verdict). Ran (mask c.before) (s c.before).args.code w (Failed c.loop-made.made c.loop-made.steps) c.loop-made.sums)
-          (sym ((s c.before).requires.2.later.goes_on _ ∙ loop_ends (going c.before) (long c.before) c.loop-made-test.false)) refl,
-      c.loop-made.invariant.3.sums,
-    )
+returns-2 c = (
+  subst (λ (w : Verdict). Ran (mask c.before) (s c.before).args.code w (Failed c.loop-made.made c.loop-made.steps) c.loop-made.sums)
+      (sym ((s c.before).requires.2.later.goes_on _ ∙ loop_ends (going c.before) (long c.before) c.loop-made-test.false)) refl,
+  c.loop-made.invariant.3.sums,
+)
 
 pub flip_trials_spec : {M : Type 1} → statement M
 flip_trials_spec =

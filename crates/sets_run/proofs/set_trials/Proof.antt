@@ -231,12 +231,11 @@ loop-again c =
     )
 
 returns-2 : tie.Need-returns invariant-loop decreases-loop
-returns-2 c =
-    (
-      subst (λ (w : Verdict). Ran (mask c.before) (s c.before).args.code w (Failed (c.loop-at.at + 1) c.loop-at.steps) c.loop-at.sums)
-          (sym ((s c.before).requires.1.goes_on _ ∙ search_ends (going c.before) c.loop-at-test.false)) refl,
-      c.loop-at.invariant.2.sums,
-    )
+returns-2 c = (
+  subst (λ (w : Verdict). Ran (mask c.before) (s c.before).args.code w (Failed (c.loop-at.at + 1) c.loop-at.steps) c.loop-at.sums)
+      (sym ((s c.before).requires.1.goes_on _ ∙ search_ends (going c.before) c.loop-at-test.false)) refl,
+  c.loop-at.invariant.2.sums,
+)
 
 pub set_trials_spec : {M : Type 1} → statement M
 set_trials_spec =
