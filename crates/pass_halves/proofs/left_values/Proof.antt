@@ -29,7 +29,7 @@ loop-again : tie.Need-loop-j-preserved invariant-loop decreases-loop
 loop-again c =
     let p = c.requires in
     let inv = c.loop-j.invariant in
-    left-turn (record { sfits = c.f.type-inv }) (omega arith) inv (own_reads p inv.filling (omega arith)) c.f.ensures
+    left-turn (record { sfits = c.f.type_inv }) (omega arith) inv (own_reads p inv.filling (omega arith)) c.f.ensures
 
 returns-2 : tie.Need-returns invariant-loop decreases-loop
 unfolding left_values

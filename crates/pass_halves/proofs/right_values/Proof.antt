@@ -26,7 +26,7 @@ loop-again : tie.Need-loop-j-preserved invariant-loop decreases-loop
 loop-again c =
     let l = c.loop-j in
     let sum = sym (get_or-segment c.args.sums.now c.args.base c.args.h l.j 0 (omega arith)) in
-    right-turn (record { sfits = c.g.type-inv }) (omega arith) (segment c.args.sums.now c.args.base c.args.h) l.invariant (own_reads c.requires.0 l.invariant.filling (omega arith)) sum c.g.ensures
+    right-turn (record { sfits = c.g.type_inv }) (omega arith) (segment c.args.sums.now c.args.base c.args.h) l.invariant (own_reads c.requires.0 l.invariant.filling (omega arith)) sum c.g.ensures
 
 returns : tie.Need-returns invariant-loop decreases-loop
 unfolding right_values

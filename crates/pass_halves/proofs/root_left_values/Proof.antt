@@ -34,7 +34,7 @@ f-requires : tie.Need-f-requires invariant-loop decreases-loop
 f-requires c κs = let few = addable_reads (omega arith) (s c).requires.small (reads c) in (omega (arith, few), omega (arith, few))
 
 loop-again : tie.Need-loop-j-preserved invariant-loop decreases-loop
-loop-again c = left-turn (record { sfits = c.f.type-inv }) (omega arith) (l c.before).loop-j.invariant (reads c.before) c.f.ensures
+loop-again c = left-turn (record { sfits = c.f.type_inv }) (omega arith) (l c.before).loop-j.invariant (reads c.before) c.f.ensures
 
 returns-2 : tie.Need-returns invariant-loop decreases-loop
 unfolding left_values

@@ -29,13 +29,13 @@ module _ (c : tie.After-channel_value-in-loop-j invariant-loop decreases-loop) w
   reads = channel_reads s.args.channel.now s.args.h l.loop-j.j s.requires.small c.channel_value.ensures c.channel_value-in-loop-j.ensures
 
 g-requires : tie.Need-g-requires invariant-loop decreases-loop
-g-requires c κs = addable_reads (omega arith) (s c.before).requires.small (reads c.before)
+g-requires c κs = addable_reads (omega arith) (s c.before.before).requires.small (reads c.before.before)
 
 loop-again : tie.Need-loop-j-preserved invariant-loop decreases-loop
 loop-again c =
     let t = (s c.before.before.before).args in
     let at = (l c.before.before.before).loop-j in
-    right-turn (record { sfits = c.g.type-inv }) (omega arith) (segment t.sums.now 0 t.h) at.invariant (reads c.before.before.before) (sym (get_or-take t.h t.sums.now at.j 0 (omega arith))) c.g.ensures
+    right-turn (record { sfits = c.g.type_inv }) (omega arith) (segment t.sums.now 0 t.h) at.invariant (reads c.before.before.before) (sym (get_or-take t.h t.sums.now at.j 0 (omega arith))) c.g.ensures
 
 returns : tie.Need-returns invariant-loop decreases-loop
 unfolding right_values
