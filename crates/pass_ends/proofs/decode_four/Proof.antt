@@ -56,8 +56,8 @@ module _ (k : tie.After-f-2) where
   unfolding left_values table
   left-own =
       ap₂ (λ (x y : ℤ). x ∷ y ∷ [])
-      (back_is w32 k.f.result (record { sfits = k.f.ok }) ∙ k.f.ensures ∙ ap₂ f (own s 0 (omega arith)) (own s 2 (omega arith)))
-      (back_is w32 k.f-2.result (record { sfits = k.f-2.ok }) ∙ k.f-2.ensures ∙ ap₂ f (own s 1 (omega arith)) (own s 3 (omega arith)))
+      (back_is w32 k.f.result (record { sfits = k.f.type_inv }) ∙ k.f.ensures ∙ ap₂ f (own s 0 (omega arith)) (own s 2 (omega arith)))
+      (back_is w32 k.f-2.result (record { sfits = k.f-2.type_inv }) ∙ k.f-2.ensures ∙ ap₂ f (own s 1 (omega arith)) (own s 3 (omega arith)))
 
 decode-two-requires : tie.Need-decode_two-l-requires
 decode-two-requires c κs =
@@ -72,7 +72,7 @@ module _ (l : tie.After-decode_two-l) where
   m = l.before.before.before.before
 
   abbrev sums : List ℕ
-  sums = l.decode_two-l.last.1.1.1.1.1.0
+  sums = l.decode_two-l.new.sums
 
 -- after the right values
 module _ (n : tie.After-g-2) where
@@ -91,8 +91,8 @@ module _ (n : tie.After-g-2) where
       let s₀ = ap (λ (i : ℕ). get_or (sums l) i 0) (sym (add-zero base)) ∙ sym (get_or-segment (sums l) base 2 0 0 (omega arith)) in
       let s₁ = sym (get_or-segment (sums l) base 2 1 0 (omega arith)) in
       ap₂ (λ (x y : ℤ). x ∷ y ∷ [])
-      (back_is w32 n.g.result (record { sfits = n.g.ok }) ∙ n.g.ensures ∙ (λ t. g (a t) (e t) (s₀ t)))
-      (back_is w32 n.g-2.result (record { sfits = n.g-2.ok }) ∙ n.g-2.ensures ∙ (λ t. g (b t) (d t) (s₁ t)))
+      (back_is w32 n.g.result (record { sfits = n.g.type_inv }) ∙ n.g.ensures ∙ (λ t. g (a t) (e t) (s₀ t)))
+      (back_is w32 n.g-2.result (record { sfits = n.g-2.type_inv }) ∙ n.g-2.ensures ∙ (λ t. g (b t) (d t) (s₁ t)))
 
 decode-two-requires-2 : tie.Need-decode_two-r-requires
 decode-two-requires-2 c κs =
@@ -127,10 +127,11 @@ total a b = let e : 4 + (a.steps + b.steps) ≡ 2 + a.steps + (2 + b.steps) = om
 
 returns : tie.Need-returns
 returns c =
-    let k = l (n c.before) in
-    let p = (start c.before.before.before.before.before).requires in
+    let r = c.before.before.before.before.before in
+    let k = l (n r) in
+    let p = (start r).requires in
     let work = c.plus-2.ensures ∙ ap₂ plus_work c.of.ensures c.plus.ensures ∙ total _ _ in
-    free_laid 1 _ (start c.before.before.before.before.before).args.rules.now (v (start c.before)) p.0 p.1 (left-own (m k)) k.decode_two-l.ensures (right-own (n c.before)) c.decode_two-r.ensures work c.combine.ensures
+    free_laid 1 _ (start r).args.rules.now (v (start r)) p.0 p.1 (left-own (m k)) k.decode_two-l.ensures (right-own (n r)) c.decode_two-r.ensures work c.combine.ensures
 
 pub decode_four_spec : {M : Type 1} → statement M
 decode_four_spec =
@@ -148,8 +149,8 @@ decode_four_spec =
     (λ c. search rules)
     (λ c. search rules)
     (λ c. search rules)
-    (λ c κs. small c.before.before.before.before.before.before.before.before.before.before.before.before 0 (omega arith))
-    (λ c κs. small c.before.before.before.before.before.before.before.before.before.before.before.before.before 1 (omega arith))
+    (λ c κs. small c.before.before.before.before.before.before.before.before.before.before.before.before.before 0 (omega arith))
+    (λ c κs. small c.before.before.before.before.before.before.before.before.before.before.before.before.before.before 1 (omega arith))
     decode-two-requires-2
     (λ c. search rules)
     combine-requires

@@ -23,10 +23,10 @@ module _ (s : tie.Start) where
   v = s.args.a ∷ s.args.b ∷ []
 
   first : back w32 s.args.a ≡ s.args.a
-  first = back_is w32 s.args.a s.fits.a
+  first = back_is w32 s.args.a s.ranges.a
 
   second : back w32 s.args.b ≡ s.args.b
-  second = back_is w32 s.args.b s.fits.b
+  second = back_is w32 s.args.b s.ranges.b
 
 f-requires : tie.Need-f-requires
 f-requires c κs = (omega (arith, ap nat_abs (first c), c.requires.2), omega (arith, ap nat_abs (second c), c.requires.2))
@@ -43,12 +43,12 @@ module _ (k : tie.After-leaf-first) where
   s = m.before
 
   abbrev sums : List ℕ
-  sums = k.leaf-first.last.1.1.1.1.0
+  sums = k.leaf-first.new.sums
 
   left-own : back w32 m.f.result ∷ [] ≡ left_values 1 (v s)
   unfolding left_values table
   left-own =
-      ap (λ (x : ℤ). x ∷ []) (back_is w32 m.f.result (record { sfits = m.f.ok }) ∙ m.f.ensures ∙ ap₂ f (first s) (second s))
+      ap (λ (x : ℤ). x ∷ []) (back_is w32 m.f.result (record { sfits = m.f.type_inv }) ∙ m.f.ensures ∙ ap₂ f (first s) (second s))
 
 leaf-requires-2 : tie.Need-leaf-requires
 leaf-requires-2 c κs =
@@ -70,7 +70,7 @@ module _ (r : tie.After-leaf) where
       let base = (s k).args.base in
       let sum = k.leaf-first.ensures.0 ∙ ap (λ (i : ℕ). get_or (sums k) i 0) (sym (add-zero base)) ∙ sym (get_or-segment (sums k) base 1 0 0 (omega arith)) in
       ap (λ (x : ℤ). x ∷ [])
-      (back_is w32 n.g.result (record { sfits = n.g.ok }) ∙ n.g.ensures ∙ (λ t. g (first (s k) t) (second (s k) t) (sum t)))
+      (back_is w32 n.g.result (record { sfits = n.g.type_inv }) ∙ n.g.ensures ∙ (λ t. g (first (s k) t) (second (s k) t) (sum t)))
 
 combine-requires : tie.Need-combine-requires
 combine-requires c κs =
@@ -80,8 +80,8 @@ combine-requires c κs =
 
 returns : tie.Need-returns
 returns c =
-    let p = (s (k c.before)).requires in
-    free_laid 0 _ (s (k c.before)).args.rules.now (v (s (k c.before))) p.0 p.1 (left-own (k c.before)) (k c.before.before.before).leaf-first.ensures.1 (right-own c.before.before.before) c.leaf.ensures.1 c.of.ensures c.combine.ensures
+    let p = (s (k c.before.before.before)).requires in
+    free_laid 0 _ (s (k c.before.before.before)).args.rules.now (v (s (k c.before.before.before))) p.0 p.1 (left-own (k c.before.before.before)) (k c.before.before.before).leaf-first.ensures.1 (right-own c.before.before.before) c.leaf.ensures.1 c.of.ensures c.combine.ensures
 
 pub decode_two_spec : {M : Type 1} → statement M
 decode_two_spec =
