@@ -230,9 +230,8 @@ fn digit_at(weight: u64, key: u64) -> usize
 pub fn indices_of(key: u64, set: &mut [usize; FLIPS]) -> usize
     requires { (0 < digit_at (base ^ 2) key)
         × (length set.old ≡ FLIPS) }
-    ensures* { do
-      ⌜ (take result set.new ≡ indices_of key)
-          × (result ≡ length (indices_of key)) ⌝ }
+    ensures { (take result set.new ≡ indices_of key)
+        × (result ≡ length (indices_of key)) }
 {
     set[0] = digit_at(BASE * BASE, key) - 1;
     let second = digit_at(BASE, key);

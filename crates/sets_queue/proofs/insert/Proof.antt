@@ -50,7 +50,7 @@ pub insert_spec : {M : Type 1} → statement M
 insert_spec =
     tie.close
     (tie.spec
-    (λ c κs. let p = c.before.before.requires in (p.low_most, omega (arith, p.count_most, p.room_most)))
+    (λ c κs. let p = c.requires in (p.low_most, omega (arith, p.count_most, p.room_most)))
     (λ c. search rules)
     returns
     (λ c. omega (arith, below c))

@@ -16,7 +16,7 @@ leaf-back s = back-small w32 _ s.requires.1
 
 magnitude-back : (c : tie.After-magnitude) → back w32 c.magnitude.result ≡ pos (magnitude_at c.args.leaves.now c.args.j)
 magnitude-back c =
-    back_is w32 c.magnitude.result (record { sfits = c.magnitude.type-inv }) ∙ c.magnitude.ensures ∙ ap (λ (z : ℤ). pos (nat_abs z)) (leaf-back c.before.before)
+    back_is w32 c.magnitude.result (record { sfits = c.magnitude.type_inv }) ∙ c.magnitude.ensures ∙ ap (λ (z : ℤ). pos (nat_abs z)) (leaf-back c.before.before)
 
 pub magnitude_at_spec : {M : Type 1} → statement M
 magnitude_at_spec =
