@@ -76,19 +76,19 @@ module _ (t : ℕ) where
 
   rebuild-requires : lts.Need-rebuild-requires (Q t) (at t) node.Post
   rebuild-requires c κs =
-      let s = c.before.before.before in
+      let s = c.before.before in
       let p = s.requires.1.0 in
       (p.pow, forced-bits s.args.rules.now p c.if-base-size.true, p.whole.sums)
 
-  returns : lts.Need-returns (Q t) (at t) node.Post
+  returns : lts.Need-returns-then-base-size (Q t) (at t) node.Post
   returns c =
       let r = c.before in
-      let s = r.before.before.before.before in
+      let s = r.before.before.before in
       forced-worked s.args.rules.now s.requires.1.0 r.if-base-size.true r.rebuild.ensures c.none.ensures
 
   -- ---- a node of layer 2 without a forced bit
 
-  module _ (k : lts.Then2 (Q t) (at t) node.Post) where
+  module _ (k : lts.Then-is_free_four (Q t) (at t) node.Post) where
     abbrev start₂ : lts.Start (Q t) (at t) node.Post
     start₂ = k.before.before.before
 
@@ -98,22 +98,22 @@ module _ (t : ℕ) where
     four : start₂.args.size ≡ 4
     four = start₂.requires.1.0.pow ∙ ap (λ (n : ℕ). 2 ^ n) free.0
 
-  decode-four-requires : lts.Need-decode-four-requires (Q t) (at t) node.Post
+  decode-four-requires : lts.Need-decode_four-requires (Q t) (at t) node.Post
   decode-four-requires c κs =
-      let k = c.before.before.before.before in
+      let k = c.before.before.before in
       let s = start₂ k in
       let p = s.requires.1.0 in
       let small = p.small k.if-base-size.false in
       (sized_of p.whole, omega (arith, p.fits, four k), subst₂ (λ (n m : ℕ). Within (most largest_n n) (segment s.args.work.now m m)) (free k).0 (four k) small)
 
-  returns-2 : lts.Need-returns-2 (Q t) (at t) node.Post
+  returns-2 : lts.Need-returns-then-is_free_four (Q t) (at t) node.Post
   returns-2 c =
-      let k = c.before.before.before.before.before in
+      let k = c.before.before.before.before in
       by_value (free k).0 (four k) (ap (λ (m : ℕ). segment (start₂ k).args.work.now m m) (four k)) (free k).1 refl c.decode_four.ensures
 
   -- ---- a leaf
 
-  module _ (k : lts.Then3 (Q t) (at t) node.Post) where
+  module _ (k : lts.Then-layer-eq0 (Q t) (at t) node.Post) where
     abbrev start₃ : lts.Start (Q t) (at t) node.Post
     start₃ = k.before.before.before.before
 
@@ -126,7 +126,7 @@ module _ (t : ℕ) where
       let p = (start₃ k).requires.1.0 in
       (sized_of p.whole, omega (arith, p.fits, one k))
 
-  returns-3 : lts.Need-returns-3 (Q t) (at t) node.Post
+  returns-3 : lts.Need-returns-then-layer-eq0 (Q t) (at t) node.Post
   returns-3 c =
       let f = c.before in
       let k = f.before.before.before.before.before in
@@ -138,72 +138,72 @@ module _ (t : ℕ) where
 
   -- ---- two halves
 
-  module _ (e : lts.Else3 (Q t) (at t) node.Post) where
+  module _ (e : lts.Else-layer-eq0 (Q t) (at t) node.Post) where
     abbrev start : lts.Start (Q t) (at t) node.Post
     start = e.before.before.before.before
 
-    abbrev rules : List ℕ
-    rules = start.args.rules.now
+    abbrev rule-bytes : List ℕ
+    rule-bytes = start.args.rules.now
 
     inner : let s = start.args in Inner longest s.layer s.size (s.layer - 1) (s.size / 2) s.base s.q (arrays s.work.now s.bits.now s.sums.now s.leaves.now)
     inner = record {
-      halving = halving e.if-layer-eq0.left start.requires.1.0.pow;
+      halving = halving e.if-layer-eq0.false start.requires.1.0.pow;
       pre = start.requires.1.0;
-      more = e.if-base-size.left;
+      more = e.if-base-size.false;
       double = start.requires.1.1;
     }
 
-  left-values-requires : lts.Need-left-values-requires (Q t) (at t) node.Post
-  left-values-requires c κs = inner_at (rules c.before) (inner c.before)
+  left-values-requires : lts.Need-left_values-left-requires (Q t) (at t) node.Post
+  left-values-requires c κs = inner_at (rule-bytes c.before) (inner c.before)
 
-  node-requires : lts.Need-decode-node-requires (Q t) (at t) node.Post
+  node-requires : lts.Need-decode_node-l-requires (Q t) (at t) node.Post
   node-requires c κs =
       let l = c.before.before.before.before in
       let e = l.before.before in
-      (omega (arith, (start e).requires.0, (inner e).halving.below), (inner_left (rules e) (inner e) l.left_values-left.ensures, inner_half (rules e) (inner e)))
+      (omega (arith, (start e).requires.0, (inner e).halving.below), (inner_left (rule-bytes e) (inner e) l.left_values-left.ensures, inner_half (rule-bytes e) (inner e)))
 
   -- after the left half
-  module _ (k : lts.After-decode-node (Q t) (at t) node.Post) where
-    abbrev l : lts.After-left-values (Q t) (at t) node.Post
+  module _ (k : lts.After-decode_node-l (Q t) (at t) node.Post) where
+    abbrev l : lts.After-left_values-left (Q t) (at t) node.Post
     l = k.before.before.before.before.before
 
-    abbrev e : lts.Else3 (Q t) (at t) node.Post
+    abbrev e : lts.Else-layer-eq0 (Q t) (at t) node.Post
     e = l.before.before
 
-  right-values-requires : lts.Need-right-values-requires (Q t) (at t) node.Post
+  right-values-requires : lts.Need-right_values-right-requires (Q t) (at t) node.Post
   right-values-requires c κs =
-      let k = c.before.before in
-      (inner_again (rules (e k)) (inner (e k)) (l k).left_values-left.ensures k.decode_node-l.ensures, omega (arith, (inner (e k)).halving.two, (inner (e k)).requires.fits))
+      let k = c.before in
+      (inner_again (rule-bytes (e k)) (inner (e k)) (l k).left_values-left.ensures k.decode_node-l.ensures, omega (arith, (inner (e k)).halving.two, (inner (e k)).pre.fits))
 
-  node-requires-2 : lts.Need-decode-node-requires-2 (Q t) (at t) node.Post
+  node-requires-2 : lts.Need-decode_node-r-requires (Q t) (at t) node.Post
   node-requires-2 c κs =
       let r = c.before.before.before.before in
-      let k = r.before.before.before in
-      (omega (arith, (start (e k)).requires.0, (inner (e k)).halving.below), (inner_right (rules (e k)) (inner (e k)) (l k).left_values-left.ensures k.decode_node-l.ensures r.right_values-right.ensures, inner_half (rules (e k)) (inner (e k))))
+      let k = r.before.before in
+      (omega (arith, (start (e k)).requires.0, (inner (e k)).halving.below), (inner_right (rule-bytes (e k)) (inner (e k)) (l k).left_values-left.ensures k.decode_node-l.ensures r.right_values-right.ensures, inner_half (rule-bytes (e k)) (inner (e k))))
 
   -- after the right half
-  module _ (n : lts.After-decode-node2 (Q t) (at t) node.Post) where
-    abbrev r : lts.After-right-values (Q t) (at t) node.Post
+  module _ (n : lts.After-decode_node-r (Q t) (at t) node.Post) where
+    abbrev r : lts.After-right_values-right (Q t) (at t) node.Post
     r = n.before.before.before.before.before
 
-    abbrev k : lts.After-decode-node (Q t) (at t) node.Post
-    k = r.before.before.before
+    abbrev k : lts.After-decode_node-l (Q t) (at t) node.Post
+    k = r.before.before
 
     -- the steps of each half are few
     few : ((l k).left_values-left.result.steps + k.decode_node-l.result.steps < 2 ^ 31) × (r.right_values-right.result.steps + n.decode_node-r.result.steps < 2 ^ 31)
-    few = inner_few (rules (e k)) (inner (e k)) (l k).left_values-left.ensures k.decode_node-l.ensures r.right_values-right.ensures n.decode_node-r.ensures
+    few = inner_few (rule-bytes (e k)) (inner (e k)) (l k).left_values-left.ensures k.decode_node-l.ensures r.right_values-right.ensures n.decode_node-r.ensures
 
   combine-requires : lts.Need-combine-requires (Q t) (at t) node.Post
   combine-requires c κs =
       let n = c.before in
-      inner_combine (rules (e (k n))) (inner (e (k n))) (l (k n)).left_values-left.ensures (k n).decode_node-l.ensures (r n).right_values-right.ensures n.decode_node-r.ensures
+      inner_combine (rule-bytes (e (k n))) (inner (e (k n))) (l (k n)).left_values-left.ensures (k n).decode_node-l.ensures (r n).right_values-right.ensures n.decode_node-r.ensures
 
-  returns-4 : lts.Need-returns-4 (Q t) (at t) node.Post
+  returns-4 : lts.Need-returns (Q t) (at t) node.Post
   returns-4 c =
       let m = c.before.before.before in
       let n = m.before.before in
       let total = c.plus-3.ensures ∙ ap₂ plus_work c.plus.ensures c.plus-2.ensures in
-      inner_worked (rules (e (k n))) (inner (e (k n))) (l (k n)).left_values-left.ensures (k n).decode_node-l.ensures (r n).right_values-right.ensures n.decode_node-r.ensures total m.combine.ensures
+      inner_worked (rule-bytes (e (k n))) (inner (e (k n))) (l (k n)).left_values-left.ensures (k n).decode_node-l.ensures (r n).right_values-right.ensures n.decode_node-r.ensures total m.combine.ensures
 
 pub +decode_node_spec : {M : Type 1} → statement M
 +decode_node_spec = close μ λ t. lts.spec (Q t)
@@ -226,7 +226,7 @@ pub +decode_node_spec : {M : Type 1} → statement M
     (node-requires t)
     (right-values-requires t)
     (λ c. search rules)
-    (λ c. omega (arith, (start t c.before.before.before.before.before.before.before.before.before.before).requires.1.0.fits))
+    (λ c. omega (arith, (start t c.before.before.before.before.before.before.before.before.before).requires.1.0.fits))
     (node-requires-2 t)
     (combine-requires t)
     (λ c κs. omega (arith, few t c.before.before))

@@ -24,19 +24,19 @@ module _ (e : tie.Else-size-q) where
   abbrev s : tie.Start
   s = e.before.before
 
-  abbrev rules : List ℕ
-  rules = s.args.rules.now
+  abbrev rule-bytes : List ℕ
+  rule-bytes = s.args.rules.now
 
   root : let t = s.args in let size = length t.channel.now in Rooted longest t.q (t.code.n - 1) (size / 2) t.code t.channel.now (arrays t.work.now t.bits.now t.sums.now t.leaves.now)
-  root = record { pre = s.requires; fits = fits s.requires.n_most; halving = halving (λ z. omega (arith, s.requires.n_least)) s.requires.long; less = e.if-size-q.left }
+  root = record { pre = s.requires; fits = fits s.requires.n_most; halving = halving (λ z. omega (arith, s.requires.n_least)) s.requires.long; less = e.if-size-q.false }
 
 left-requires : tie.Need-root_left_values-left-requires
-left-requires c κs = root-at (rules c.before) (root c.before)
+left-requires c κs = root-at (rule-bytes c.before) (root c.before)
 
 left-node-requires : tie.Need-decode_node-l-requires
 left-node-requires c κs =
     let l = c.before.before.before.before.before in
-    (root-left (rules l.before.before) (root l.before.before) l.root_left_values-left.ensures, root-half (rules l.before.before) (root l.before.before))
+    (root-left (rule-bytes l.before.before) (root l.before.before) l.root_left_values-left.ensures, root-half (rule-bytes l.before.before) (root l.before.before))
 
 -- after the left half
 module _ (k : tie.After-decode_node-l) where
@@ -48,13 +48,14 @@ module _ (k : tie.After-decode_node-l) where
 
 right-requires : tie.Need-root_right_values-right-requires
 right-requires c κs =
-    let k = c.before.before in
-    root_again (rules (e k)) (root (e k)) (l k).root_left_values-left.ensures k.decode_node-l.ensures
+    let k = c.before in
+    root_again (rule-bytes (e k)) (root (e k)) (l k).root_left_values-left.ensures k.decode_node-l.ensures
 
 right-node-requires : tie.Need-decode_node-r-requires
 right-node-requires c κs =
     let r = c.before.before.before.before.before in
-    (root-right (rules (e r.before)) (root (e r.before)) (l r.before.before).root_left_values-left.ensures r.decode_node-l.ensures r.root_right_values-right.ensures, root-half (rules (e r.before)) (root (e r.before)))
+    let k = r.before.before in
+    (root-right (rule-bytes (e k)) (root (e k)) (l k).root_left_values-left.ensures k.decode_node-l.ensures r.root_right_values-right.ensures, root-half (rule-bytes (e k)) (root (e k)))
 
 -- after the right half
 module _ (n : tie.After-decode_node-r) where
@@ -66,12 +67,13 @@ module _ (n : tie.After-decode_node-r) where
 
   -- the steps of each half are few
   few : ((l k).root_left_values-left.result.steps + k.decode_node-l.result.steps < 2 ^ 31) × (r.root_right_values-right.result.steps + n.decode_node-r.result.steps < 2 ^ 31)
-  few = root_few (rules (e k)) (root (e k)) (l k).root_left_values-left.ensures k.decode_node-l.ensures r.root_right_values-right.ensures n.decode_node-r.ensures
+  few = root_few (rule-bytes (e k)) (root (e k)) (l k).root_left_values-left.ensures k.decode_node-l.ensures r.root_right_values-right.ensures n.decode_node-r.ensures
 
 returns-2 : tie.Need-returns
 returns-2 c =
     let total = c.plus-3.ensures ∙ ap₂ plus_work c.plus.ensures c.plus-2.ensures in
-    passed (rules (e (k c.before))) (root (e (k c.before))) (l (k c.before)).root_left_values-left.ensures (k c.before.before.before).decode_node-l.ensures (r c.before.before.before).root_right_values-right.ensures c.decode_node-r.ensures total
+    let n = c.before.before.before in
+    passed (rule-bytes (e (k n))) (root (e (k n))) (l (k n)).root_left_values-left.ensures (k n).decode_node-l.ensures (r n).root_right_values-right.ensures n.decode_node-r.ensures total
 
 pub pass_spec : {M : Type 1} → statement M
 pass_spec =
