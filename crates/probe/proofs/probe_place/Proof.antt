@@ -5,7 +5,7 @@ use mathlib.Core.List.{List}
 use Prim.Native.Nat.{ℕ, ◌*◌, ◌≤◌}
 use native.Mathlib.Omega.{arith}
 use borrow.Author.Rules.{rules}
-use borrow.Author.Tests.{lt-ltb, le-ltb, not-true, not-false}
+use borrow.Author.Tests.{lt-ltb, le-ltb}
 use lib.ListN.{length}
 use Rattle.arrays.specs.Claims.{longest_bytes}
 use Rattle.probe.specs.Clauses.{all_bits}
@@ -22,7 +22,7 @@ room : (c : tie.Else-message-mask) → 8 * length c.args.mask.now ≤ length c.a
 room c = omega arith
 
 are-bits : (c : tie.Else-not-are_bits) → all_bits c.args.message.now ≡ true
-are-bits c = sym c.are_bits.ensures ∙ not-false _ c.if-not-are_bits.false
+are-bits c = sym c.are_bits.ensures ∙ c.if-not-are_bits.false
 
 returns-3 : tie.Need-returns-then-message-mask
 returns-3 c =
@@ -30,7 +30,7 @@ returns-3 c =
 
 returns-4 : tie.Need-returns-then-not-are_bits
 returns-4 c =
-    rw (le-ltb _ _ (short c.before.before.before.before), le-ltb _ _ c.if-u-mask.false, le-ltb _ _ (room c.before.before), sym c.are_bits.ensures ∙ not-true _ c.if-not-are_bits.true)
+    rw (le-ltb _ _ (short c.before.before.before.before), le-ltb _ _ c.if-u-mask.false, le-ltb _ _ (room c.before.before), sym c.are_bits.ensures ∙ c.if-not-are_bits.true)
 
 place-requires : tie.Need-place-requires
 place-requires c κs =
