@@ -53,7 +53,7 @@ returns-2 : tie.Need-returns-then-index-prefix
 returns-2 c =
     let i = c.first_bad-index.ensures in
     ap (λ (k : ℕ). Refused (At 18 k)) i
-    ∙ sym (past-1 c.before.before ∙ judge_yes _ _ _ (lt-ltb _ _ (subst (λ (k : ℕ). k < length (from1 c.before).args.prefix.now) i c.if-index-prefix.true)))
+    ∙ sym (past-1 c.before.before ∙ judge_yes _ _ _ (lt-ltb _ _ (subst (λ (k : ℕ). k < length (from1 c.before.before).args.prefix.now) i c.if-index-prefix.true)))
 
 returns-3 : tie.Need-returns-then-output-size
 returns-3 c =

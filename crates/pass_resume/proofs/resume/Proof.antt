@@ -27,7 +27,7 @@ module _ (c : tie.In-Accepted) where
   s = c.before.before.before.before.before.before
 
   abbrev code : Code
-  code = c.in-Accepted.FIELD0
+  code = c.in-Accepted.code
 
   accepted : Accepted code ≡ describe s.args.description.now
   accepted = sym c.in-Accepted.is ∙ c.read_description.ensures
