@@ -1,5 +1,5 @@
 //! What must be believed stands apart: no public promise and no main theorem cites a definition of
-//! a `Claims.antt` or a `Contracts.antt`. Each request has few lines of it, and README.md gives their
+//! a `Claims.antt` or a `Clauses.antt`. Each request has few lines of it, and README.md gives their
 //! numbers.
 
 use host::promises::{cited, Roots};

@@ -36,7 +36,10 @@ fn of_list(list: &str) -> Vec<Family> {
                 begin(&mut families, heading);
             }
         } else if let Some((name, _)) = line.split_once(':') {
-            put(&mut families, name);
+            put(
+                &mut families,
+                name.strip_suffix(" staticlib").unwrap_or(name),
+            );
         }
         before = line;
     }

@@ -37,7 +37,7 @@ fn all_stay_against_themselves() {
 #[test]
 fn a_crate_with_another_name() {
     let path = |path: String| path.replace("crates/hearing_demands/", "crates/demands/");
-    let older = replaced("Rattle·hearing_demands", "Rattle·demands");
+    let older = replaced("Rattle.hearing_demands.", "Rattle.demands.");
     let older = older.into_iter().map(|(of, text)| (path(of), text));
     let changes = since(older.collect());
     assert_eq!(
@@ -53,12 +53,12 @@ fn a_crate_with_another_name() {
 fn what_moved_is_named() {
     for (from, to, name) in [
         (
-            "numbered encodedParts",
-            "numbered keptParts",
+            "numbered encoded_parts",
+            "numbered kept_parts",
             "polar_encode",
         ),
         ("(min 31 n)", "(min 32 n)", "clip"),
-        ("pub demand-3 : Demand3", "pub demand-3 : ⊤", "demand-3"),
+        ("pub demand_3 : Demand3", "pub demand_3 : ⊤", "demand_3"),
     ] {
         let changes = since(replaced(from, to));
         let names: Vec<&str> = changes

@@ -104,18 +104,18 @@ mod tests {
     use crate::testing::belief::Place;
 
     const CODE: &str = "\
-ghost use Rattle·a·specs.specs.Word.{answer};
+ghost use Rattle.a.specs.Word.{answer};
 
 // An operation.
 pub fn operation(d: &[u8]) -> u8
-    ensures { λ a. ⌜ a ≡ answer (now (d .entry)) ⌝ }
+    ensures { result ≡ answer d.now }
 {
     d[0]
 }
 ";
 
     const WORD: &str = "\
-use Rattle·b.specs.Sum.{total}
+use Rattle.b.specs.Sum.{total}
 
 -- the answer
 abbrev pub answer : List ℕ → ℕ
@@ -179,7 +179,7 @@ answer d = total d
         for (from, to) in [
             ("// An operation.", "// The operation."),
             ("-- the answer\n", ""),
-            ("a ≡ answer", "a\n        ≡ answer"),
+            ("result ≡ answer", "result\n        ≡ answer"),
             ("(d: &[u8])", "(\n    d: &[u8],\n)"),
             ("answer d = ", "answer d =\n  -- of all\n  "),
         ] {
@@ -191,8 +191,9 @@ answer d = total d
     #[test]
     fn another_contract() {
         for (from, to) in [
-            ("    ensures", "    requires { ⌜ 1 ≡ 1 ⌝ }\n    ensures"),
-            ("⌜ a ≡", "⌜ 1 ≡"),
+            ("    ensures", "    requires { 1 ≡ 1 }\n    ensures"),
+            ("{ result ≡", "{ 1 ≡"),
+            ("ensures {", "ensures low {"),
             ("-> u8", "-> u16"),
         ] {
             let operation = Place::code("a").name("operation");

@@ -52,8 +52,8 @@ mod tests {
 
     #[test]
     fn layout_is_no_part() {
-        let one = "fn f(a: &[u8], b: u32) -> u64\n    ensures { λ x. ⌜ x ≡ g (now a) ⌝ }";
-        let other = "fn f(\n    a: &[u8],\n    b: u32,\n) -> u64\n    ensures { λ x.\n        ⌜x\n        ≡ g (now a)⌝ }";
+        let one = "fn f(a: &[u8], b: u32) -> u64\n    ensures { result ≡ g a.now }";
+        let other = "fn f(\n    a: &[u8],\n    b: u32,\n) -> u64\n    ensures {\n        result\n        ≡ g a.now}";
         let [one, other] = [one, other].map(|text| plain(Kind::Contract, text));
         assert_eq!(one, other);
     }

@@ -69,15 +69,15 @@ mod tests {
         let place = Place::new("bits", "Mask");
         let sums = Place::proofs("a", "Sum").name("sums");
         let all = Changes {
-            stayed: vec![place.name("ones"), place.name("onesIn")],
-            moved: vec![place.name("maskBit")],
+            stayed: vec![place.name("ones"), place.name("ones_in")],
+            moved: vec![place.name("mask_bit")],
             redirected: vec![sums.clone()],
             new: vec![Place::code("polar").name("polar_new")],
             gone: Vec::new(),
             roots: BTreeSet::from([sums, Place::code("polar").name("polar_new")]),
         };
         let expected = "\
-moved  definition maskBit                          bits/specs/Mask.antt
+moved  definition mask_bit                         bits/specs/Mask.antt
 moved  theorem    sums                             a/proofs/Sum.antt, which cites another definition of a name
 new    contract   polar_new                        polar/src
 contracts, statements and theorems: 0 stayed, 1 moved, 1 new, 0 gone

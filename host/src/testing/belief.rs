@@ -2,7 +2,7 @@
 //! and the main theorems cite.
 //!
 //! In each crate's specs/, `Claims.antt` has what theorems about the definitions state, and
-//! `Contracts.antt` what only contracts of the crate's own functions cite. All other files are to
+//! `Clauses.antt` what only contracts of the crate's own functions cite. All other files are to
 //! be believed.
 
 mod code;
@@ -22,7 +22,7 @@ pub use texts::Text;
 
 use std::collections::{BTreeMap, BTreeSet};
 
-use name::words;
+use name::{without_fields, words};
 use source::Files;
 
 /// The specs, the code and the proofs of all crates.
@@ -200,10 +200,12 @@ impl Crates {
 
 /// The names in a text that are imported from a crate, or that are the file's own.
 fn citations(text: &str, imports: &[Import], own: impl Fn(&str) -> Option<Name>) -> Vec<Name> {
-    let of = |word: &str| imports.iter().find_map(|import| import.name_of(word));
-    words(text)
-        .filter_map(|word| own(word).or_else(|| of(word)))
-        .collect()
+    let of = |word: &str| {
+        let names = imports.iter().filter_map(|import| import.name_of(word));
+        names.collect::<Vec<Name>>()
+    };
+    let all = |word: &str| own(without_fields(word)).map_or_else(|| of(word), |name| vec![name]);
+    words(text).flat_map(all).collect()
 }
 
 #[cfg(test)]
@@ -212,11 +214,11 @@ mod tests {
 
     const CODE: &str = "\
 use b::Answer;
-ghost use mathlib.Core.Path.{_≡_};
-ghost use Rattle·a·specs.specs.Word.{answer as right};
+ghost use Rattle.std.specs.Prelude.{◌≡◌};
+ghost use Rattle.a.specs.Word.{answer as right};
 
 pub fn operation(d: &[u8]) -> Answer
-    ensures { λ a. ⌜ a ≡ right (now (d .entry)) ⌝ }
+    ensures { result ≡ right d.now }
 {
     helper(d)
 }
@@ -227,8 +229,8 @@ fn helper(d: &[u8]) -> Answer {
 ";
 
     const WORD: &str = "\
-use Rattle·b.specs.declared.Answer.the-variants as made
-use Rattle·b.specs.Sum.{total}
+use Rattle.b.specs.declared.Answer.TheVariants as made
+use Rattle.b.specs.Sum.{total}
 
 -- `unused` is not cited
 abbrev pub answer : List ℕ → Answer
@@ -239,7 +241,7 @@ unused = 0
 ";
 
     const SUM: &str =
-        "use Rattle·b·specs.specs.Contracts.{helper}\n\nabbrev pub total : ℕ\ntotal = helper 1\n";
+        "use Rattle.b.specs.Clauses.{helper}\n\nabbrev pub total : ℕ\ntotal = helper 1\n";
 
     fn crates(total: &str) -> Crates {
         let mut crates = Crates::default();
@@ -248,7 +250,7 @@ unused = 0
         crates.add_spec(&Place::new("a", "Word"), WORD);
         crates.add_spec(&Place::new("b", "Sum"), total);
         let helper = "abbrev pub helper : ℕ → ℕ\nhelper x = x\n";
-        crates.add_spec(&Place::new("b", "Contracts"), helper);
+        crates.add_spec(&Place::new("b", "Clauses"), helper);
         crates
     }
 
@@ -279,16 +281,16 @@ unused = 0
     }
 
     #[test]
-    fn what_stands_in_contracts_is_a_fault() {
+    fn what_stands_in_clauses_is_a_fault() {
         let faults = cited(&crates(SUM), "operation").faults;
-        let fault = "b/specs/Sum.antt: total cites b/specs/Contracts.antt: helper, which does not \
+        let fault = "b/specs/Sum.antt: total cites b/specs/Clauses.antt: helper, which does not \
                      stand where it is to be believed";
         assert_eq!(faults, [fault]);
     }
 
     #[test]
     fn what_is_not_found_is_a_fault() {
-        let faults = cited(&crates(&SUM.replace("Contracts", "Terms")), "operation").faults;
+        let faults = cited(&crates(&SUM.replace("Clauses", "Terms")), "operation").faults;
         let fault = "b/specs/Sum.antt: total cites b/specs/Terms.antt: helper, which is not found";
         assert_eq!(faults, [fault]);
         let crates = crates(SUM);

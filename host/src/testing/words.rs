@@ -97,10 +97,10 @@ fn nothing() {
 impl Pair {
     // Both.
     pub fn of(first: [u8; 2], second: (u8, u8)) -> Pair
-        requires { ⌜ first ⌝ }
+        requires { first }
         // then
-        ensures { λ x. ⌜ a
-            × b ⌝ }
+        ensures both { result ≡ a
+            × b }
     {
         if first[0] == 0 {
             return Pair { first };
@@ -109,7 +109,7 @@ impl Pair {
     }
 }
 
-#[no_mangle]
+#[unsafe(no_mangle)]
 pub extern \"C\" fn polar_first(
     d: &[u8],
     n: u32,
@@ -133,9 +133,9 @@ pub extern \"C\" fn polar_first(
                 name: "of",
                 parameters: 2,
                 contract: vec![
-                    "        requires { ⌜ first ⌝ }",
-                    "        ensures { λ x. ⌜ a",
-                    "            × b ⌝ }",
+                    "        requires { first }",
+                    "        ensures both { result ≡ a",
+                    "            × b }",
                 ],
                 body: 4,
             },

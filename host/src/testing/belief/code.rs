@@ -33,7 +33,7 @@ impl Code {
             ..Code::default()
         };
         for (index, line) in lines.iter().enumerate() {
-            let is_exported = index > 0 && lines[index - 1] == "#[no_mangle]";
+            let is_exported = index > 0 && lines[index - 1] == "#[unsafe(no_mangle)]";
             if let Some(name) = name_after(line, &["fn"]) {
                 let head = head(&lines[index..]);
                 code.functions.push(Function {
@@ -120,7 +120,7 @@ mod tests {
     use super::*;
 
     const TEXT: &str = "\
-ghost use Rattle·bits.specs.Mask.{maskBit};
+ghost use Rattle.bits.specs.Mask.{mask_bit};
 
 pub enum Answer {
     Done { steps: u32 },
@@ -135,12 +135,13 @@ fn plain(x: u8) -> u8 {
     x
 }
 
-#[no_mangle]
+#[unsafe(no_mangle)]
 pub extern \"C\" fn polar_first(
     d: &[u8],
 ) -> u64
-    requires { ⌜ before ⌝ }
-    ensures { λ x. ⌜ after ⌝ }
+    requires { before }
+    ensures low { result ≡ after
+        d.now }
 {
     plain(d[0])
 }
@@ -155,7 +156,7 @@ pub extern \"C\" fn polar_first(
             head: [signature, contract].concat(),
             contract: contract.to_string(),
         };
-        let contract = "    requires { ⌜ before ⌝ }\n    ensures { λ x. ⌜ after ⌝ }";
+        let contract = "    requires { before }\n    ensures low { result ≡ after\n        d.now }";
         let first = "pub extern \"C\" fn polar_first(\n    d: &[u8],\n) -> u64\n";
         let expected = [
             function("plain", false, "fn plain(x: u8) -> u8 ", ""),

@@ -3,10 +3,13 @@
 use std::fmt::{self, Display, Formatter};
 
 /// Files of specs/ that need not be believed. `Lib` has no definitions.
-const APART: [&str; 3] = ["Claims", "Contracts", "Lib"];
+const APART: [&str; 3] = ["Claims", "Clauses", "Lib"];
+
+/// The library of the kit.
+const KIT: &str = "std";
 
 /// A module below a crate's specs. `declared.T` has the type T that the crate's code declares, and
-/// `declared.T.the-variants` its variants. Besides, `src` is the crate's code and `proofs.F` a file of
+/// `declared.T.TheVariants` its variants. Besides, `src` is the crate's code and `proofs.F` a file of
 /// its proofs.
 #[derive(Clone, Debug, PartialEq, Eq, PartialOrd, Ord)]
 pub struct Place {
@@ -84,18 +87,14 @@ impl Place {
     /// The type that the code declares.
     pub fn declared(&self) -> Option<&str> {
         let declared = self.module.strip_prefix("declared.")?;
-        Some(declared.strip_suffix(".the-variants").unwrap_or(declared))
+        Some(declared.strip_suffix(".TheVariants").unwrap_or(declared))
     }
 
-    /// The place of a path: `Rattle·bits.specs.Mask` from other crates, and
-    /// `Rattle·bits·specs.specs.Mask` from the crate itself; likewise for proofs.
+    /// The place of a path, `Rattle.bits.specs.Mask`; likewise for proofs. None in a library.
     fn of_path(path: &str) -> Option<Place> {
-        let (of, module) = path.strip_prefix("Rattle·")?.split_once('.')?;
-        let (of, _) = of.split_once('·').unwrap_or((of, ""));
-        Some(Place::new(
-            of,
-            module.strip_prefix("specs.").unwrap_or(module),
-        ))
+        let (of, module) = path.strip_prefix("Rattle.")?.split_once('.')?;
+        let module = module.strip_prefix("specs.").unwrap_or(module);
+        (of != KIT).then(|| Place::new(of, module))
     }
 }
 
@@ -142,11 +141,10 @@ impl Import {
     /// What a word stands for, if it comes from here.
     pub fn name_of(&self, word: &str) -> Option<Name> {
         match self {
-            Import::One(of, name) if of == word => Some(name.clone()),
-            Import::One(..) => None,
+            Import::One(of, name) => (of == without_fields(word)).then(|| name.clone()),
             Import::All(of, place) => {
                 let name = word.strip_prefix(of.as_str())?.strip_prefix('.')?;
-                Some(place.name(name))
+                Some(place.name(without_fields(name)))
             }
         }
     }
@@ -173,8 +171,13 @@ fn whole(path: &str) -> Vec<Import> {
     all.into_iter().collect()
 }
 
-/// The words of a text that may be names: without fields, which stand behind a dot, and texts in
-/// quotes.
+/// A word without the fields behind it, each after a dot.
+pub fn without_fields(word: &str) -> &str {
+    word.split('.').next().unwrap_or(word)
+}
+
+/// The words of a text that may be names, with the fields behind them: without fields of brackets, and
+/// texts in quotes.
 pub fn words(text: &str) -> impl Iterator<Item = &str> {
     let is_break = |c: char| c.is_whitespace() || "(){};,⌜⌝⟦⟧λ".contains(c);
     let unquoted = text.split('"').step_by(2);
@@ -193,30 +196,29 @@ mod tests {
     fn names_of_other_crates_and_of_the_own() {
         let mask = Place::new("bits", "Mask");
         let expected = [
-            Import::One("maskBit".to_string(), mask.name("maskBit")),
-            Import::One("ones".to_string(), mask.name("onesIn")),
+            Import::One("mask_bit".to_string(), mask.name("mask_bit")),
+            Import::One("ones".to_string(), mask.name("ones_in")),
         ];
         for line in [
-            "use Rattle·bits.specs.Mask.{maskBit, onesIn as ones}",
-            "use Rattle·bits·specs.specs.Mask.{maskBit, onesIn as ones}",
-            "ghost use Rattle·bits.specs.Mask.{maskBit, onesIn as ones};",
+            "use Rattle.bits.specs.Mask.{mask_bit, ones_in as ones}",
+            "ghost use Rattle.bits.specs.Mask.{mask_bit, ones_in as ones};",
         ] {
             assert_eq!(Import::read(line), expected);
         }
-        let line = "use Rattle·bits·proofs.proofs.Mask.{mask-bit}";
-        let proved = Place::proofs("bits", "Mask").name("mask-bit");
+        let line = "use Rattle.bits.proofs.Mask.{ones-in}";
+        let proved = Place::proofs("bits", "Mask").name("ones-in");
         assert_eq!(
             Import::read(line),
-            [Import::One("mask-bit".to_string(), proved)]
+            [Import::One("ones-in".to_string(), proved)]
         );
-        assert_eq!(expected[1].name_of("ones"), Some(mask.name("onesIn")));
-        assert_eq!(expected[1].name_of("onesIn"), None);
+        assert_eq!(expected[1].name_of("ones"), Some(mask.name("ones_in")));
+        assert_eq!(expected[1].name_of("ones_in"), None);
     }
 
     #[test]
     fn whole_modules() {
-        let variants = Place::new("flip_run", "declared.Decoded.the-variants");
-        let line = "use Rattle·flip_run.specs.declared.Decoded.the-variants as decode";
+        let variants = Place::new("flip_run", "declared.Decoded.TheVariants");
+        let line = "use Rattle.flip_run.specs.declared.Decoded.TheVariants as decode";
         let imports = Import::read(line);
         assert_eq!(
             imports,
@@ -226,7 +228,7 @@ mod tests {
         assert_eq!(accepted, Some(variants.name("Accepted")));
         assert_eq!(imports[0].name_of("Accepted"), None);
         assert_eq!(variants.declared(), Some("Decoded"));
-        let mask = Import::read("use Rattle·bits.specs.Mask");
+        let mask = Import::read("use Rattle.bits.specs.Mask");
         assert_eq!(
             mask,
             [Import::All("Mask".to_string(), Place::new("bits", "Mask"))]
@@ -234,9 +236,26 @@ mod tests {
     }
 
     #[test]
+    fn fields_behind_a_name() {
+        let mask = Place::new("bits", "Mask");
+        let one = Import::One("ones".to_string(), mask.name("ones"));
+        let all = Import::All("Mask".to_string(), mask.clone());
+        for word in ["ones", "ones.0", "ones.work.steps"] {
+            assert_eq!(one.name_of(word), Some(mask.name("ones")), "{word}");
+            assert_eq!(all.name_of(word), None, "{word}");
+            let word = format!("Mask.{word}");
+            assert_eq!(one.name_of(&word), None, "{word}");
+            assert_eq!(all.name_of(&word), Some(mask.name("ones")), "{word}");
+        }
+        assert_eq!(one.name_of("work.ones"), None);
+    }
+
+    #[test]
     fn libraries_bring_nothing() {
         for line in [
             "use lib.ListN.{length}",
+            "use Rattle.std.specs.Prelude.{length}",
+            "ghost use Rattle.std.specs.Prelude.{length};",
             "use arrays::SIZE;",
             "useful = 1",
             "",
@@ -247,16 +266,18 @@ mod tests {
 
     #[test]
     fn words_that_may_be_names() {
-        let text = "noLine (λ x. numberOf x) {text \"code a\"} ⌜o .work .steps ≡ (a, decode.Done)⌝";
+        let text =
+            "no_line (λ x. number_of x) {text \"code a\"} ⌜o.work.steps ≡ ((f a).0, decode.Done)⌝";
         let found: Vec<&str> = words(text).collect();
         let expected = [
-            "noLine",
+            "no_line",
             "x",
-            "numberOf",
+            "number_of",
             "x",
             "text",
-            "o",
+            "o.work.steps",
             "≡",
+            "f",
             "a",
             "decode.Done",
         ];
@@ -287,6 +308,6 @@ mod tests {
     fn what_is_believed() {
         assert!(Place::new("bits", "Mask").is_believed());
         assert!(!Place::new("bits", "Claims").is_believed());
-        assert!(!Place::new("pass", "Contracts").is_believed());
+        assert!(!Place::new("pass", "Clauses").is_believed());
     }
 }

@@ -44,7 +44,7 @@ mod tests {
 
     const TEXT: &str = "\
 -- What holds.
-use Rattle·a.specs.Sum.{Holds}
+use Rattle.a.specs.Sum.{Holds}
 
 -- a step
 step : 1 ≡ 1

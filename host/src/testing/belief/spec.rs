@@ -111,7 +111,7 @@ mod tests {
     const TEXT: &str = "\
 -- What a file is about.
 use lib.ListN.{length}
-use Rattle·bits.specs.Mask.{maskBit}
+use Rattle.bits.specs.Mask.{mask_bit}
 
 -- the sum
 abbrev pub sum : List ℕ → ℕ
@@ -124,7 +124,7 @@ twice x = sum (x ∷ x ∷ [])
 -- what holds
 pub record Holds (c : Code) (size : ℕ) : Type 0 where
   -- a field
-  pub fits : size ≤ c .n
+  pub fits : size ≤ c.n
 
 pub data Rule : Type 0 where
   pub frozen : Rule
