@@ -33,14 +33,14 @@ set-rules-requires c κs = let s = c.before.before.before.before.before.before i
 
 pass-requires : tie.Need-pass-done-requires
 pass-requires c κs =
-    let r = c.before.before.before.before.before in
+    let r = c.before.before.before.before in
     let p = r.before.before in
     let s = p.before.before.before.before.before in
     pass_pre s.requires.0 s.requires.1 (room s) p.put_prefix.ensures r.set_rules.ensures
 
 set-rules-requires-2 : tie.Need-set_rules-requires-2
 set-rules-requires-2 c κs =
-    let r = c.before.before.before.before.before.before.before in
+    let r = c.before.before.before.before.before.before in
     let s = r.before.before.before.before.before.before.before in
     (below s, ap length r.set_rules.ensures ∙ length-set_all s.args.rules.now s.args.flips.now 3 ∙ s.requires.0.rules_whole)
 

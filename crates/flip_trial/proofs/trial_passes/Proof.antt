@@ -27,7 +27,7 @@ module _ (c : tie.After-take_out) where
 
 passes-requires : tie.Need-passes-requires
 passes-requires c κs =
-    let t = c.before.before.before.before.before in
+    let t = c.before.before.before.before in
     let p = (s t).requires.0 in
     (record { some = p.r_least; most = p.r_most; fits = omega (arith, p.start_fits) }, taken-length t)
 
