@@ -25,7 +25,6 @@ use Rattle.flip_order.specs.Clauses.{most_magnitude, KeysPre}
 use Rattle.flip_trial.specs.Trial.{message_in}
 use Rattle.flip_trial.specs.Clauses.{TrialPre, FirstLeaves}
 use Rattle.flip_run.specs.declared.Decoded.{Decoded}
-use Rattle.flip_run.specs.declared.Decoded.TheVariants as Decoded
 use Rattle.flip_run.specs.declared.Ended.{Ended}
 use Rattle.flip_run.specs.declared.Ended.TheVariants.{Passed}
 use Rattle.flip_run.specs.Trials.{flip_order, Verdict, passed, failed, answer_of}

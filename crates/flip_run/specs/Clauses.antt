@@ -13,7 +13,6 @@ use Rattle.flip_trial.specs.Trial.{first_trial, later_trial, trial_passes, messa
 use Rattle.flip_trial.specs.Clauses.{PlainRules, FirstBits, FirstLeaves}
 use Rattle.flip_run.specs.declared.Terms.{Terms}
 use Rattle.flip_run.specs.declared.Decoded.{Decoded}
-use Rattle.flip_run.specs.declared.Decoded.TheVariants as Decoded
 use Rattle.flip_run.specs.declared.Ended.{Ended}
 use Rattle.flip_run.specs.declared.Ended.TheVariants.{Passed, Failed}
 use Rattle.flip_run.specs.Trials.{flip_order, Verdict, passed, failed, run, answer_of}

@@ -21,13 +21,13 @@ slice-aggregate-pack c = sym (part_length c.before.before.before)
 pack-requires : tie.Need-pack-requires
 pack-requires c κs =
     let t = c.before in
-    let s = t.before.before.before.before in
+    let s = t.before.before.before in
     (subst (λ (e : Ended). PassedBits e (take s.args.k s.args.message.now)) t.in-Passed.is s.requires.1, s.requires.2 ∙ ap bytes_for (sym (part_length s)))
 
 returns : tie.Need-returns-in-Passed
 returns c =
     let x = c.args in
-    ap (λ (bytes : List ℕ). (Accepted c.in-Passed.FIELD0 c.ended-1.given.0.1.0, bytes)) c.pack.ensures
+    ap (λ (bytes : List ℕ). (Accepted c.in-Passed.trial c.in-Passed.steps, bytes)) c.pack.ensures
     ∙ sym (ap (λ (e : Ended). answered x.k e x.message.now x.output.now) c.in-Passed.is)
 
 returns-2 : tie.Need-returns-in-Failed

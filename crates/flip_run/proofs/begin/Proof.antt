@@ -63,7 +63,7 @@ module _ (c : tie.After-first_trial-done) where
 
 trial-passes-requires : tie.Need-trial_passes-requires
 trial-passes-requires c κs =
-    let f = c.before.before in
+    let f = c.before in
     let coded = (s f).requires.0.coded in
     let w = f.first_trial-done.ensures.whole in
     (coded, omega (arith, w.bits, fits coded.n_most), omega (arith, w.sums, fits coded.n_most))

@@ -104,10 +104,10 @@ module _ (c : tie.After-next_key-key invariant-loop decreases-loop) where
   here : head.loop-made.made - 1 < length (order head)
   here = omega (arith, long head, (going head).least, turn.loop-made-test.true)
 
-  least : back w32 c.next_key-key.result ≡ least_above (to_z w32 head.loop-made.key) (keys head) (code_length (s head).args.code)
+  least : back w32 c.next_key-key.result ≡ least_above (to_z w32 head.loop-made.key-bits) (keys head) (code_length (s head).args.code)
   least =
-      back_is w32 c.next_key-key.result (record { sfits = c.next_key-key.type-inv }) ∙ c.next_key-key.ensures
-      ∙ ap (least_above (to_z w32 head.loop-made.key) (keys head)) (s head).requires.0.channel_size
+      back_is w32 c.next_key-key.result (record { sfits = c.next_key-key.type_inv }) ∙ c.next_key-key.ensures
+      ∙ ap (least_above (to_z w32 head.loop-made.key-bits) (keys head)) (s head).requires.0.channel_size
 
 -- the index that is flipped
 module _ (c : tie.After-index_of-i invariant-loop decreases-loop) where
@@ -158,7 +158,7 @@ module _ (c : tie.After-later_trial-done invariant-loop decreases-loop) where
   q = restart_at (s at).args.terms.restart (mask at) (code_length (s at).args.code) (i found)
 
   abbrev after : Arrays
-  after = let last = c.later_trial-done.new.1.1.1.1.1.1 in arrays last.0 last.1.0 last.1.1.0 last.1.1.1.0
+  after = let new = c.later_trial-done.new in arrays new.work new.bits new.sums new.leaves
 
   made-is : TrialPost longest (s at).args.code q o after c.later_trial-done.result
   made-is = later_made at.loop-made.invariant.2 (s at).requires.2.later.first_bits (flips found) (s at).args.terms.restart (s at).requires.0.coded.mask_size resumed.restart_index-q.ensures c.later_trial-done.ensures.0

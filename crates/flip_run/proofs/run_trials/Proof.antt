@@ -26,11 +26,10 @@ returns : tie.Need-returns-then-terms-eq1
 returns c =
     let x = c.args in
     let on = c.requires.0 in
-    let made = c.trials-1.given.0 in
     let e = subst (BeginPost _ _ _ _ _ _) c.in-Failed.is c.begin.ensures in (
-      subst (λ (w : Verdict). Ran x.mask.now x.code w (Failed made.0 made.1.0) c.begin.new.sums)
+      subst (λ (w : Verdict). Ran x.mask.now x.code w (Failed c.in-Failed.trials c.in-Failed.steps) c.begin.new.sums)
           (sym (e.1.later.goes_on _ ∙ loop_ends (loop_starts c.requires.1.least (steps_fit on.coded.n_most e.1.later.start_most)) (order_long on c.requires.1.most) (omega (arith, c.if-terms-eq1.true))))
-          (ap (λ (m : ℕ). Failed m made.1.0) e.0),
+          (ap (λ (m : ℕ). Failed m c.in-Failed.steps) e.0),
       e.1.whole.sums,
     )
 
