@@ -15,7 +15,6 @@ use Rattle.refusal.proofs.Tests.{differs-past, outside-past, differs_no, outside
 use Rattle.bits.specs.Packing.{bytes_for}
 use Rattle.code.specs.declared.Code.{Code}
 use Rattle.code.specs.declared.Description.{Description}
-use Rattle.code.specs.declared.Description.TheVariants as Description
 use Rattle.code.specs.Code.{information_count}
 use Rattle.code.specs.Description.{mask_of, describe, on_description}
 use Rattle.code.specs.Claims.{WellFormedUnder}
@@ -120,10 +119,18 @@ other_fine p p' c channel output output' own size e =
     ∙ append-fine (own_refusals p' c) (last p' c channel output') own
     ∙ ap (λ (m : ℕ). judge ((differs m (bytes_for c.k), Alone 15) ∷ [])) size ∙ y.1
 
--- a call is well-formed, under some code, exactly if no refusal before 16 is the answer
-pub well_formed_exactly : (p : Decoder) (restart : Restart) (d channel output : List ℕ) → ((c : Code) × WellFormed p d c channel output) ↔ (of_run (decoded_as p restart d channel output).0 ≡ true)
+-- a call is well-formed exactly if no refusal before 16 is the answer
+pub well_formed_exactly : (p : Decoder) (restart : Restart) (d channel output : List ℕ) → WellFormedUnder d (λ c. SpeltOut p c channel output) ↔ (of_run (decoded_as p restart d channel output).0 ≡ true)
 unfolding decoded_as decoded_under
-well_formed_exactly p restart d channel output = (
+well_formed_exactly p restart d channel output =
+    under-exactly (λ (z : Decoded × List ℕ). of_run z.0) (λ x. (Refused x, output)) (λ x. refl) (λ c. refusals_of p c channel output)
+    (λ c. answer_of (mask_of d) c output (verdict p restart (mask_of d) c channel output)) (λ c. answer_of-run (mask_of d) c output (verdict p restart (mask_of d) c channel output))
+    (λ c. spelt_out p c channel output) d
+
+-- a call is well-formed, under some code, exactly if no refusal before 16 is the answer
+pub well_formed_is_run : (p : Decoder) (restart : Restart) (d channel output : List ℕ) → ((c : Code) × WellFormed p d c channel output) ↔ (of_run (decoded_as p restart d channel output).0 ≡ true)
+unfolding decoded_as decoded_under
+well_formed_is_run p restart d channel output = (
   λ w. exactly.0 (record { code = w.0; describes = w.1.described; rest = w.1.fine }),
   λ e. let w = exactly.1 e in (w.code, record { described = w.describes; fine = w.rest }),
 )

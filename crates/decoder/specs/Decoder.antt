@@ -40,7 +40,7 @@ own_refusals (sets w limit) c = (outside w 1 3, Alone 26) ∷ (outside limit 1 (
 abbrev pub refusals_of : Decoder → Code → List ℕ → List ℕ → List (Bool × Refusal)
 refusals_of p c channel output = channel_refusals c channel ++ (own_refusals p c ++ ((differs (length output) (bytes_for c.k), Alone 15) ∷ []))
 
--- a call is well-formed under the code c of d if no refusal before 16 applies. Exactly then its answer is an acceptance or 16: `well_formed_exactly` of
+-- a call is well-formed under the code c of d if no refusal before 16 applies. Exactly then its answer is an acceptance or 16: `well_formed_is_run` of
 -- proofs/Decoder.antt.
 pub record WellFormed (p : Decoder) (d : List ℕ) (c : Code) (channel output : List ℕ) : Type 0 where
   -- d is accepted

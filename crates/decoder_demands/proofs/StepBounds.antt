@@ -17,7 +17,7 @@ use Rattle.flip_run.specs.declared.Decoded.TheVariants.{Accepted, Refused16, Ref
 use Rattle.flip_run.specs.Claims.{of_run}
 use Rattle.decoder.specs.Decoder.{Decoder, single, sets, decoded_as}
 use Rattle.decoder.specs.Claims.{Allowed}
-use Rattle.decoder.proofs.Decoder.{spelt_out, well_formed_exactly}
+use Rattle.decoder.proofs.Decoder.{spelt_out, well_formed_is_run}
 use Rattle.decoder.proofs.Limit.{limit_fits}
 use Rattle.decoder_demands.specs.Agreement.{limit_of}
 use Rattle.decoder_demands.proofs.Agreement.{run_of}
@@ -42,7 +42,7 @@ few_allowed (sets w limit) c l a = omega (arith, a.3, limit_fits w c l)
 pub bounded : (p : Decoder) (restart : Restart) (d channel output : List ℕ) → Bounded (decoded_as p restart d channel output)
 bounded p restart d channel output =
     run-bounded (decoded_as p restart d channel output) (λ e.
-    let u = (well_formed_exactly p restart d channel output).1 e in
+    let u = (well_formed_is_run p restart d channel output).1 e in
     let c = u.0 in
     let coded = (described d c u.1.described).coded in
     let x = run_of p d c channel output u.1 in
