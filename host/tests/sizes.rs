@@ -139,7 +139,7 @@ fn the_largest_n_is_the_same_everywhere() {
         ),
         (
             "crates/arrays/specs/Sizes.antt",
-            format!("largestN = {LARGEST_N}\n"),
+            format!("largest_n = {LARGEST_N}\n"),
         ),
         (
             "host/plain/src/lib.rs",
