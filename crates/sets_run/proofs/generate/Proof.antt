@@ -67,7 +67,7 @@ module _ (c : tie.After-copy_values) where
 
 extend-requires : tie.Need-extend-requires
 extend-requires c κs =
-    let k = c.before.before.before.before in
+    let k = c.before.before.before in
     let p = (s (r k)).requires in (
       record { there = omega (arith, same-room k, (there (r k)).leaves_there); fits = p.0; small = small k },
       record { few = omega (arith, more (r k), p.2.flips_most); below = p.1.below; past = past-most p.1; small = λ a m. (small k).at _ (p.1.below a m) },
@@ -76,7 +76,7 @@ extend-requires c κs =
 
 returns-2 : tie.Need-returns
 returns-2 c =
-    rw (lt-ltb _ _ (more (r c.before)), ← held c.before.before.before.before.before.before) c.extend.ensures
+    rw (lt-ltb _ _ (more (r c.before.before.before.before.before.before)), ← held c.before.before.before.before.before.before) c.extend.ensures
 
 pub generate_spec : {M : Type 1} → statement M
 generate_spec =
@@ -86,7 +86,7 @@ generate_spec =
     returns
     copy-values-requires
     (λ c. search rules)
-    (λ c. omega (arith, (s (r c.before)).requires.2.limit_least))
+    (λ c. omega (arith, c.requires.2.limit_least))
     extend-requires
     (λ c. search rules)
     (λ c. search rules)

@@ -19,31 +19,23 @@ begin-requires c κs =
 returns : tie.Need-returns-then-search-eq1
 returns c =
     let x = c.args in
-    let made = c.trials-1.given.0 in
+    let made = c.in-Failed in
     let e = subst (BeginPost _ _ _ _ _ _) c.in-Failed.is c.begin.ensures in (
-      subst (λ (w : Verdict). Ran x.mask.now x.code w (Failed made.0 made.1.0) c.begin.new.sums)
-          (sym (e.1.later.goes_on _ ∙ none_allowed x.search x.mask.now x.code (channel_values x.channel.now) made.1.0 c.if-search-eq1.true))
-          (ap (λ (m : ℕ). Failed m made.1.0) e.0),
+      subst (λ (w : Verdict). Ran x.mask.now x.code w (Failed made.trials made.steps) c.begin.new.sums)
+          (sym (e.1.later.goes_on _ ∙ none_allowed x.search x.mask.now x.code (channel_values x.channel.now) made.steps c.if-search-eq1.true))
+          (ap (λ (m : ℕ). Failed m made.steps) e.0),
       e.1.whole.sums,
     )
 
 single-trials-requires : tie.Need-single_trials-requires
 single-trials-requires c κs =
-    let f = c.before.before.before.before.before in
-    let t = f.before.before.before in
-    let b = t.before.before in
-    let p = b.requires in
-    let e = subst (BeginPost _ _ _ _ _ _) t.in-Failed.is b.begin.ensures in
-    (p.0, e.1, f.if-search-eq1-2.true)
+    let e = subst (BeginPost _ _ _ _ _ _) c.in-Failed.is c.begin.ensures in
+    (c.requires.0, e.1, c.if-search-eq1-2.true)
 
 larger-trials-requires : tie.Need-larger_trials-requires
 larger-trials-requires c κs =
-    let f = c.before.before.before.before.before in
-    let t = f.before.before.before in
-    let b = t.before.before in
-    let p = b.requires in
-    let e = subst (BeginPost _ _ _ _ _ _) t.in-Failed.is b.begin.ensures in
-    (p.0, e.1, omega (arith, f.if-search-eq1-2.false, p.0.flips_least))
+    let e = subst (BeginPost _ _ _ _ _ _) c.in-Failed.is c.begin.ensures in
+    (c.requires.0, e.1, omega (arith, c.if-search-eq1-2.false, c.requires.0.flips_least))
 
 returns-3 : tie.Need-returns-in-Passed
 returns-3 c =

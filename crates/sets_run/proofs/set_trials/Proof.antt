@@ -155,7 +155,7 @@ module _ (c : tie.After-later_trial-done invariant-loop decreases-loop) where
   q = resumed_at (s a).args.search (mask a) (s a).args.code is
 
   abbrev after : Arrays
-  after = let last = c.later_trial-done.new.1.1.1.1.1.1 in arrays last.0 last.1.0 last.1.1.0 last.1.1.1.0
+  after = let new = c.later_trial-done.new in arrays new.work new.bits new.sums new.leaves
 
   made-is : TrialPost longest (s a).args.code q o after c.later_trial-done.result
   made-is = later_made a.loop-at.invariant.1 (s a).requires.1.first_bits (set-flips (j r)) (s a).args.search.restart (s a).requires.0.frame.coded.mask_size (resumes r) c.later_trial-done.ensures.0
