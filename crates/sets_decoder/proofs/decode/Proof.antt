@@ -19,7 +19,7 @@ module _ (c : tie.In-Accepted) where
   s = c.before.before.before.before.before
 
   abbrev code : Code
-  code = c.in-Accepted.FIELD0
+  code = c.in-Accepted.code
 
   accepted : describe s.args.description.now ≡ Accepted code
   accepted = sym c.read_description.ensures ∙ c.in-Accepted.is
