@@ -52,11 +52,9 @@ pub put_channel_spec : {M : Type 1} → statement M
 put_channel_spec =
     tie.close
     (tie.spec
-    (λ c. search rules)
     (λ c κs. search rules)
     (λ c. search rules)
     returns
-    (λ c. search rules)
     (λ c κs. search rules)
     (λ c. search rules)
     returns-2

@@ -36,12 +36,12 @@ by held channel limit a =
     on_description a (λ x. no_line (number_of x)) (λ c. line_of_answer (decoded_restarted held channel limit (replicate (bytes_for c.k) 0)))
 
 -- the code that was accepted
-module _ (c : tie.In-Accepted-2) where
+module _ (c : tie.In-Accepted) where
   abbrev held : List ℕ
   held = c.args.held.now
 
   abbrev code : Code
-  code = c.in-Accepted.FIELD0
+  code = c.in-Accepted.code
 
   accepted : Accepted code ≡ describe held
   accepted = sym c.in-Accepted.is ∙ c.read_description.ensures
@@ -76,10 +76,12 @@ returns : tie.Need-returns-in-Accepted
 unfolding decoding_line
 returns c =
     let channel = c.args.channel.now in
+    let b = c.before.before.before.before.before.before.before in
+    let a = b.before in
     put_as c.put_decoded.ensures _
-    (ap₂ (λ (mask output : List ℕ). under mask (code c.before) channel c.args.limit output) c.mask_of-mask.ensures (part-is c.before.before.before.before.before.before.before)
-    ∙ ap line_of_answer (sym (under-code (single c.args.limit) AfterFlip (held c.before) channel (replicate (bytes_for (code c.before).k) 0) (code c.before) (sym (accepted c.before))))
-    ∙ ap (by (held c.before) channel c.args.limit) (accepted c.before))
+    (ap₂ (λ (mask output : List ℕ). under mask (code a) channel c.args.limit output) c.mask_of-mask.ensures (part-is b)
+    ∙ ap line_of_answer (sym (under-code (single c.args.limit) AfterFlip (held a) channel (replicate (bytes_for (code a).k) 0) (code a) (sym (accepted a))))
+    ∙ ap (by (held a) channel c.args.limit) (accepted a))
 
 returns-2 : tie.Need-returns-in-Refused
 unfolding decoding_line
@@ -94,7 +96,7 @@ put_decoding_spec =
     (λ c κs. search rules)
     (λ c. search rules)
     (λ c κs. search rules)
-    (λ c κs. (facts c.before.before).header)
+    (λ c κs. (facts c.before).header)
     (λ c. fits c.before.before)
     (λ c. sym (part_length c.before.before.before))
     put-decoded-requires
