@@ -78,7 +78,6 @@ respond_spec =
     (λ c. search rules)
     returns-2
     (λ c. search rules)
-    (λ c. search rules)
     (λ c κs. search rules)
     (λ c. search rules)
     returns-3)

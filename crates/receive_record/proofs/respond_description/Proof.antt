@@ -27,18 +27,8 @@ abbrev by : List ℕ → List ℕ → Description → List ℕ × List ℕ
 by held bytes a = on_description a (λ x. (no_line (number_of x), held)) (λ c. (code_line (code_length c) c.k c.r, bytes))
 
 -- the code that was accepted
-module _ (c : tie.In-Accepted-2) where
-  abbrev d : List ℕ
-  d = c.args.bytes.now
-
-  abbrev code : Code
-  code = c.in-Accepted.FIELD0
-
-  accepted : Accepted code ≡ describe d
-  accepted = sym c.in-Accepted.is ∙ c.read_description.ensures
-
-  facts : Described d code
-  facts = described d code (sym accepted)
+facts : (c : tie.In-Accepted) → Described c.args.bytes.now c.in-Accepted.code
+facts c = described c.args.bytes.now c.in-Accepted.code (sym c.read_description.ensures ∙ c.in-Accepted.is)
 
 put-bytes-requires : tie.Need-put_bytes-requires
 put-bytes-requires c κs = omega (arith, description-most (facts c.before), c.requires.held_room)
@@ -46,14 +36,17 @@ put-bytes-requires c κs = omega (arith, description-most (facts c.before), c.re
 returns : tie.Need-returns-in-Accepted
 unfolding description_response
 returns c =
+    let d = c.args.bytes.now in
+    let code = c.in-Accepted.code in
+    let accepted : Accepted code ≡ describe d = sym c.in-Accepted.is ∙ c.read_description.ensures in
     let kept = c.put_bytes.ensures in
     let line = c.put_code.ensures in
     record {
       line_fits = omega (arith, line.fits, length_put line);
       held_fits = omega (arith, kept.fits, length_put kept);
       answer_is = ap₂ (λ (x y : List ℕ). (x, y)) (take_put line) (take_put kept)
-          ∙ ap (λ (size : ℕ). (code_line size (code c.before).k (code c.before).r, d c.before)) (one_shl (code c.before).n 64 (omega (arith, (facts c.before).coded.n_most)))
-          ∙ ap (by (take c.args.size c.args.held.now) (d c.before)) (accepted c.before);
+          ∙ ap (λ (size : ℕ). (code_line size code.k code.r, d)) (one_shl code.n 64 (omega (arith, (described d code (sym accepted)).coded.n_most)))
+          ∙ ap (by (take c.args.size c.args.held.now) d) accepted;
     }
 
 returns-2 : tie.Need-returns-in-Refused
@@ -71,7 +64,7 @@ respond_description_spec =
     (λ c. search rules)
     put-bytes-requires
     (λ c. search rules)
-    (λ c. omega (arith, (facts c.before.before.before.before.before.before.before).coded.n_most))
+    (λ c. omega (arith, (facts c.before.before.before.before.before.before).coded.n_most))
     (λ c. search rules)
     (λ c κs. search rules)
     (λ c. search rules)
