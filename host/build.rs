@@ -1,5 +1,6 @@
-//! Links the static libraries where `rt staticlib` has written them. Without them the reference and
-//! its unit tests still build. Compiles the benchmark's plain C with each compiler that there is.
+//! Links the static libraries that `rt lib` has written and .ci/run has copied to target/staticlib.
+//! Without them the reference and its unit tests still build. Compiles the benchmark's plain C with
+//! each compiler that there is.
 
 use std::env;
 use std::path::{Path, PathBuf};
@@ -31,7 +32,8 @@ fn link_libraries() {
             println!("cargo:rustc-link-lib=static={name}");
         } else {
             println!(
-                "cargo:warning=no lib{name}.a: tests that call it need `rt staticlib {name}` first"
+                "cargo:warning=no lib{name}.a in target/staticlib: tests that call it need `rt lib` in \
+                 crates/{name} first, and a copy of its archive"
             );
         }
     }

@@ -198,7 +198,8 @@ impl Crates {
     }
 }
 
-/// The names in a text that are imported from a crate, or that are the file's own.
+/// The names in a text that are the file's own, or that are imported from crates: all that one word may
+/// stand for.
 fn citations(text: &str, imports: &[Import], own: impl Fn(&str) -> Option<Name>) -> Vec<Name> {
     let of = |word: &str| {
         let names = imports.iter().filter_map(|import| import.name_of(word));
@@ -286,6 +287,30 @@ unused = 0
         let fault = "b/specs/Sum.antt: total cites b/specs/Clauses.antt: helper, which does not \
                      stand where it is to be believed";
         assert_eq!(faults, [fault]);
+    }
+
+    #[test]
+    fn a_name_before_its_fields_is_cited() {
+        for (of, by) in [
+            ("helper.0", "total"),
+            ("(helper 1).0", "total"),
+            (
+                "pair.0\n\nabbrev pub pair : ℕ × ℕ\npair = helper.work.0",
+                "pair",
+            ),
+        ] {
+            let faults = cited(&crates(&SUM.replace("helper 1", of)), "operation").faults;
+            assert_eq!(faults.len(), 1, "{of}: {faults:?}");
+            let start = format!("b/specs/Sum.antt: {by} cites b/specs/Clauses.antt: helper,");
+            assert!(faults[0].starts_with(&start), "{of}: {faults:?}");
+        }
+    }
+
+    /// Which of them a word stands for is told by its type, which is not read.
+    #[test]
+    fn a_word_with_two_imports_cites_both() {
+        let other = "use Rattle.b.specs.Terms.{helper}\n".to_string() + SUM;
+        assert_eq!(cited(&crates(&other), "operation").faults.len(), 2);
     }
 
     #[test]
