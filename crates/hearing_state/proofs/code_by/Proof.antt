@@ -22,7 +22,7 @@ module _ (c : tie.In-Accepted) where
   s = c.before.before.before.before
 
   abbrev code : Code
-  code = c.in-Accepted.FIELD0
+  code = c.in-Accepted.code
 
   accepted : describe (description_of (state s)) ≡ Accepted code
   accepted = sym c.described_in.ensures ∙ c.in-Accepted.is
@@ -44,7 +44,7 @@ code_by_spec =
     (tie.spec
     (λ c κs. omega (arith, c.requires.description_size))
     (λ c. search rules)
-    (λ c κs. ((described _ _ (accepted c)).coded.n_most, (s c).requires))
+    (λ c κs. ((described _ _ (accepted c)).coded.n_most, c.requires))
     returns
     (λ c. search rules)
     returns-2

@@ -36,7 +36,7 @@ mask_is c = c.mask_of.ensures ∙ ap mask_of c.record_in.ensures
 
 decode-by-requires : tie.Need-decode_by-requires
 decode-by-requires c κs =
-    let m = c.before.before in
+    let m = c.before in
     let s = m.before.before.before.before.before.before in
     subst (λ (mask : List ℕ). Coded mask s.args.code) (sym (mask_is m)) (facts s).coded
 
@@ -54,10 +54,10 @@ decode_values_spec =
     (tie.spec
     (λ c. search rules)
     (λ c. omega (arith, (facts c.before.before.before.before).coded.n_most))
-    (λ c κs. c.before.before.before.before.requires.field)
+    (λ c κs. c.requires.field)
     mask-of-requires
     (λ c.
-    let s = c.before.before.before.before.before.before.before in
+    let s = c.before.before.before.before.before.before in
     sym (length-take-le _ _ (omega (arith, size s, s.requires.room))))
     decode-by-requires
     (λ c. search rules)

@@ -13,7 +13,7 @@ by s t = let x = s.args in t && is_hearing x.code (hearing_by x.count x.values.n
 
 returns : tie.Need-returns-then-ends_in_zeros
 returns c =
-    c.is_hearing.ensures ∙ ap (by c.before.before.before.before) (sym c.if-ends_in_zeros.true ∙ c.ends_in_zeros.ensures)
+    c.is_hearing.ensures ∙ ap (by c.before.before.before.before.before) (sym c.if-ends_in_zeros.true ∙ c.ends_in_zeros.ensures)
 
 returns-2 : tie.Need-returns
 returns-2 c = ap (by c.before.before.before.before) (sym c.if-ends_in_zeros.false ∙ c.ends_in_zeros.ensures)
@@ -22,7 +22,7 @@ pub is_state_spec : {M : Type 1} → statement M
 is_state_spec =
     tie.close
     (tie.spec
-    (λ c κs. omega (arith, c.before.before.requires.1.description_size))
-    (λ c κs. let s = c.before.before.before.before in (s.requires.0, s.requires.1.values_size))
+    (λ c κs. omega (arith, c.requires.1.description_size))
+    (λ c κs. (c.requires.0, c.requires.1.values_size))
     returns
     returns-2)
