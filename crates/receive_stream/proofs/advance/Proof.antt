@@ -1,34 +1,20 @@
 -- `receive_stream::advance` meets its contract: one law of Steps.antt for each way of going on.
-use mathlib.Core.Path.{◌≡◌, sym, ◌∙◌, subst}
-use mathlib.Core.List.{List}
-use Prim.Native.Nat.{ℕ, ◌+◌}
+use mathlib.Core.Path.{sym, ◌∙◌, subst}
+use Prim.Native.Nat.{◌+◌}
 use borrow.Author.Rules.{rules}
 use lib.ListN.{take}
 use lib.Seq.{length-take-le}
-use Rattle.receive_stream.specs.declared.Ahead.{Ahead}
-use Rattle.receive_stream.specs.declared.Ahead.TheVariants.{Whole, Short}
-use Rattle.receive_stream.specs.Clauses.{ahead_of, Fits}
+use Rattle.receive_stream.specs.Clauses.{Fits}
 use Rattle.receive_stream.proofs.Steps.{record_there, advance_whole, advance_short, advance_cut, advance_end, advance_more}
 use Rattle.receive_stream.proofs.advance.Statement.{statement}
 use Rattle.receive_stream.proofs.advance.Tie as tie
 
--- the bytes of the record read so far, and what is known from them
-module _ (c : tie.After-ahead_of) where
-  abbrev there : List ℕ
-  there = let a = c.args in take (a.stream.there + a.got) a.bytes.now
-
-  says : (a : Ahead) → c.ahead_of.result ≡ a → ahead_of there ≡ a
-  says a e = sym c.ahead_of.ensures.0 ∙ e
-
-  fits : (a : Ahead) → c.ahead_of.result ≡ a → Fits there a
-  fits a e = subst (Fits there) e c.ahead_of.ensures.1
-
 respond-to-requires : tie.Need-respond_to-requires
 respond-to-requires c κs =
-    let a = c.before.before.before.before.before.before.before.before.before.before.before in
-    let pre = a.requires in
+    let a = c.args in
+    let pre = c.requires in
     record {
-      header = (record_there a.args.stream a.args.got a.args.bytes.now a.args.held.now a.args.output.now pre (says c.before.before.before.before Whole c.in-Whole.is)).least;
+      header = (record_there a.stream a.got a.bytes.now a.held.now a.output.now pre (sym c.ahead_of.ensures.0 ∙ c.in-Whole.is)).least;
       held_most = pre.between.held_most;
       held_room = pre.held_room;
       output_room = pre.between.output_room;
@@ -42,20 +28,21 @@ returns c =
 
 returns-2 : tie.Need-returns-then-got-eq0
 returns-2 c =
-    advance_cut c.args.stream c.args.got c.args.bytes.now c.args.held.now c.args.output.now c.requires (says c.before.before.before.before.before.before.before _ c.in-Missing.is) c.if-got-eq0.true c.if-there-eq0.false c.cut-then-got-eq0.ensures
+    advance_cut c.args.stream c.args.got c.args.bytes.now c.args.held.now c.args.output.now c.requires (sym c.ahead_of.ensures.0 ∙ c.in-Missing.is) c.if-got-eq0.true c.if-there-eq0.false c.cut-then-got-eq0.ensures
 
 returns-3 : tie.Need-returns-in-Whole
 returns-3 c =
-    advance_whole c.args.stream c.args.got c.args.bytes.now c.args.held.now c.args.output.now c.requires (says c.before.before.before.before.before.before.before.before Whole c.in-Whole.is) c.respond_to.ensures
+    advance_whole c.args.stream c.args.got c.args.bytes.now c.args.held.now c.args.output.now c.requires (sym c.ahead_of.ensures.0 ∙ c.in-Whole.is) c.respond_to.ensures
 
 returns-4 : tie.Need-returns-in-Short
 returns-4 c =
-    advance_short c.args.stream c.args.got c.args.bytes.now c.args.held.now c.args.output.now c.requires (says c.before.before.before.before.before Short c.in-Short.is) c.cut.ensures
+    advance_short c.args.stream c.args.got c.args.bytes.now c.args.held.now c.args.output.now c.requires (sym c.ahead_of.ensures.0 ∙ c.in-Short.is) c.cut.ensures
 
 returns-5 : tie.Need-returns-else-got-eq0
 returns-5 c =
-    let told = c.missing-1.given in
-    advance_more c.args.stream c.args.got c.args.bytes.now c.args.held.now c.args.output.now c.requires (says c.before.before.before.before _ told.1) (fits c.before.before.before.before _ told.1) c.if-got-eq0.false
+    let a = c.args in
+    let is = c.in-Missing.is in
+    advance_more a.stream a.got a.bytes.now a.held.now a.output.now c.requires (sym c.ahead_of.ensures.0 ∙ is) (subst (Fits (take (a.stream.there + a.got) a.bytes.now)) is c.ahead_of.ensures.1) c.if-got-eq0.false
 
 pub advance_spec : {M : Type 1} → statement M
 advance_spec =

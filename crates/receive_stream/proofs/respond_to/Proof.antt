@@ -10,13 +10,13 @@ use Rattle.receive_stream.proofs.respond_to.Statement.{statement}
 use Rattle.receive_stream.proofs.respond_to.Tie as tie
 
 sub-waiting : tie.Need-overflow_sub-result
-sub-waiting c = c.Ready-of.ensures.most
+sub-waiting c = c.ready_of-written.ensures.most
 
 returns : tie.Need-returns
 returns c =
     let a = c.args in
     let r = c.respond-response.ensures in
-    let ready = c.Ready-of.ensures in
+    let ready = c.ready_of-written.ensures in
     let before = a.stream.waiting in
     record {
       there_is = search rules;
