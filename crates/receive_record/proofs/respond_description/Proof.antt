@@ -7,7 +7,6 @@ use borrow.Author.Rules.{rules}
 use lib.ListN.{take}
 use Rattle.laws.proofs.Powers.{one_shl}
 use Rattle.refusal.specs.Judge.{number_of}
-use Rattle.code.specs.declared.Code.{Code}
 use Rattle.code.specs.declared.Description.{Description}
 use Rattle.code.specs.declared.Description.TheVariants.{Accepted}
 use Rattle.code.specs.Code.{code_length}
