@@ -13,7 +13,6 @@ use Rattle.refusal.specs.Judge.{differs, judge}
 use Rattle.bits.specs.Packing.{bytes_for}
 use Rattle.code.specs.declared.Code.{Code}
 use Rattle.code.specs.declared.Description.{Description}
-use Rattle.code.specs.declared.Description.TheVariants as Description
 use Rattle.code.specs.Code.{code_length}
 use Rattle.code.specs.Description.{mask_of, describe}
 use Rattle.code.specs.Claims.{Coded}

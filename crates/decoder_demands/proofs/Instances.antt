@@ -186,6 +186,10 @@ module _ (byte byte' : ℕ) where
       ))
       both.answers
 
+  -- of restarted decoding alone
+  pub restarted_refuses : decoded_restarted wide_d vector 1 (byte' ∷ []) ≡ (Refused16 1 24, byte' ∷ [])
+  restarted_refuses = both_refuse.1
+
   -- two trials are made, so there is one q
   pub one_q : length (both_decode 5 byte byte' (omega arith) (omega arith)).qs ≡ 1
   one_q =

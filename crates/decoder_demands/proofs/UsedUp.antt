@@ -30,7 +30,7 @@ use Rattle.flip_run.specs.Trials.{run}
 use Rattle.decoder.specs.Candidate.{doubtful, extensions, insert_each}
 use Rattle.decoder.specs.Tried.{tried, flip_sets}
 use Rattle.decoder.specs.Decoder.{sets, flips_of, decoded_under, decoded_as, sets_full}
-use Rattle.decoder.proofs.Examples.{wide_d, wide_code, used_up_v, ten, set_examples}
+use Rattle.decoder.proofs.Examples.{wide_d, wide_code, used_up_v, bits_on, ten, set_examples}
 use Rattle.decoder_demands.specs.Agreement.{SameRun}
 use Rattle.decoder_demands.proofs.Agreement.{agreement}
 use Rattle.decoder_demands.proofs.Known.{run_in, refused_run}
@@ -64,6 +64,10 @@ used_up_fails =
       subst (λ (flips : List (List ℕ)). length flips + 1 ≡ 11) (set_examples 0).used_up.2
           (omega (arith, x.0, length-map (flips_of (sets 2 512) (mask_of wide_d) wide_code (channel_values used_up_v)) (later_trial AfterFlip (mask_of wide_d) wide_code (channel_values used_up_v)))),
     )
+
+-- the third trial flips 3 and 5, and fails
+pub used_up_set_fails : (trial_passes (mask_of wide_d) wide_code (bits_on used_up_v (3 ∷ 5 ∷ [])) ≡ false) × (length ten + 1 ≡ 11)
+used_up_set_fails = (used_up_fails.0 3 (omega arith) (omega arith), used_up_fails.1)
 
 -- ---- sets of one, two or three indices: 16 carries 26 trials of at most 512
 

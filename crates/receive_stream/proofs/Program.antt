@@ -199,3 +199,7 @@ module _ (bytes held output : List ℕ) (record_room : longest_record ≤ length
 
   pub run_empty : Run AdvancePost 1 starting bytes held output [] (take (length (end_line 0)) written ++ [])
   run_empty = turn {s = starting} {s' = ended} [] [] (omega arith) (omega arith) (λ _. refl) refl refl (advance_end starting 0 bytes held output before refl after) (over refl)
+
+  -- what that run writes is what is printed for no bytes
+  pub empty_printed : take (length (end_line 0)) written ++ [] ≡ printed []
+  empty_printed = (run_printed run_empty).0

@@ -1,3 +1,4 @@
 pub mod Silence
 pub mod TwoKinds
 pub mod Instances
+pub mod StartOne
