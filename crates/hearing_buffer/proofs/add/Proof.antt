@@ -21,12 +21,12 @@ by s a =
 
 returns : tie.Need-returns-in-Accepted
 returns c =
-    c.add_under.ensures ∙ sym (ap (by c.before.before.before.before.before) (sym c.Code-in.ensures ∙ c.in-Accepted.is))
+    c.add_under.ensures ∙ sym (ap (by c.before.before.before.before.before.before.before.before) (sym c.code_in.ensures ∙ c.in-Accepted.is))
 
 returns-2 : tie.Need-returns-in-Refused
 unfolding refused_or
 returns-2 c =
-    sym (ap (by c.before.before.before.before.before) (sym c.Code-in.ensures ∙ c.in-Refused.is))
+    sym (ap (by c.before.before.before.before) (sym c.code_in.ensures ∙ c.in-Refused.is))
 
 pub add_spec : {M : Type 1} → statement M
 add_spec =
@@ -34,7 +34,7 @@ add_spec =
     (tie.spec
     (λ c κs. search rules)
     (λ c. search rules)
-    (λ c κs. let t = c.before in sym t.Code-in.ensures ∙ t.in-Accepted.is)
+    (λ c κs. let t = c.before in sym t.code_in.ensures ∙ t.in-Accepted.is)
     (λ c. search rules)
     (λ c. search rules)
     returns

@@ -71,7 +71,7 @@ module _ (c : tie.In-Fine) where
 returns : tie.Need-returns-in-Fine
 unfolding refused_or
 returns c =
-    let t = c.before.before.before in
+    let t = c.before.before.before.before in
     let s = start t in
     let x = s.args in
     let sums = c.add_values.ensures ∙ sums_are x.code (h s) x.channel.now (n_most s) (parts (b s) (size s)).values_size (hears s) (fine t) in

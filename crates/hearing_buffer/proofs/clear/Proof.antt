@@ -25,18 +25,18 @@ by s a = let b = s.args.buffer.now in answer_in (on_description a (refused_in (s
 
 -- a buffer whose state is not refused
 size : (t : tie.In-Accepted) → length t.args.buffer.now ≡ hearing_size
-size t = code-size t.args.buffer.now _ (sym t.Code-in.ensures ∙ t.in-Accepted.is)
+size t = code-size t.args.buffer.now _ (sym t.code_in.ensures ∙ t.in-Accepted.is)
 
 returns : tie.Need-returns-in-Accepted
 unfolding refused_or
 returns c =
     ap (λ (l : List ℕ). (Done 0, l)) (c.clear_from.ensures ∙ clear_bytes c.args.buffer.now (size c.before.before.before.before))
-    ∙ sym (ap (by c.before) (sym c.Code-in.ensures ∙ c.in-Accepted.is))
+    ∙ sym (ap (by c.before.before.before.before.before.before.before) (sym c.code_in.ensures ∙ c.in-Accepted.is))
 
 returns-2 : tie.Need-returns-in-Refused
 unfolding refused_or
 returns-2 c =
-    sym (ap (by c.before.before.before.before) (sym c.Code-in.ensures ∙ c.in-Refused.is))
+    sym (ap (by c.before.before.before) (sym c.code_in.ensures ∙ c.in-Refused.is))
 
 pub clear_spec : {M : Type 1} → statement M
 clear_spec =

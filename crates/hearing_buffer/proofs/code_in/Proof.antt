@@ -29,6 +29,6 @@ code_in_spec =
     (λ c. search rules)
     (λ c. search rules)
     (λ c. search rules)
-    (λ c κs. let t = c.before.before.before in parts t.before.before.args.buffer.now t.if-buffer-eq-HEARING_SIZE.true)
+    (λ c κs. parts c.args.buffer.now c.if-buffer-eq-HEARING_SIZE.true)
     returns
     returns-2)

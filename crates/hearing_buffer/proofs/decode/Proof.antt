@@ -23,11 +23,11 @@ by s a =
 
 returns : tie.Need-returns-in-Accepted
 returns c =
-    c.decode_under.ensures ∙ sym (ap (by c.before.before.before.before) (sym c.Code-in.ensures ∙ c.in-Accepted.is))
+    c.decode_under.ensures ∙ sym (ap (by c.before.before.before.before.before.before.before.before) (sym c.code_in.ensures ∙ c.in-Accepted.is))
 
 returns-2 : tie.Need-returns-in-Refused
 returns-2 c =
-    sym (ap (by c.before.before.before.before) (sym c.Code-in.ensures ∙ c.in-Refused.is))
+    sym (ap (by c.before.before.before.before) (sym c.code_in.ensures ∙ c.in-Refused.is))
 
 pub decode_spec : {M : Type 1} → statement M
 decode_spec =
@@ -35,7 +35,7 @@ decode_spec =
     (tie.spec
     (λ c κs. search rules)
     (λ c. search rules)
-    (λ c κs. let t = c.before in sym t.Code-in.ensures ∙ t.in-Accepted.is)
+    (λ c κs. let t = c.before in sym t.code_in.ensures ∙ t.in-Accepted.is)
     (λ c. search rules)
     (λ c. search rules)
     returns

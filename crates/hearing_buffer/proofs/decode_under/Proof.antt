@@ -49,7 +49,7 @@ decode_under_spec =
     (λ c. omega (arith, size c.before.before))
     (λ c. search rules)
     (λ c κs.
-    let s = c.before.before.before.before.before in
+    let s = c.before.before.before.before in
     let p = parts (b s) (size s) in
     record {
       field = omega (arith, p.description_size);

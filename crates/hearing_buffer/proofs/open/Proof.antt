@@ -27,7 +27,7 @@ by s t a =
     cond t (answer_in (on_description a (refused_in no_state) (λ c. (Fine, state_of s.args.description.now fresh))) b) (Refused (Alone 40), b)
 
 returns : tie.Need-returns-then-buffer-ne-HEARING_SIZE
-returns c = ap (λ (t : Bool). by c.before t (describe c.args.description.now)) (sym (ne_eqb _ _ c.if-buffer-ne-HEARING_SIZE.true))
+returns c = ap (λ (t : Bool). by c.before.before.before t (describe c.args.description.now)) (sym (ne_eqb _ _ c.if-buffer-ne-HEARING_SIZE.true))
 
 -- a buffer of the right size: what follows goes by the description
 module _ (r : tie.After-read_description) where
@@ -37,7 +37,7 @@ module _ (r : tie.After-read_description) where
   described-as : (a : Description) → r.read_description.result ≡ a → by start true a ≡ opened_in start.args.description.now start.args.buffer.now
   described-as a e =
       ap (by start true) (sym e ∙ r.read_description.ensures)
-      ∙ ap (λ (t : Bool). by start t (describe start.args.description.now)) (sym (eq-eqb _ _ r.if-buffer-ne-HEARING_SIZE.left))
+      ∙ ap (λ (t : Bool). by start t (describe start.args.description.now)) (sym (eq-eqb _ _ r.if-buffer-ne-HEARING_SIZE.false))
 
 returns-2 : tie.Need-returns-in-Accepted
 unfolding refused_or
@@ -56,8 +56,8 @@ open_spec =
     (λ c κs. search rules)
     (λ c. search rules)
     (λ c κs.
-    let t = c.before in
-    let r = t.before.before in
+    let t = c in
+    let r = c in
     (description-most (described _ _ (sym r.read_description.ensures ∙ t.in-Accepted.is)), r.if-buffer-ne-HEARING_SIZE.false))
     (λ c. search rules)
     (λ c. search rules)
