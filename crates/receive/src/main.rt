@@ -2,11 +2,13 @@
 // in `receive_stream`: this file only reads and writes.
 #![tactic(auto)]
 
+ghost use Rattle.std.specs.Prelude.{IfOk, ◌≤◌, length};
 ghost use Rattle.receive.specs.Clauses.{Rooms, StreamOver};
 
 use code::LONGEST;
-use libc::{STDIN_FILENO, STDOUT_FILENO};
 use receive_stream::Stream;
+use std::io;
+use std::io::{ErrorKind, Read, Write};
 
 // The longest record.
 const RECORD: usize = 65535;
@@ -14,29 +16,60 @@ const RECORD: usize = 65535;
 // Lines are collected before they are written.
 const OUTPUT: usize = 16384;
 
+// Reads until the buffer is full or the input ends. Returns how many bytes were read. A read that was interrupted is made again.
+fn read_full<R: Read>(reader: &mut R, buffer: &mut [u8]) -> io::Result<usize>
+    ensures { IfOk result (λ n. n ≤ length buffer.new) }
+{
+    let mut filled = 0usize;
+    for _ in 0..u64::MAX {
+        if filled >= buffer.len() {
+            break;
+        }
+        match reader.read(&mut buffer[filled..]) {
+            Ok(0) => break,
+            Ok(n) => filled += n,
+            Err(error) => {
+                if error.kind() != ErrorKind::Interrupted {
+                    return Err(error);
+                }
+            }
+        }
+    }
+    Ok(filled)
+}
+
 // Reads and writes until the stream is over. No input is long enough for the turns to reach their bound.
-fn receive(bytes: &mut [u8], held: &mut [u8], output: &mut [u8]) -> Stream
+fn receive<R: Read, W: Write>(
+    reader: &mut R,
+    writer: &mut W,
+    bytes: &mut [u8],
+    held: &mut [u8],
+    output: &mut [u8],
+) -> io::Result<Stream>
     requires { Rooms LONGEST bytes.old held.old output.old }
-    ensures { StreamOver result }
+    ensures { IfOk result StreamOver }
 {
     let mut stream = receive_stream::start();
     while stream.turns < u64::MAX {
         if stream.wanted == 0 {
-            return stream;
+            return Ok(stream);
         }
         let there = stream.there;
         let end = there + stream.wanted;
-        let got = io::read_full(STDIN_FILENO, &mut bytes[there..end]);
+        let got = read_full(reader, &mut bytes[there..end])?;
         stream = receive_stream::advance(stream, got, bytes, held, output);
         let ready = stream.ready;
-        io::write_all(STDOUT_FILENO, &output[..ready]);
+        writer.write_all(&output[..ready])?;
     }
-    stream
+    Ok(stream)
 }
 
-fn main() {
+fn main(rt: HostRuntime) -> io::Result<()> {
     let mut bytes = [0u8; RECORD];
     let mut held = [0u8; LONGEST];
     let mut output = [0u8; OUTPUT];
-    receive(&mut bytes, &mut held, &mut output);
+    let mut reader = rt.stdin();
+    let mut writer = rt.stdout();
+    receive(&mut reader, &mut writer, &mut bytes, &mut held, &mut output)?;
+    Ok(())
 }
