@@ -16,7 +16,8 @@ const RECORD: usize = 65535;
 // Lines are collected before they are written.
 const OUTPUT: usize = 16384;
 
-// Reads until the buffer is full or the input ends. Returns how many bytes were read. A read that was interrupted is made again.
+// Reads until the buffer is full or the input ends. Returns how many bytes were read. A read that was interrupted is made again. An error is the
+// reader's own, and the buffer then holds what was read before it.
 fn read_full<R: Read>(reader: &mut R, buffer: &mut [u8]) -> io::Result<usize>
     ensures { IfOk result (λ n. n ≤ length buffer.new) }
 {
@@ -38,7 +39,8 @@ fn read_full<R: Read>(reader: &mut R, buffer: &mut [u8]) -> io::Result<usize>
     Ok(filled)
 }
 
-// Reads and writes until the stream is over. No input is long enough for the turns to reach their bound.
+// Reads and writes until the stream is over. No input is long enough for the turns to reach their bound. An error is the reader's or the writer's own:
+// the buffers then hold what was read and made before it.
 fn receive<R: Read, W: Write>(
     reader: &mut R,
     writer: &mut W,
