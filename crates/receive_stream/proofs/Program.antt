@@ -202,4 +202,4 @@ module _ (bytes held output : List ℕ) (record_room : longest_record ≤ length
 
   -- what that run writes is what is printed for no bytes
   pub empty_printed : take (length (end_line 0)) written ++ [] ≡ printed []
-  empty_printed = (run_printed run_empty).0
+  empty_printed = (run-printed run_empty).0
