@@ -36,7 +36,7 @@ fold-snoc : (size : ℕ) (sums : List ℤ) (vectors : List (List ℕ)) (channel 
     → fold_of_sums size sums (map channel_values (vectors ++ (channel ∷ [])))
     ≡ table (λ i. clip (get_or (fold_of_sums size sums (map channel_values vectors)) i (pos 0) +ℤ get_or (channel_values channel) i (pos 0))) size
 fold-snoc size sums [] channel = refl
-fold-snoc size sums (v ∷ vectors) channel = fold-snoc size _ vectors channel
+fold-snoc size sums (v ∷ vectors) channel = fold-snoc size (table (λ i. clip (get_or sums i (pos 0) +ℤ get_or (channel_values v) i (pos 0))) size) vectors channel
 
 module _ (d : List ℕ) (c : Code) (code : describe d ≡ Description.Accepted c) where
   abbrev N : ℕ
@@ -137,8 +137,8 @@ module _ (d : List ℕ) (c : Code) (code : describe d ≡ Description.Accepted c
 
   kept : (s : State) (vectors : List (List ℕ)) (calls : List Call) → Invariant s vectors → Invariant (after s calls) (accepted_in c vectors calls)
   kept s vectors [] k = k
-  kept s vectors (add channel ∷ calls) k = kept _ _ calls (kept-add s vectors k channel (judge (add_refusals c (length vectors) channel)) refl)
-  kept s vectors (clear ∷ calls) k = kept _ _ calls (kept_clear s vectors k)
+  kept s vectors (add channel ∷ calls) k = kept (added s channel).1 (refused_or (judge (add_refusals c (length vectors) channel)) (λ _. vectors) (vectors ++ (channel ∷ []))) calls (kept-add s vectors k channel (judge (add_refusals c (length vectors) channel)) refl)
+  kept s vectors (clear ∷ calls) k = kept (cleared s).1 [] calls (kept_clear s vectors k)
 
   -- from a fresh hearing
   kept-after : (calls : List Call) → Invariant (after (opened d).1 calls) (accepted_in c [] calls)
