@@ -37,7 +37,7 @@ module _ (s : tie.Start) where
   size = sums.size c b channel s.requires
 
   channel-room : length channel ≤ 2 ^ largest_n
-  channel-room = omega (arith, sums.channel-long c b channel s.requires, sums.room c b channel s.requires)
+  channel-room = omega (arith, sums.channel_long c b channel s.requires, sums.room c b channel s.requires)
 
   -- the description, as it is lent
   part-long : length (take longest_description b) ≡ longest_description
@@ -52,7 +52,7 @@ copied k = k.copy.ensures ∙ sums.copied (c k.before.before.before.before.befor
 
 made : (a : tie.After-add_values) → a.add_values.new.values ≡ (added_to (c a.before.before.before.before.before.before.before.before) (state_in (b a.before.before.before.before.before.before.before.before)).hearing (channel a.before.before.before.before.before.before.before.before)).values
 made a =
-    a.add_values.ensures ∙ ap (λ (v : List ℕ). splice v 0 (clipped_sums (length (channel a.before.before.before.before.before.before.before.before)) v (channel a.before.before.before.before.before.before.before.before))) (copied a.before.before.before) ∙ sums.sums-made (c a.before.before.before.before.before.before.before.before) (b a.before.before.before.before.before.before.before.before) (channel a.before.before.before.before.before.before.before.before) a.requires
+    a.add_values.ensures ∙ ap (λ (v : List ℕ). splice v 0 (clipped_sums (length (channel a.before.before.before.before.before.before.before.before)) v (channel a.before.before.before.before.before.before.before.before))) (copied a.before.before.before) ∙ sums.sums_made (c a.before.before.before.before.before.before.before.before) (b a.before.before.before.before.before.before.before.before) (channel a.before.before.before.before.before.before.before.before) a.requires
 
 add-values-requires : tie.Need-add_values-requires
 add-values-requires v κs =
@@ -62,7 +62,7 @@ add-values-requires v κs =
 
 decode-values-requires : tie.Need-decode_values-requires
 decode-values-requires d κs =
-    let a = d.before.before.before.before in
+    let a = d.before.before.before in
     let s = a.before.before.before.before.before.before.before.before in
     let long = ap (λ (l : List ℕ). length l) (made a) ∙ sums.sums-long (c s) (b s) (channel s) s.requires in
     record {
@@ -76,7 +76,7 @@ returns r =
     let output = r.args.output.now in
     r.decode_values.ensures
     ∙ ap₂ (λ (l v : List ℕ). decoded_as (single r.args.limit) AfterFlip l (take (code_length (c r.before.before.before.before.before.before.before.before.before.before.before.before.before.before)) v) output) (record_is r.before.before.before.before.before.before.before.before.before.before.before.before.before.before) (made r.before.before.before.before.before.before)
-    ∙ sym (sums.decoded-sums (c r.before.before.before.before.before.before.before.before.before.before.before.before.before.before) (b r.before.before.before.before.before.before.before.before.before.before.before.before.before.before) (channel r.before.before.before.before.before.before.before.before.before.before.before.before.before.before) r.requires r.args.limit output)
+    ∙ sym (sums.decoded_sums (c r.before.before.before.before.before.before.before.before.before.before.before.before.before.before) (b r.before.before.before.before.before.before.before.before.before.before.before.before.before.before) (channel r.before.before.before.before.before.before.before.before.before.before.before.before.before.before) r.requires r.args.limit output)
 
 pub decode_sums_spec : {M : Type 1} → statement M
 decode_sums_spec =

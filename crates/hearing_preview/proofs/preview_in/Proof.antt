@@ -11,7 +11,7 @@ returns c = (c.preview_under.ensures, refl)
 returns-2 : tie.Need-returns-in-Refused
 returns-2 c =
     let x = c.args in
-    (sym (preview_no_code x.buffer.now x.channel.now x.limit x.output.now _ (sym c.Code-in.ensures ∙ c.in-Refused.is)), refl)
+    (sym (preview_no_code x.buffer.now x.channel.now x.limit x.output.now _ (sym c.code_in.ensures ∙ c.in-Refused.is)), refl)
 
 pub preview_in_spec : {M : Type 1} → statement M
 preview_in_spec =
@@ -19,7 +19,7 @@ preview_in_spec =
     (tie.spec
     (λ c κs. search rules)
     (λ c. search rules)
-    (λ c κs. let t = c.before in sym t.Code-in.ensures ∙ t.in-Accepted.is)
+    (λ c κs. let t = c.before in sym t.code_in.ensures ∙ t.in-Accepted.is)
     (λ c. search rules)
     (λ c. search rules)
     returns

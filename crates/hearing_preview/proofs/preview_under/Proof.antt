@@ -52,7 +52,7 @@ preview_under_spec =
     (λ c. search rules)
     (λ c κs.
     let t = c.before in
-    let j = t.before.before in
+    let j = t.before in
     record { code_is = j.requires; fine = sym (judged j) ∙ t.in-Fine.is })
     (λ c. search rules)
     (λ c. search rules)
