@@ -53,7 +53,7 @@ fn preview_under(
 // Previews an add to the hearing in a buffer, which is only read and holds afterwards what it held.
 pub fn preview_in(buffer: &[u8], channel: &[u8], limit: u32, output: &mut [u8]) -> Decoded
     ensures { ((result, output.new) ≡ previewed_in buffer.now channel.now limit output.old)
-        × (buffer.now ≡ buffer.now) }
+        × (buffer.exit.now ≡ buffer.entry.now) }
 {
     match hearing_buffer::code_in(buffer) {
         Description::Accepted(code) => preview_under(code, buffer, channel, limit, output),

@@ -166,7 +166,7 @@ pub extern "C" fn polar_hearing_preview(
 ) -> u64
     ensures { ((result, payload.new)
         ≡ numbered decoded_parts (previewed_in state.now channel.now limit payload.old))
-        × (state.now ≡ state.now) }
+        × (state.exit.now ≡ state.entry.now) }
 {
     decoded_answer(hearing_preview::preview_in(state, channel, limit, payload))
 }
