@@ -76,7 +76,7 @@ fn object_of(name: &str, command: &str) -> Option<PathBuf> {
 /// The architecture that `rt` compiles for.
 fn base_architecture() -> Option<&'static str> {
     let x86_64 = env::var("CARGO_CFG_TARGET_ARCH").is_ok_and(|of| of == "x86_64");
-    x86_64.then_some("-march=x86-64")
+    x86_64.then_some("-march=x86-64-v2")
 }
 
 fn version_of(command: &str) -> String {
