@@ -11,7 +11,6 @@ use Rattle.arrays.specs.Padded.{padded, all_zero}
 use Rattle.arrays.proofs.Zeros.{are_zeros, take-padded, drop-padded}
 use Rattle.code.specs.declared.Code.{Code}
 use Rattle.code.specs.declared.Description.{Description}
-use Rattle.code.specs.declared.Description.TheVariants as Description
 use Rattle.code.specs.Description.{word, describe, on_description}
 use Rattle.code.specs.Claims.{Laid, accepts}
 use Rattle.code.specs.Code.{longest_description}

@@ -26,7 +26,6 @@ use Rattle.bits.specs.Mask.{ones_below}
 use Rattle.bits.specs.Packing.{packed}
 use Rattle.code.specs.declared.Code.{Code}
 use Rattle.code.specs.declared.Description.{Description}
-use Rattle.code.specs.declared.Description.TheVariants as Description
 use Rattle.code.specs.Description.{mask_of, describe_up_to, describe, on_description}
 use Rattle.code.specs.Code.{longest_description}
 use Rattle.crc.specs.Check.{check_of}

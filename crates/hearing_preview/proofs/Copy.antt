@@ -8,7 +8,6 @@ use Rattle.refusal.specs.declared.Judgement.TheVariants.{Fine, Refused}
 use Rattle.refusal.specs.Judge.{judge, refused_or}
 use Rattle.code.specs.declared.Code.{Code}
 use Rattle.code.specs.declared.Description.{Description}
-use Rattle.code.specs.declared.Description.TheVariants as Description
 use Rattle.code.specs.Description.{on_description}
 use Rattle.flip_trial.specs.declared.Restart.TheVariants.{AfterFlip}
 use Rattle.flip_run.specs.declared.Decoded.{Decoded}
