@@ -16,10 +16,10 @@ const RECORD: usize = 65535;
 // Lines are collected before they are written.
 const OUTPUT: usize = 16384;
 
-// Reads until the buffer is full or the input ends. Returns how many bytes were read. A read that was interrupted is made again. An error is the
-// reader's own, and the buffer then holds what was read before it.
-fn read_full<R: Read>(reader: &mut R, buffer: &mut [u8]) -> io::Result<usize>
-    ensures { IfOk result (λ n. n ≤ length buffer.new) }
+// Reads until the buffer is full or the input ends. Returns how many bytes were read. A read that was interrupted is made again. Any other read that
+// fails counts as the end of the input.
+fn read_full<R: Read>(reader: &mut R, buffer: &mut [u8]) -> usize
+    ensures { result ≤ length buffer.new }
 {
     let mut filled = 0usize;
     for _ in 0..u64::MAX {
@@ -31,16 +31,16 @@ fn read_full<R: Read>(reader: &mut R, buffer: &mut [u8]) -> io::Result<usize>
             Ok(n) => filled += n,
             Err(error) => {
                 if error.kind() != ErrorKind::Interrupted {
-                    return Err(error);
+                    break;
                 }
             }
         }
     }
-    Ok(filled)
+    filled
 }
 
-// Reads and writes until the stream is over. No input is long enough for the turns to reach their bound. An error is the reader's or the writer's own:
-// the buffers then hold what was read and made before it.
+// Reads and writes until the stream is over. No input is long enough for the turns to reach their bound. The only error is the writer's, if nobody reads
+// what is written any more: the buffers then hold what was read and made before it. After any other write that fails the stream goes on.
 fn receive<R: Read, W: Write>(
     reader: &mut R,
     writer: &mut W,
@@ -58,10 +58,14 @@ fn receive<R: Read, W: Write>(
         }
         let there = stream.there;
         let end = there + stream.wanted;
-        let got = read_full(reader, &mut bytes[there..end])?;
+        let got = read_full(reader, &mut bytes[there..end]);
         stream = receive_stream::advance(stream, got, bytes, held, output);
         let ready = stream.ready;
-        writer.write_all(&output[..ready])?;
+        if let Err(error) = writer.write_all(&output[..ready]) {
+            if error.kind() == ErrorKind::BrokenPipe {
+                return Err(error);
+            }
+        }
     }
     Ok(stream)
 }
