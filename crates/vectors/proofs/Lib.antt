@@ -11,3 +11,4 @@ pub mod Longer
 pub mod Half
 pub mod Hearing
 pub mod Preview
+pub mod Noiseless
