@@ -9,6 +9,9 @@ ghost use Rattle.channel.specs.Channel.{channel_value, first_outside, channel_re
 use code::Code;
 use refusal::{Judgement, Refusal};
 
+// The largest magnitude of a channel value.
+const LARGEST: i32 = 31;
+
 // A channel byte in two's complement.
 pub fn channel_value(byte: u8) -> i32
     ensures { result ≡ channel_value byte }
@@ -43,7 +46,7 @@ fn find_outside(channel: &[u8]) -> usize
 {
     let mut i = 0;
     while i < channel.len() {
-        if 31 < values::magnitude(channel_value(channel[i])) {
+        if LARGEST < values::magnitude(channel_value(channel[i])) {
             return i;
         }
         i += 1;

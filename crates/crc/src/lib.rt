@@ -94,7 +94,8 @@ fn holds_bits(message: &[u8], at: usize, r: u32, register: u32) -> bool
     let mut j: u32 = 0;
     while j < r {
         let i = r - 1 - j;
-        if message[at + j as usize] != coefficient(register, i) as u8 {
+        let bit = message[at + j as usize];
+        if bit != coefficient(register, i) as u8 {
             return false;
         }
         j += 1;

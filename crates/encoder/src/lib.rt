@@ -86,7 +86,8 @@ fn judge_encoding(mask: &[u8], code: Code, payload: &[u8], output: &[u8]) -> Jud
     if has_unused_bit(payload, code.k) {
         return Judgement::Refused(Refusal::Alone(10));
     }
-    if output.len() != mask.len() {
+    let size = mask.len();
+    if output.len() != size {
         return Judgement::Refused(Refusal::Alone(11));
     }
     Judgement::Fine

@@ -37,7 +37,8 @@ fn fold(layer: u32, size: usize, base: usize, bytes: &mut ByteArray)
     requires { (size ≡ 2 ^ layer) × BytesAt SIZE bytes.old base size }
     ensures { bytes.new ≡ splice bytes.old base (folded layer (segment bytes.old base size)) }
 {
-    if layer == 0 {
+    let single = layer == 0;
+    if single {
         return;
     }
     // a pair is combined without further calls, which spares half of all calls

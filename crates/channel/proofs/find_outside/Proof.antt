@@ -50,16 +50,16 @@ test c =
     let m = c.magnitude.ensures ∙ ap (λ (z : ℤ). pos (nat_abs z)) (value-back _ b c.before.channel_value.ensures l) in
     ap (λ (z : ℤ). lt_z (pos 31) z) (ap (back w32) m ∙ back-small w32 (pos (nat_abs (channel_value b))) (omega (arith, channel-abs b)))
 
-returns : tie.Need-returns-then-magnitude-gt31 invariant-loop decreases-loop
+returns : tie.Need-returns-then-magnitude-gt-LARGEST invariant-loop decreases-loop
 returns c =
     let l = c.before.before.before.before.before.loop-i in
     let s = c.before.before.before.before.before.before.before.args in
-    sym (first-is _ (length s.channel.now) l.i l.invariant.0 l.invariant.1 (λ _. sym (test c.before) ∙ c.if-magnitude-gt31.true))
+    sym (first-is _ (length s.channel.now) l.i l.invariant.0 l.invariant.1 (λ _. sym (test c.before) ∙ c.if-magnitude-gt-LARGEST.true))
 
 loop-again : tie.Need-loop-i-preserved invariant-loop decreases-loop
 loop-again c =
     let l = c.before.before.before.before.before.loop-i in
-    (omega arith, below_more _ _ l.invariant.1 (sym (test c.before) ∙ c.if-magnitude-gt31.false))
+    (omega arith, below_more _ _ l.invariant.1 (sym (test c.before) ∙ c.if-magnitude-gt-LARGEST.false))
 
 returns-2 : tie.Need-returns invariant-loop decreases-loop
 returns-2 c =

@@ -40,11 +40,11 @@ decreases-loop message at r register j₀ j = r - j
 loop-holds : tie.Need-loop-j-init invariant-loop decreases-loop
 loop-holds c = (omega arith, simp (add-zero, sub-zero))
 
-differs : tie.Need-returns-then-message-at invariant-loop decreases-loop
+differs : tie.Need-returns-then-bit-coefficient invariant-loop decreases-loop
 differs c =
     let l = c.loop-j in
     other-here c.args.message.now c.args.at c.args.r c.args.register l.j c.requires.1 (omega arith)
-    (λ e. c.if-message-at.true (e ∙ sym c.coefficient.ensures))
+    (λ e. c.if-bit-coefficient.true (e ∙ sym c.coefficient.ensures))
     ∙ l.invariant.1
 
 loop-again : tie.Need-loop-j-preserved invariant-loop decreases-loop
@@ -52,7 +52,7 @@ loop-again c =
     let l = c.loop-j in (
       omega arith,
       same_here c.args.message.now c.args.at c.args.r c.args.register l.j c.requires.1 (omega arith)
-          (c.if-message-at.false ∙ c.coefficient.ensures)
+          (c.if-bit-coefficient.false ∙ c.coefficient.ensures)
           ∙ l.invariant.1,
     )
 

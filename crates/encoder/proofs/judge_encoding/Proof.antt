@@ -37,15 +37,15 @@ past-2 c = past-1 c.before.before ∙ judge_no _ _ _ (sym c.has_unused_bit.ensur
 returns : tie.Need-returns-then-payload-bytes_for
 returns c = sym (judge_yes _ _ _ (ap not (ne_eqb _ _ (λ e. c.if-payload-bytes_for.true (e ∙ sym c.bytes_for.ensures)))))
 
-returns-3 : tie.Need-returns-then-output-mask
+returns-3 : tie.Need-returns-then-output-size
 returns-3 c =
     let s = s1 c.before.before.before in
-    sym (past-2 c.before ∙ judge_yes _ _ _ (ap not (ne_eqb _ _ (λ q. c.if-output-mask.true (q ∙ sym (bytes_of s.requires))))))
+    sym (past-2 c.before ∙ judge_yes _ _ _ (ap not (ne_eqb _ _ (λ q. c.if-output-size.true (q ∙ sym (bytes_of s.requires))))))
 
 returns-4 : tie.Need-returns
 returns-4 c =
     let s = s1 c.before.before.before in
-    sym (past-2 c.before ∙ judge_no _ _ _ (ap not (eq-eqb _ _ (c.if-output-mask.false ∙ bytes_of s.requires))) ∙ judge-none)
+    sym (past-2 c.before ∙ judge_no _ _ _ (ap not (eq-eqb _ _ (c.if-output-size.false ∙ bytes_of s.requires))) ∙ judge-none)
 
 pub judge_encoding_spec : {M : Type 1} → statement M
 judge_encoding_spec =

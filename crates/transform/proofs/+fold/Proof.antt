@@ -27,8 +27,8 @@ abbrev Q : ℕ → fold-lts.Claims
 Q t = (xor-halves-reads.Asked, xor-halves-reads.Learnt, fold-below t, fold.Post)
 
 module _ (t : ℕ) where
-  returns : fold-lts.Need-returns-then-layer-eq0 (Q t) (fold_at t) fold.Post
-  returns c = single c.if-layer-eq0.true c.requires.1.1
+  returns : fold-lts.Need-returns-then-single (Q t) (fold_at t) fold.Post
+  returns c = single c.if-single.true c.requires.1.1
 
   xor-halves-requires : fold-lts.Need-xor_halves-requires (Q t) (fold_at t) fold.Post
   xor-halves-requires c κs =
@@ -44,26 +44,26 @@ module _ (t : ℕ) where
   fold-requires : fold-lts.Need-fold-requires (Q t) (fold_at t) fold.Post
   fold-requires c κs =
       let s = c.before.before.before in
-      let d = halving c.if-layer-eq0.false s.requires.1.0 in
+      let d = halving c.if-single.false s.requires.1.0 in
       (omega (arith, s.requires.0, d.below), (d.pow, left-bytes d s.requires.1.1))
 
   fold-requires-2 : fold-lts.Need-fold-requires-2 (Q t) (fold_at t) fold.Post
   fold-requires-2 c κs =
       let s = c.before.before.before.before.before in
-      let d = halving c.if-layer-eq0.false s.requires.1.0 in
+      let d = halving c.if-single.false s.requires.1.0 in
       (omega (arith, s.requires.0, d.below), (d.pow, right-next d s.requires.1.1 c.fold.ensures))
 
   xor-halves-requires-2 : fold-lts.Need-xor_halves-requires-2 (Q t) (fold_at t) fold.Post
   xor-halves-requires-2 c κs =
       let s = c.before.before.before.before.before.before.before in
       let p = s.requires.1.1 in
-      let d = halving c.if-layer-eq0.false s.requires.1.0 in
+      let d = halving c.if-single.false s.requires.1.0 in
       combine_next d p (both_halves d p c.fold.ensures c.fold-2.ensures)
 
   returns-3 : fold-lts.Need-returns (Q t) (fold_at t) fold.Post
   returns-3 c =
       let p = c.requires.1.1 in
-      let d = halving c.if-layer-eq0.false c.requires.1.0 in
+      let d = halving c.if-single.false c.requires.1.0 in
       combined d p (both_halves d p c.fold.ensures c.fold-2.ensures) c.xor_halves-2.ensures
 
 pub +fold_spec : {M : Type 1} → statement M
