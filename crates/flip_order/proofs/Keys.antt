@@ -34,7 +34,7 @@ module _ (mask : List ℕ) (value : ℤ) (i : ℕ) where
   pub key-under : mask_bit mask i ≡ 1 → key_under mask value i ≡ key_for value i
   key-under e = ap (λ (b : ℕ). cond (eqb b 1) (key_for value i) no_key) e
 
-  pub none-under : mask_bit mask i ≡ 0 → key_under mask value i ≡ no_key
+  none-under : mask_bit mask i ≡ 0 → key_under mask value i ≡ no_key
   none-under e = ap (λ (b : ℕ). cond (eqb b 1) (key_for value i) no_key) e
 
   -- only information indices have keys

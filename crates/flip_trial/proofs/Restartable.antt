@@ -48,7 +48,7 @@ module _ (mask : List ℕ) (size i : ℕ) (below : i < size) where
   }
 
 -- half restart resumes at N/2 or at 0, and not above the lowest flipped index
-pub half_cases : (P : ℕ → Type 0) (N i : ℕ) → (N / 2 ≤ i → P (N / 2)) → (i < N / 2 → P 0) → P (half_at N i)
+half_cases : (P : ℕ → Type 0) (N i : ℕ) → (N / 2 ≤ i → P (N / 2)) → (i < N / 2 → P 0) → P (half_at N i)
 half_cases P N i at below = go (leb (N / 2) i) refl
   where
     go : (t : Bool) → leb (N / 2) i ≡ t → P (cond t (N / 2) 0)
