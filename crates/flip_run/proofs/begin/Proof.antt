@@ -5,6 +5,7 @@ use mathlib.Core.List.{List}
 use Prim.Native.Nat.{ℕ, ◌+◌}
 use native.Mathlib.Nat.{zero-add}
 use native.Mathlib.Omega.{arith}
+use borrow.Author.Rules.{rules}
 use lib.IntN.{ℤ}
 use lib.ListN.{length}
 use Rattle.arrays.specs.Claims.{longest}
@@ -80,34 +81,32 @@ module _ (c : tie.After-trial_passes) where
   same-room : length c.trial_passes.new.message ≡ longest
   same-room = c.trial_passes.auto.message ∙ f.first_trial-done.ensures.whole.sums
 
-returns : tie.Need-returns-then-trial_passes
-returns c =
-    let x = (s (f c.before)).args in
-    λ later. (
-      subst (λ (w : Verdict). Ran (mask (f c.before)) x.code w (Passed 1 (f c.before).first_trial-done.result.steps) c.trial_passes.new.message)
+-- the check is named in no place here: whether it passed is found among the facts
+pub begin_spec : {M : Type 1} → statement M
+begin_spec =
+    tie.close
+    (tie.spec
+    first-trial-requires
+    trial-passes-requires
+    (λ c later. (
+      subst (λ (w : Verdict). Ran c.args.mask.now c.args.code w (Passed 1 c.first_trial-done.result.steps) c.trial_passes.new.message)
           (ap (λ (steps : ℕ). passed 1 steps (o (f c.before)).bits) (counted (f c.before))
-          ∙ sym (run-passes (ok (f c.before)) 0 0 (o (f c.before)) later (sym (ok-is c.before) ∙ c.if-trial_passes.true)))
-          (ran_passed (s (f c.before)).requires.0.coded _ _ (f c.before).first_trial-done.ensures.bits.bits c.trial_passes.ensures.1 (first_bits (mask (f c.before)) x.code (v (f c.before)))),
+          ∙ sym (run-passes (ok (f c.before)) 0 0 (o (f c.before)) later (sym (ok-is c.before) ∙ (search rules))))
+          (ran_passed c.requires.0.coded _ _ c.first_trial-done.ensures.bits.bits c.trial_passes.ensures.1 (first_bits c.args.mask.now c.args.code (v (f c.before)))),
       same-room c.before,
-    )
-
-returns-2 : tie.Need-returns
-returns-2 c =
-    let t = (f c.before).first_trial-done.ensures in (
+    ))
+    (λ c. (
       refl,
       record {
         later = record {
-          start_most = omega (arith, counted (f c.before), first_steps (mask (f c.before)) (s (f c.before)).args.code (v (f c.before)));
-          first_bits = t.bits;
-          plain = t.plain;
+          start_most = omega (arith, counted (f c.before), first_steps c.args.mask.now c.args.code (v (f c.before)));
+          first_bits = c.first_trial-done.ensures.bits;
+          plain = c.first_trial-done.ensures.plain;
           goes_on = λ later.
-              run_fails (ok (f c.before)) 0 0 (o (f c.before)) later (sym (ok-is c.before) ∙ c.if-trial_passes.false)
+              run_fails (ok (f c.before)) 0 0 (o (f c.before)) later (sym (ok-is c.before) ∙ (search rules))
               ∙ ap (λ (steps : ℕ). run (ok (f c.before)) 1 steps later) (sym (counted (f c.before)));
         };
-        leaves = t.leaves;
-        whole = arrays_again t.whole (same-room c.before);
+        leaves = c.first_trial-done.ensures.leaves;
+        whole = arrays_again c.first_trial-done.ensures.whole (same-room c.before);
       },
-    )
-
-pub begin_spec : {M : Type 1} → statement M
-begin_spec = tie.close (tie.spec first-trial-requires trial-passes-requires returns returns-2)
+    )))

@@ -17,21 +17,10 @@ begin-requires c κs =
     let p = c.requires in
     (p.0, refl, record { work = refl; bits = refl; sums = p.2; leaves = refl })
 
-returns-2 : tie.Need-returns-in-Passed
-returns-2 c =
+returns : tie.Need-returns-in-Passed
+returns c =
     let e = subst (BeginPost _ _ _ _ _ _) c.in-Passed.is c.begin.ensures in
     e _
-
-returns : tie.Need-returns-then-terms-eq1
-returns c =
-    let x = c.args in
-    let on = c.requires.0 in
-    let e = subst (BeginPost _ _ _ _ _ _) c.in-Failed.is c.begin.ensures in (
-      subst (λ (w : Verdict). Ran x.mask.now x.code w (Failed c.in-Failed.trials c.in-Failed.steps) c.begin.new.sums)
-          (sym (e.1.later.goes_on _ ∙ loop_ends (loop_starts c.requires.1.least (steps_fit on.coded.n_most e.1.later.start_most)) (order_long on c.requires.1.most) (omega (arith, c.if-terms-eq1.true))))
-          (ap (λ (m : ℕ). Failed m c.in-Failed.steps) e.0),
-      e.1.whole.sums,
-    )
 
 flip-trials-requires : tie.Need-flip_trials-requires
 flip-trials-requires c κs =
@@ -48,7 +37,15 @@ run_trials_spec =
     begin-requires
     (λ c. search rules)
     (λ c. search rules)
-    returns
+    (λ c.
+    let x = c.args in
+    let on = c.requires.0 in
+    let e = subst (BeginPost _ _ _ _ _ _) c.in-Failed.is c.begin.ensures in (
+      subst (λ (w : Verdict). Ran x.mask.now x.code w (Failed c.in-Failed.trials c.in-Failed.steps) c.begin.new.sums)
+          (sym (e.1.later.goes_on _ ∙ loop_ends (loop_starts c.requires.1.least (steps_fit on.coded.n_most e.1.later.start_most)) (order_long on c.requires.1.most) (omega arith)))
+          (ap (λ (m : ℕ). Failed m c.in-Failed.steps) e.0),
+      e.1.whole.sums,
+    ))
     flip-trials-requires
-    returns-2
+    returns
     (λ c. search rules))

@@ -9,13 +9,14 @@ use Rattle.laws.proofs.Powers.{one_shl}
 use Rattle.hearing.proofs.zero_from.Statement.{statement}
 use Rattle.hearing.proofs.zero_from.Tie as tie
 
-returns : tie.Need-returns-then-count-eq0
-returns c = let s = c.args in ap (λ (t : Bool). cond t 0 (2 ^ s.code.n)) (sym (eq-eqb s.count 0 c.if-count-eq0.true))
-
-returns-2 : tie.Need-returns
-returns-2 c =
-    one_shl c.args.code.n 64 (omega (arith, c.requires))
-    ∙ ap (λ (t : Bool). cond t 0 (2 ^ c.args.code.n)) (sym (ne_eqb c.args.count 0 c.if-count-eq0.false))
-
+-- whether the count is 0 is found among the facts
 pub zero_from_spec : {M : Type 1} → statement M
-zero_from_spec = tie.close (tie.spec returns (λ c. search rules) (λ c. search rules) returns-2)
+zero_from_spec =
+    tie.close
+    (tie.spec
+    (λ c. ap (λ (t : Bool). cond t 0 (2 ^ c.args.code.n)) (sym (eq-eqb c.args.count 0 (omega arith))))
+    (λ c. search rules)
+    (λ c. search rules)
+    (λ c.
+    one_shl c.args.code.n 64 (omega (arith, c.requires))
+    ∙ ap (λ (t : Bool). cond t 0 (2 ^ c.args.code.n)) (sym (ne_eqb c.args.count 0 (λ e. omega arith)))))
