@@ -2,7 +2,8 @@
 // in `receive_stream`: this file only reads and writes.
 #![tactic(auto)]
 
-ghost use Rattle.std.specs.Prelude.{IfOk, ◌≤◌, length};
+ghost use Rattle.std.specs.Prelude.{◌≡◌, ◌≤◌, IfErr, IfOk, length};
+ghost use Rattle.std.specs.IoError.{error_kind};
 ghost use Rattle.receive.specs.Clauses.{Rooms, StreamOver};
 
 use code::LONGEST;
@@ -49,7 +50,8 @@ fn receive<R: Read, W: Write>(
     output: &mut [u8],
 ) -> io::Result<Stream>
     requires { Rooms LONGEST bytes.old held.old output.old }
-    ensures { IfOk result StreamOver }
+    ensures over { IfOk result StreamOver }
+    ensures broken_pipe { IfErr result (λ e. error_kind e ≡ ErrorKind.BrokenPipe) }
 {
     let mut stream = receive_stream::start();
     while stream.turns < u64::MAX {
