@@ -1,7 +1,7 @@
 // The longest code, the working arrays that are made for it, and lists with zeros after them.
 #![tactic(auto)]
 
-ghost use Rattle.std.specs.Prelude.{◌≡◌, ◌+◌, ◌≤◌, min, max, length, drop};
+ghost use Rattle.std.specs.Prelude.{◌≡◌, ◌+◌, ◌≤◌, length, drop};
 ghost use Rattle.laws.specs.Clauses.{splice, segment};
 ghost use Rattle.arrays.specs.Padded.{all_zero};
 
@@ -31,32 +31,7 @@ pub fn copy(source: &[u8], start: usize, target: &mut [u8], at: usize, count: us
     requires { (start + count ≤ length source.now) × (at + count ≤ length target.old) }
     ensures { target.new ≡ splice target.old at (segment source.now start count) }
 {
-    let mut j = 0;
-    while j < count {
-        target[at + j] = source[start + j];
-        j += 1;
-    }
-}
-
-// The smaller of two numbers.
-pub fn min(a: usize, b: usize) -> usize
-    ensures { result ≡ min a b }
-{
-    if a < b { a } else { b }
-}
-
-// The number in least..most that is nearest to x.
-pub fn clamped(x: u32, least: u32, most: u32) -> u32
-    requires { least ≤ most }
-    ensures { result ≡ max least (min most x) }
-{
-    if x < least {
-        return least;
-    }
-    if most < x {
-        return most;
-    }
-    x
+    target[at..at + count].copy_from_slice(&source[start..start + count]);
 }
 
 // Whether every byte from an index on is zero. No branch depends on a byte, so the loop takes many at once.
@@ -64,11 +39,9 @@ pub fn is_zero_from(bytes: &[u8], start: usize) -> bool
     requires { start ≤ length bytes.now }
     ensures { result ≡ all_zero (drop start bytes.now) }
 {
-    let mut any = 0u8;
-    let mut i = start;
-    while i < bytes.len() {
-        any = any | bytes[i];
-        i += 1;
+    let mut any = 0;
+    for byte in &bytes[start..] {
+        any |= *byte;
     }
     any == 0
 }

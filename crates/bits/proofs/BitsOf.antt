@@ -5,7 +5,7 @@ use Prim.Native.Nat.{ℕ, zero, suc, ◌+◌, ◌-◌, ◌%◌, ◌^◌, ◌≤�
 use native.Mathlib.Omega.{arith}
 use lib.ListN.{length, get_or, replicate}
 use Rattle.laws.specs.Table.{table}
-use Rattle.laws.proofs.Table.{get_or-table, table_ext}
+use Rattle.laws.proofs.Table.{get_or-table, table_ext, table_from}
 use Rattle.bits.specs.Bit.{bit, bits_of}
 use Rattle.bits.proofs.Bitwise.{bit-mod, bit-zero}
 use Rattle.bits.proofs.Number.{number_ext, number_bit}
@@ -36,12 +36,15 @@ bits_of-table (suc w) x =
     rest : (w x j : ℕ) → j < w → bit x (suc w - (suc j + 1)) ≡ bit x (w - (j + 1))
     rest w x j l = let e : suc w - (suc j + 1) ≡ w - (j + 1) = omega arith in ap (bit x) e
 
+pub bits_of-from : (w x : ℕ) (xs : List ℕ) → length xs ≡ w → ((j : ℕ) → j < w → get_or xs j 0 ≡ bit x (w - (j + 1))) → xs ≡ bits_of w x
+bits_of-from w x xs len h = table_from _ w 0 xs len h ∙ bits_of-table w x
+
+pub get_or-bits_of : (w x j : ℕ) → j < w → get_or (bits_of w x) j 0 ≡ bit x (w - (j + 1))
+get_or-bits_of w x j h = ap (λ (l : List ℕ). get_or l j 0) (sym (bits_of-table w x)) ∙ get_or-table (λ i. bit x (w - (i + 1))) w j 0 h
+
 -- a number below 2^w is known by its w bits
 pub bits_of-only : (w x y : ℕ) → x < 2 ^ w → y < 2 ^ w → bits_of w x ≡ bits_of w y → x ≡ y
 bits_of-only w x y l k e = sym (number_bit w x l) ∙ number_ext _ _ w each ∙ number_bit w y k
   where
-    at : (z j : ℕ) → j < w → get_or (bits_of w z) j 0 ≡ bit z (w - (j + 1))
-    at z j h = ap (λ (l : List ℕ). get_or l j 0) (sym (bits_of-table w z)) ∙ get_or-table (λ i. bit z (w - (i + 1))) w j 0 h
-
     each : (j : ℕ) → j < w → bit x (w - (j + 1)) ≡ bit y (w - (j + 1))
-    each j h = sym (at x j h) ∙ ap (λ (l : List ℕ). get_or l j 0) e ∙ at y j h
+    each j h = sym (get_or-bits_of w x j h) ∙ ap (λ (l : List ℕ). get_or l j 0) e ∙ get_or-bits_of w y j h

@@ -29,10 +29,8 @@ pub fn ones(mask: &[u8]) -> usize
     ensures { result ≡ ones_in mask.now }
 {
     let mut count: usize = 0;
-    let mut m = 0;
-    while m < mask.len() {
-        count += u8::count_ones(mask[m]) as usize;
-        m += 1;
+    for byte in mask {
+        count += byte.count_ones() as usize;
     }
     count
 }
@@ -41,7 +39,7 @@ pub fn ones(mask: &[u8]) -> usize
 fn bit_or_zero(bits: &[u8], i: usize) -> u8
     ensures { result ≡ get_or bits.now i 0 }
 {
-    if i < bits.len() { bits[i] } else { 0 }
+    bits.get(i).copied().unwrap_or(0)
 }
 
 // Byte m of the packed bits.
@@ -50,10 +48,8 @@ fn packed_byte(bits: &[u8], m: usize) -> u8
     ensures { result ≡ packed_byte bits.now m }
 {
     let mut byte: u8 = 0;
-    let mut b: usize = 0;
-    while b < 8 {
+    for b in 0..8 {
         byte = byte * 2 + bit_or_zero(bits, 8 * m + b);
-        b += 1;
     }
     byte
 }
@@ -62,7 +58,7 @@ fn packed_byte(bits: &[u8], m: usize) -> u8
 pub fn bytes_for(k: usize) -> usize
     ensures { result ≡ bytes_for k }
 {
-    k / 8 + (k % 8 + 7) / 8
+    k.div_ceil(8)
 }
 
 // Packs bits, one a byte, highest bit first.
@@ -70,10 +66,8 @@ pub fn pack(bits: &[u8], bytes: &mut [u8])
     requires { Bits bits.now × (length bytes.old ≡ bytes_for (length bits.now)) }
     ensures { bytes.new ≡ packed bits.now }
 {
-    let mut m = 0;
-    while m < bytes.len() {
-        bytes[m] = packed_byte(bits, m);
-        m += 1;
+    for (m, byte) in bytes.iter_mut().enumerate() {
+        *byte = packed_byte(bits, m);
     }
 }
 
@@ -82,9 +76,7 @@ pub fn unpack(bytes: &[u8], bits: &mut [u8])
     requires { length bits.old ≤ 8 * length bytes.now }
     ensures { bits.new ≡ unpacked bytes.now (length bits.old) }
 {
-    let mut i = 0;
-    while i < bits.len() {
-        bits[i] = bit_of(bytes[i / 8], 7 - i % 8);
-        i += 1;
+    for (i, bit) in bits.iter_mut().enumerate() {
+        *bit = bit_of(bytes[i / 8], 7 - i % 8);
     }
 }

@@ -3,10 +3,10 @@
 use Rattle.std.specs.Prelude.{Bool, cond, List, [], ◌∷◌, map, ℕ, suc, ◌-◌, min, ltb, ℤ, pos, negsuc, neg_ℤ, nat_abs, ◌-ℤ◌, length, get_or}
 use Rattle.laws.specs.First.{first_where}
 use Rattle.refusal.specs.declared.Refusal.{Refusal}
-use Rattle.refusal.specs.declared.Refusal.TheVariants.{Alone, At}
 use Rattle.refusal.specs.Judge.{differs}
 use Rattle.code.specs.declared.Code.{Code}
 use Rattle.code.specs.Code.{code_length}
+use Rattle.refusal.specs.declared.Refusal.TheVariants.{ChannelLength, ChannelValue}
 
 -- a byte in two's complement
 unfoldable pub channel_value : ℕ → ℤ
@@ -33,6 +33,6 @@ first_outside channel = first_where (λ i. ltb 31 (nat_abs (channel_value (get_o
 -- 12 the length is not N; 13 a value outside −31..31, with its first index
 abbrev pub channel_refusals : Code → List ℕ → List (Bool × Refusal)
 channel_refusals c channel =
-    (differs (length channel) (code_length c), Alone 12)
-    ∷ (ltb (first_outside channel) (length channel), At 13 (first_outside channel))
+    (differs (length channel) (code_length c), ChannelLength)
+    ∷ (ltb (first_outside channel) (length channel), ChannelValue (first_outside channel))
     ∷ []

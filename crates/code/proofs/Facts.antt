@@ -10,10 +10,10 @@ use Rattle.bits.specs.Bit.{bit}
 use Rattle.bits.specs.Mask.{ones_in}
 use Rattle.bits.proofs.Mask.{ones_le}
 use Rattle.code.specs.declared.Code.{Code}
-use Rattle.code.specs.declared.Description.TheVariants.{Accepted, Refused}
 use Rattle.code.specs.Description.{word, mask_at, mask_of, start_of, code_of, describe_up_to, describe}
-use Rattle.code.specs.Claims.{Laid, WellFormed, accepts, Described}
+use Rattle.code.specs.Claims.{Laid, WellFormed, Described}
 use Rattle.code.proofs.WellFormed.{well_formed_fine, well_formed_exactly}
+use Rattle.std.specs.Prelude.{Err, Ok, is_ok}
 
 -- eight indices to a byte
 eight-bytes : (n : ℕ) → 3 ≤ n → 8 * (2 ^ n / 8) ≡ 2 ^ n
@@ -26,15 +26,15 @@ eight-bytes n h =
 pub mask_size : {d : List ℕ} → Laid d → 8 * length (mask_of d) ≡ 2 ^ get_or d 4 0
 mask_size {d} w = omega (arith, length-drop (mask_at (word d 2)) d, eight-bytes (get_or d 4 0) w.n_least, w.size)
 
-module _ (d : List ℕ) (c : Code) (e : describe d ≡ Accepted c) where
+module _ (d : List ℕ) (c : Code) (e : describe d ≡ Ok c) where
   well_formed : WellFormed d
-  well_formed = (well_formed_exactly d).1 (ap accepts e)
+  well_formed = (well_formed_exactly d).1 (ap is_ok e)
 
   -- the code is the one in the fields
   code_is : code_of d ≡ c
   unfolding describe_up_to
   code_is =
-      let f : Accepted (code_of d) ≡ Accepted c = sym (refused_fine Refused (Accepted (code_of d)) _ (well_formed_fine d well_formed)) ∙ e in
+      let f : Ok (code_of d) ≡ Ok c = sym (refused_fine Err (Ok (code_of d)) _ (well_formed_fine d well_formed)) ∙ e in
       cc
 
   pub described : Described d c

@@ -9,16 +9,15 @@ use native.Mathlib.Omega.{arith}
 use borrow.Author.Tests.{eqb-true, eqb-false, eq-eqb, ne_eqb, le-ltb}
 use lib.Dec.{ltb, eqb}
 use lib.ListN.{length, get_or, take, drop, length-drop}
-use Rattle.refusal.specs.declared.Refusal.TheVariants.{Alone}
-use Rattle.refusal.specs.declared.Judgement.{Judgement}
 use Rattle.refusal.specs.Judge.{differs, judge, refused_or}
 use Rattle.refusal.proofs.Judge.{judge_without}
 use Rattle.code.specs.declared.Code.{Code}
-use Rattle.code.specs.declared.Description.{Description}
-use Rattle.code.specs.declared.Description.TheVariants.{Accepted, Refused}
 use Rattle.code.specs.Description.{word, has_start, mask_at, mask_of, is_wide, code_of, describe_up_to, describe}
 use Rattle.code.specs.Claims.{refusals_at, code_at, describe_kind1, describe_kind4, with_start}
-use Rattle.code.specs.Clauses.{description_refusals}
+use Rattle.code.specs.Clauses.{description_refusals, Description}
+use Rattle.std.specs.Prelude.{Err, Ok}
+use Rattle.refusal.specs.declared.Refusal.TheVariants.{StartValue}
+use Rattle.refusal.specs.Clauses.{Judgement}
 
 -- the least and the largest index at which a mask begins
 pub mask_at_least : (kind : ℕ) → 8 ≤ mask_at kind
@@ -36,7 +35,7 @@ pub fields-there : (d : List ℕ) → mask_at (word d 2) ≤ length d → 8 ≤ 
 fields-there d header = omega (arith, mask_at_least (word d 2))
 
 abbrev answer : Judgement → Code → Description
-answer j c = refused_or j Refused (Accepted c)
+answer j c = refused_or j Err (Ok c)
 
 -- a start of 0 has no bit at r or above
 wide-zero : (r : ℕ) → is_wide 0 r ≡ false
@@ -57,9 +56,9 @@ kind_1 d other =
     let first = take 7 (refusals_at 1 8 [] d) in
     let last = drop 7 (refusals_at 1 8 [] d) in
     let wide = is_wide 0 (get_or d 5 0) in
-    let tests : description_refusals d ≡ first ++ ((wide, Alone 25) ∷ last) = rw (none, or_no (eqb (word d 2) 1)) in
+    let tests : description_refusals d ≡ first ++ ((wide, StartValue) ∷ last) = rw (none, or_no (eqb (word d 2) 1)) in
     let code : code_of d ≡ code_at 8 0 d = rw none in
-    ap₂ answer (ap judge tests ∙ judge_without first last wide (Alone 25) (wide-zero (get_or d 5 0))) code
+    ap₂ answer (ap judge tests ∙ judge_without first last wide StartValue (wide-zero (get_or d 5 0))) code
 
 pub mask_1 : (d : List ℕ) → (word d 2 ≡ 4 → ⊥) → mask_of d ≡ drop 8 d
 mask_1 d other = ap (λ (t : Bool). drop (8 + cond t 2 0) d) (ne_eqb (word d 2) 4 other)
@@ -68,7 +67,7 @@ pub kind_4 : (d : List ℕ) → word d 2 ≡ 4 → describe d ≡ describe_kind4
 unfolding describe_up_to
 kind_4 d kind =
     let some : has_start (word d 2) ≡ true = eq-eqb (word d 2) 4 kind in
-    let tests : description_refusals d ≡ refusals_at 4 10 ((is_wide (word d 8) (get_or d 5 0), Alone 25) ∷ []) d = rw (some, or_yes (eqb (word d 2) 1)) in
+    let tests : description_refusals d ≡ refusals_at 4 10 ((is_wide (word d 8) (get_or d 5 0), StartValue) ∷ []) d = rw (some, or_yes (eqb (word d 2) 1)) in
     let code : code_of d ≡ code_at 10 (word d 8) d = rw some in
     ap₂ answer (ap judge tests) code
 

@@ -10,7 +10,6 @@ use borrow.Author.Tests.{ltb-false, le-ltb, eqb-false, ne_eqb, not-false}
 use lib.ListN.{length, get_or, take, drop}
 use lib.Pow.{pow_pos}
 use Rattle.laws.proofs.Choice.{or_false}
-use Rattle.refusal.specs.declared.Judgement.TheVariants.{Fine}
 use Rattle.refusal.specs.declared.Refusal.{Refusal}
 use Rattle.refusal.specs.Judge.{judge}
 use Rattle.refusal.proofs.Judge.{judge-none, judge_no, judge-past, append-fine, append-past, accepts-exactly}
@@ -19,10 +18,10 @@ use Rattle.arrays.specs.Sizes.{largest_n}
 use Rattle.bits.specs.Bit.{bit}
 use Rattle.bits.specs.Mask.{ones_in}
 use Rattle.bits.proofs.Bitwise.{bit_lt}
-use Rattle.code.specs.declared.Description.TheVariants.{Accepted, Refused}
 use Rattle.code.specs.Description.{word, mask_at, mask_of, start_of, is_wide, bad_polynomial, code_of, describe_up_to, describe}
-use Rattle.code.specs.Claims.{Laid, WellFormed, accepts}
+use Rattle.code.specs.Claims.{Laid, WellFormed}
 use Rattle.code.specs.Clauses.{description_refusals}
+use Rattle.std.specs.Prelude.{Err, Ok, is_ok}
 
 -- no bit at r or above is set
 wide-past : (x r : ℕ) → is_wide x r ≡ false → x < 2 ^ r
@@ -56,7 +55,7 @@ module _ (d : List ℕ) where
   abbrev others : List (Bool × Refusal)
   others = drop 5 (description_refusals d)
 
-  pub laid_fine : Laid d → judge layout ≡ Fine
+  pub laid_fine : Laid d → judge layout ≡ Ok tt
   laid_fine w =
       judge_no _ _ _ (le-ltb (length d) (mask_at (word d 2)) w.header)
       ∙ judge_no _ _ _ (differs_no (word d 0) (length d) w.length_field)
@@ -65,7 +64,7 @@ module _ (d : List ℕ) where
       ∙ judge_no _ _ _ (differs_no (length d) (mask_at (word d 2) + 2 ^ n / 8) w.size)
       ∙ judge-none
 
-  pub fine_laid : judge layout ≡ Fine → Laid d
+  pub fine_laid : judge layout ≡ Ok tt → Laid d
   fine_laid e =
       let s1 = judge-past _ _ _ e in
       let s2 = judge-past _ _ _ s1.1 in
@@ -82,7 +81,7 @@ module _ (d : List ℕ) where
         size = differs-past (length d) (mask_at (word d 2) + 2 ^ n / 8) s5.0;
       }
 
-  pub well_formed_fine : WellFormed d → judge (description_refusals d) ≡ Fine
+  pub well_formed_fine : WellFormed d → judge (description_refusals d) ≡ Ok tt
   well_formed_fine w =
       append-fine layout others (laid_fine w.laid)
       ∙ judge_no _ _ _ (outside_no r 1 16 w.r_least w.r_most)
@@ -91,7 +90,7 @@ module _ (d : List ℕ) where
       ∙ judge_no _ _ _ (le-ltb (ones_in (mask_of d)) (r + 1) w.K_least)
       ∙ judge-none
 
-  pub fine_well_formed : judge (description_refusals d) ≡ Fine → WellFormed d
+  pub fine_well_formed : judge (description_refusals d) ≡ Ok tt → WellFormed d
   fine_well_formed e =
       let s5 = append-past layout others e in
       let s6 = judge-past _ _ _ s5.1 in
@@ -110,6 +109,6 @@ module _ (d : List ℕ) where
         K_least = ltb-false (ones_in (mask_of d)) (r + 1) s8.0;
       }
 
-  pub well_formed_exactly : WellFormed d ↔ (accepts (describe d) ≡ true)
+  pub well_formed_exactly : WellFormed d ↔ (is_ok (describe d) ≡ true)
   unfolding describe_up_to
-  well_formed_exactly = accepts-exactly accepts Refused (λ x. refl) (Accepted (code_of d)) refl (judge (description_refusals d)) (well_formed_fine, fine_well_formed)
+  well_formed_exactly = accepts-exactly is_ok Err (λ x. refl) (Ok (code_of d)) refl (judge (description_refusals d)) (well_formed_fine, fine_well_formed)

@@ -1,16 +1,15 @@
 -- Which descriptions are accepted, and what an accepted one says, the facts that encoder and decoders build on.
-use Rattle.std.specs.Prelude.{◌≡◌, Bool, true, false, List, [], ◌∷◌, ◌++◌, ℕ, ◌+◌, ◌-◌, ◌*◌, ◌/◌, ◌%◌, ◌^◌, ◌≤◌, ◌<◌, ltb, length, get_or, drop}
+use Rattle.std.specs.Prelude.{◌≡◌, Bool, true, List, [], ◌∷◌, ◌++◌, ℕ, ◌+◌, ◌-◌, ◌*◌, ◌/◌, ◌%◌, ◌^◌, ◌≤◌, ◌<◌, ltb, length, get_or, drop, Err, Ok}
 use Rattle.refusal.specs.declared.Refusal.{Refusal}
-use Rattle.refusal.specs.declared.Refusal.TheVariants.{Alone}
 use Rattle.refusal.specs.Judge.{differs, outside, judge, refused_or}
 use Rattle.arrays.specs.Sizes.{largest_n}
 use Rattle.bits.specs.Bit.{bit}
 use Rattle.bits.specs.Mask.{ones_in}
 use Rattle.code.specs.declared.Code.{Code}
 use Rattle.code.specs.Code.{code_length, information_count}
-use Rattle.code.specs.declared.Description.{Description}
-use Rattle.code.specs.declared.Description.TheVariants.{Accepted, Refused}
 use Rattle.code.specs.Description.{word, is_description, mask_at, mask_of, start_of, is_wide, bad_polynomial, describe}
+use Rattle.refusal.specs.declared.Refusal.TheVariants.{CheckLength, CodeLength, FieldsMissing, LengthField, MaskLength, NoPayload, Polynomial, StartValue, UnknownKind}
+use Rattle.code.specs.Clauses.{Description}
 
 -- the layout of a description's bytes: refusals 1 to 5 in turn do not apply
 pub record Laid (d : List ℕ) : Type 0 where
@@ -32,16 +31,11 @@ pub record WellFormed (d : List ℕ) : Type 0 where
   pub start_fits : start_of d < 2 ^ get_or d 5 0
   pub K_least : get_or d 5 0 + 1 ≤ ones_in (mask_of d)
 
--- whether a description is accepted
-abbrev pub accepts : Description → Bool
-accepts (Accepted c) = true
-accepts (Refused x) = false
-
 -- d describes a code, and the rest of a call's input is well-formed under it, which W says. An operation that takes a description accepts exactly
 -- this input: `well_formed_exactly` of each.
 pub record WellFormedUnder (d : List ℕ) (W : Code → Type 0) : Type 0 where
   pub code : Code
-  pub describes : describe d ≡ Accepted code
+  pub describes : describe d ≡ Ok code
   pub rest : W code
 
 -- a code under a mask
@@ -70,14 +64,14 @@ abbrev pub refusals_at : ℕ → ℕ → List (Bool × Refusal) → List ℕ →
 refusals_at kind at own d =
     let n = get_or d 4 0 in
     let r = get_or d 5 0 in
-    (ltb (length d) at, Alone 1)
-    ∷ (differs (word d 0) (length d), Alone 2)
-    ∷ (differs (word d 2) kind, Alone 3)
-    ∷ (outside n 3 largest_n, Alone 4)
-    ∷ (differs (length d) (at + 2 ^ n / 8), Alone 5)
-    ∷ (outside r 1 16, Alone 6)
-    ∷ (bad_polynomial (word d 6) r, Alone 7)
-    ∷ (own ++ ((ltb (ones_in (drop at d)) (r + 1), Alone 8) ∷ []))
+    (ltb (length d) at, FieldsMissing)
+    ∷ (differs (word d 0) (length d), LengthField)
+    ∷ (differs (word d 2) kind, UnknownKind)
+    ∷ (outside n 3 largest_n, CodeLength)
+    ∷ (differs (length d) (at + 2 ^ n / 8), MaskLength)
+    ∷ (outside r 1 16, CheckLength)
+    ∷ (bad_polynomial (word d 6) r, Polynomial)
+    ∷ (own ++ ((ltb (ones_in (drop at d)) (r + 1), NoPayload) ∷ []))
 
 -- the code of a record whose mask begins at byte `at`, with a start
 abbrev pub code_at : ℕ → ℕ → List ℕ → Code
@@ -86,13 +80,13 @@ code_at at start d = record { n = get_or d 4 0; r = get_or d 5 0; polynomial = w
 -- Document 01 by itself knows kind 1: refusals 1 to 8, the mask from byte 8 on, and a check that starts at 0. `kind_1`: the answer to every
 -- slice that does not say kind 4.
 abbrev pub describe_kind1 : List ℕ → Description
-describe_kind1 d = refused_or (judge (refusals_at 1 8 [] d)) Refused (Accepted (code_at 8 0 d))
+describe_kind1 d = refused_or (judge (refusals_at 1 8 [] d)) Err (Ok (code_at 8 0 d))
 
 -- Document 02, request 2.1, by itself knows kind 4: at least 10 bytes, refusal 25 between 7 and 8, and the mask from byte 10 on. `kind_4`: the
 -- answer to every slice that says kind 4.
 abbrev pub describe_kind4 : List ℕ → Description
 describe_kind4 d =
-    refused_or (judge (refusals_at 4 10 ((is_wide (word d 8) (get_or d 5 0), Alone 25) ∷ []) d)) Refused (Accepted (code_at 10 (word d 8) d))
+    refused_or (judge (refusals_at 4 10 ((is_wide (word d 8) (get_or d 5 0), StartValue) ∷ []) d)) Err (Ok (code_at 10 (word d 8) d))
 
 -- the record of kind 4 with the fields and the mask of the record d of kind 1, and a start value. `start_0`: with start 0 it has the answer
 -- to d, if d has the 8 bytes of its fields.

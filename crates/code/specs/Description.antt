@@ -1,15 +1,13 @@
 -- Document 01, "Code description": what the bytes of a record of kind 1 or 4 describe, and refusals 1 to 7, 25 and 8 in order. The largest n is
 -- a parameter: crate `theorems_largest` compares the answers of two.
-use Rattle.std.specs.Prelude.{Bool, not, ◌||◌, cond, List, [], ◌∷◌, ℕ, ◌+◌, ◌-◌, ◌*◌, ◌/◌, ◌^◌, ltb, eqb, length, get_or, drop}
+use Rattle.std.specs.Prelude.{Bool, not, ◌||◌, cond, List, [], ◌∷◌, ℕ, ◌+◌, ◌-◌, ◌*◌, ◌/◌, ◌^◌, ltb, eqb, length, get_or, drop, Result, Ok, Err}
 use Rattle.refusal.specs.declared.Refusal.{Refusal}
-use Rattle.refusal.specs.declared.Refusal.TheVariants.{Alone}
 use Rattle.refusal.specs.Judge.{differs, outside, judge, refused_or}
 use Rattle.arrays.specs.Sizes.{largest_n}
 use Rattle.bits.specs.Bit.{bit}
 use Rattle.bits.specs.Mask.{ones_in}
 use Rattle.code.specs.declared.Code.{Code}
-use Rattle.code.specs.declared.Description.{Description}
-use Rattle.code.specs.declared.Description.TheVariants.{Accepted, Refused}
+use Rattle.refusal.specs.declared.Refusal.TheVariants.{CheckLength, CodeLength, FieldsMissing, LengthField, MaskLength, NoPayload, Polynomial, StartValue, UnknownKind}
 
 -- the little-endian number at bytes i and i + 1
 abbrev pub word : List ℕ → ℕ → ℕ
@@ -50,15 +48,15 @@ refusals_up_to largest d =
     let kind = word d 2 in
     let n = get_or d 4 0 in
     let r = get_or d 5 0 in
-    (ltb (length d) (mask_at kind), Alone 1)
-    ∷ (differs (word d 0) (length d), Alone 2)
-    ∷ (not (is_description kind), Alone 3)
-    ∷ (outside n 3 largest, Alone 4)
-    ∷ (differs (length d) (mask_at kind + 2 ^ n / 8), Alone 5)
-    ∷ (outside r 1 16, Alone 6)
-    ∷ (bad_polynomial (word d 6) r, Alone 7)
-    ∷ (is_wide (start_of d) r, Alone 25)
-    ∷ (ltb (ones_in (mask_of d)) (r + 1), Alone 8)
+    (ltb (length d) (mask_at kind), FieldsMissing)
+    ∷ (differs (word d 0) (length d), LengthField)
+    ∷ (not (is_description kind), UnknownKind)
+    ∷ (outside n 3 largest, CodeLength)
+    ∷ (differs (length d) (mask_at kind + 2 ^ n / 8), MaskLength)
+    ∷ (outside r 1 16, CheckLength)
+    ∷ (bad_polynomial (word d 6) r, Polynomial)
+    ∷ (is_wide (start_of d) r, StartValue)
+    ∷ (ltb (ones_in (mask_of d)) (r + 1), NoPayload)
     ∷ []
 
 -- n, r, polynomial, start and k, which is K - r
@@ -66,14 +64,14 @@ abbrev pub code_of : List ℕ → Code
 code_of d = record { n = get_or d 4 0; r = get_or d 5 0; polynomial = word d 6; start = start_of d; k = ones_in (mask_of d) - get_or d 5 0 }
 
 -- the answer, with `largest` as the largest n
-unfoldable pub describe_up_to : ℕ → List ℕ → Description
-describe_up_to largest d = refused_or (judge (refusals_up_to largest d)) Refused (Accepted (code_of d))
+unfoldable pub describe_up_to : ℕ → List ℕ → Result Code Refusal
+describe_up_to largest d = refused_or (judge (refusals_up_to largest d)) Err (Ok (code_of d))
 
 -- the answer, with `largest_n` as the largest n
-abbrev pub describe : List ℕ → Description
+abbrev pub describe : List ℕ → Result Code Refusal
 describe d = describe_up_to largest_n d
 
 -- Operations that take a description apply its refusals first: `refuse` is their answer to a refusal, `go` their answer under a code.
-abbrev pub on_description : {X : Type 0} → Description → (Refusal → X) → (Code → X) → X
-on_description (Accepted c) refuse go = go c
-on_description (Refused x) refuse go = refuse x
+abbrev pub on_description : {X : Type 0} → Result Code Refusal → (Refusal → X) → (Code → X) → X
+on_description (Ok c) refuse go = go c
+on_description (Err x) refuse go = refuse x

@@ -9,7 +9,7 @@ ghost use Rattle.code.specs.Claims.{Laid};
 ghost use Rattle.code.specs.Clauses.{description_refusals, past_fields};
 
 use arrays::{BYTES, LARGEST_N};
-use refusal::{Judgement, Refusal};
+use refusal::Refusal;
 
 // The numbers of a code.
 #[derive(Clone, Copy)]
@@ -24,15 +24,6 @@ pub struct Code {
     pub start: u32,
     // How many payload bits it has.
     pub k: usize,
-}
-
-// What a record describes.
-#[derive(Clone, Copy)]
-pub enum Description {
-    // A code.
-    Accepted(Code),
-    // No code: the refusal.
-    Refused(Refusal),
 }
 
 // The bytes of the fields that every kind of description has.
@@ -57,7 +48,7 @@ pub fn record_in(bytes: &[u8]) -> &[u8]
     requires { 2 ≤ length bytes.now }
     ensures { result.now ≡ record_in bytes.now }
 {
-    let size = arrays::min(read_word(bytes, 0) as usize, bytes.len());
+    let size = (read_word(bytes, 0) as usize).min(bytes.len());
     &bytes[..size]
 }
 
@@ -133,58 +124,58 @@ fn is_short(d: &[u8]) -> bool
 }
 
 // Refusals 1 to 5, of sizes and kind.
-fn judge_layout(d: &[u8]) -> Judgement
+fn judge_layout(d: &[u8]) -> Result<(), Refusal>
     ensures { result ≡ judge (take 5 (description_refusals d.now)) }
 {
     if is_short(d) {
-        return Judgement::Refused(Refusal::Alone(1));
+        return Err(Refusal::FieldsMissing);
     }
     if read_word(d, 0) as usize != d.len() {
-        return Judgement::Refused(Refusal::Alone(2));
+        return Err(Refusal::LengthField);
     }
     let kind = read_word(d, 2);
     if !is_description(kind) {
-        return Judgement::Refused(Refusal::Alone(3));
+        return Err(Refusal::UnknownKind);
     }
     let n = d[4] as u32;
     if refusal::is_outside(n as usize, 3, LARGEST_N as usize) {
-        return Judgement::Refused(Refusal::Alone(4));
+        return Err(Refusal::CodeLength);
     }
     if d.len() != mask_at(kind) + (1usize << n) / 8 {
-        return Judgement::Refused(Refusal::Alone(5));
+        return Err(Refusal::MaskLength);
     }
-    Judgement::Fine
+    Ok(())
 }
 
 // Refusals 6, 7 and 25, of the check's fields.
-fn judge_check(d: &[u8]) -> Judgement
+fn judge_check(d: &[u8]) -> Result<(), Refusal>
     requires { mask_at (word d.now 2) ≤ length d.now }
     ensures { result ≡ judge (take 3 (drop 5 (description_refusals d.now))) }
 {
     let r = d[5] as u32;
     if refusal::is_outside(r as usize, 1, 16) {
-        return Judgement::Refused(Refusal::Alone(6));
+        return Err(Refusal::CheckLength);
     }
     if is_bad_polynomial(read_word(d, 6), r) {
-        return Judgement::Refused(Refusal::Alone(7));
+        return Err(Refusal::Polynomial);
     }
     if is_wide(start_of(d), r) {
-        return Judgement::Refused(Refusal::Alone(25));
+        return Err(Refusal::StartValue);
     }
-    Judgement::Fine
+    Ok(())
 }
 
 // The answer if no field is refused: refusal 8, or the code.
-fn read_code(d: &[u8]) -> Description
+fn read_code(d: &[u8]) -> Result<Code, Refusal>
     requires { Laid d.now }
     ensures { result ≡ past_fields d.now }
 {
     let r = d[5] as usize;
     let count = bits::ones(mask_of(d));
     if count < r + 1 {
-        return Description::Refused(Refusal::Alone(8));
+        return Err(Refusal::NoPayload);
     }
-    Description::Accepted(Code {
+    Ok(Code {
         n: d[4] as u32,
         r: d[5] as u32,
         polynomial: read_word(d, 6),
@@ -194,14 +185,10 @@ fn read_code(d: &[u8]) -> Description
 }
 
 // Reads a description: its refusals in order, then its code.
-pub fn read_description(d: &[u8]) -> Description
+pub fn read_description(d: &[u8]) -> Result<Code, Refusal>
     ensures { result ≡ describe d.now }
 {
-    match judge_layout(d) {
-        Judgement::Fine => match judge_check(d) {
-            Judgement::Fine => read_code(d),
-            Judgement::Refused(x) => Description::Refused(x),
-        },
-        Judgement::Refused(x) => Description::Refused(x),
-    }
+    judge_layout(d)?;
+    judge_check(d)?;
+    read_code(d)
 }

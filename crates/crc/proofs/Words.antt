@@ -1,10 +1,10 @@
 -- The coefficients of numbers, as the words of the register.
 use mathlib.Core.Path.{◌≡◌, refl, sym, ap, ap₂, ◌∙◌}
 use Prim.Native.Nat.{ℕ, zero, suc, ◌+◌, ◌-◌, ◌*◌, ◌/◌, ◌%◌, ◌^◌, ◌≤◌, ◌<◌}
-use native.Mathlib.Nat.{add-zero, zero-mul, one-mul, div-add-mod', mod-lt, zero-lt-suc, mod-eq_of_lt, add-mod-mod, div-lt_iff_lt-mul, two-pow-succ}
+use native.Mathlib.Nat.{add-zero, zero-mul, one-mul, mod-lt, zero-lt-suc, mod-eq_of_lt, add-mod-mod, div-lt_iff_lt-mul, two-pow-succ}
 use native.Mathlib.Omega.{arith}
 use lib.Bits.{bit_and, bit_xor, and_mask, xor_lt}
-use lib.Pow.{shr-shr, pow_pos}
+use lib.Pow.{pow_pos}
 use Rattle.laws.proofs.Powers.{one_shl}
 use Rattle.bits.specs.Bit.{bit, bits_of}
 use Rattle.bits.proofs.Bitwise.{bit-low, bit_up, bit-zero, xor-bits, bit-xor}
@@ -30,18 +30,10 @@ bits_of-scale (suc w) zero x h = cons (simp zero-mul (bit-zero w)) (bits_of-scal
 bits_of-scale (suc w) (suc zero) x h = cons (simp one-mul) (bits_of-scale w 1 x h)
 bits_of-scale (suc w) (suc (suc a)) x h = absurd (omega arith)
 
--- one more low bit
-pub shr_more : (x i : ℕ) → 0 < i → x / 2 ^ i * 2 + bit x (i - 1) ≡ x / 2 ^ (i - 1)
-shr_more x i h =
-    let e : i ≡ i - 1 + 1 = omega arith in
-    ap (λ (k : ℕ). x / 2 ^ k * 2 + bit x (i - 1)) e
-    ∙ ap (λ (y : ℕ). y * 2 + bit x (i - 1)) (sym (shr-shr x (i - 1) 1))
-    ∙ div-add-mod' (x / 2 ^ (i - 1)) 2
-
 -- ---- the register's step
 
 -- `x & ((1 << r) - 1)`
-masked : (r x : ℕ) → r ≤ 16 → bit_and x (1 * 2 ^ r % 2 ^ 32 - 1) ≡ x % 2 ^ r
+pub masked : (r x : ℕ) → r ≤ 16 → bit_and x (1 * 2 ^ r % 2 ^ 32 - 1) ≡ x % 2 ^ r
 masked r x h = ap (λ (m : ℕ). bit_and x (m - 1)) (one_shl r 32 (omega arith)) ∙ and_mask x r
 
 -- the register has no bit above the highest coefficient

@@ -20,13 +20,7 @@ fn feedback(poly: u32, r: u32) -> u32
     requires { r ≤ 16 }
     ensures { result ≡ poly % 2 ^ r }
 {
-    let mut word: u32 = 0;
-    let mut i = r;
-    while 0 < i {
-        i -= 1;
-        word = word * 2 + coefficient(poly, i);
-    }
-    word
+    poly & ((1u32 << r) - 1)
 }
 
 // The word if `out` is 1, else 0. A payload's bits look random to a processor, so a branch would cost more.
@@ -55,10 +49,8 @@ fn check(payload: &[u8], r: u32, poly: u32, start: u32) -> u32
 {
     let word = feedback(poly, r);
     let mut register = start;
-    let mut i = 0;
-    while i < payload.len() {
-        register = register_step(register, payload[i], r, word);
-        i += 1;
+    for bit in payload {
+        register = register_step(register, *bit, r, word);
     }
     register
 }
@@ -68,11 +60,8 @@ fn put_bits(message: &mut [u8], at: usize, r: u32, register: u32)
     requires { (r ≤ 16) × (at + r ≤ length message.old) }
     ensures { message.new ≡ splice message.old at (bits_of r register) }
 {
-    let mut j: u32 = 0;
-    while j < r {
-        let i = r - 1 - j;
-        message[at + j as usize] = coefficient(register, i) as u8;
-        j += 1;
+    for (j, bit) in message[at..at + r as usize].iter_mut().enumerate() {
+        *bit = coefficient(register, r - 1 - j as u32) as u8;
     }
 }
 
@@ -91,14 +80,10 @@ fn holds_bits(message: &[u8], at: usize, r: u32, register: u32) -> bool
     requires { (r ≤ 16) × (length message.now ≡ at + r) }
     ensures { result ≡ same (drop at message.now) (bits_of r register) }
 {
-    let mut j: u32 = 0;
-    while j < r {
-        let i = r - 1 - j;
-        let bit = message[at + j as usize];
-        if bit != coefficient(register, i) as u8 {
+    for (j, bit) in message[at..].iter().enumerate() {
+        if *bit != coefficient(register, r - 1 - j as u32) as u8 {
             return false;
         }
-        j += 1;
     }
     true
 }

@@ -6,13 +6,11 @@ use lib.IntN.{ℤ}
 use Rattle.laws.specs.First.{first_where}
 use Rattle.laws.specs.Table.{table}
 use Rattle.laws.specs.Insert.{insert_by, sort_by}
-use Rattle.refusal.specs.declared.Refusal.TheVariants.{Alone, At}
 use Rattle.refusal.specs.Judge.{judge, refused_or}
 use Rattle.bits.specs.Bit.{number}
 use Rattle.bits.specs.Mask.{ones_below}
 use Rattle.bits.specs.Packing.{packed}
 use Rattle.code.specs.declared.Code.{Code}
-use Rattle.code.specs.declared.Description.TheVariants as Description
 use Rattle.code.specs.Description.{mask_of, describe_up_to, describe}
 use Rattle.crc.specs.Check.{check_of}
 use Rattle.transform.specs.Transform.{covers, parity, transformed, xors}
@@ -23,11 +21,13 @@ use Rattle.pass_tree.specs.Node.{node}
 use Rattle.flip_order.specs.Order.{magnitude_at, information}
 use Rattle.flip_trial.specs.declared.Restart.TheVariants.{Root, AfterFlip}
 use Rattle.flip_trial.specs.Trial.{first_trial, later_trial}
-use Rattle.flip_run.specs.declared.Decoded.TheVariants.{Accepted, Refused16, Refused}
-use Rattle.flip_run.specs.Trials.{flip_order, run}
+use Rattle.flip_run.specs.Trials.{flip_order, run, tally}
 use Rattle.decoder.specs.Candidate.{metric_of, doubtful, extensions, insert_each}
 use Rattle.decoder.specs.Tried.{tried, flip_sets}
 use Rattle.decoder.specs.Decoder.{decoded_under, decoded_as, decoded_full, decoded_half, decoded_restarted, sets_full, sets_restarted}
+use Rattle.std.specs.Prelude.{Err, Ok}
+use Rattle.flip_run.specs.declared.DecodingError.TheVariants.{NonePassed, Refused}
+use Rattle.refusal.specs.declared.Refusal.TheVariants.{ChannelValue, FlipCount, OutputLength, TrialLimit}
 
 -- Document 01's D with r = 3 and the polynomial z^3 + z + 1, so k = 1. Its information indices are 3, 5, 6 and 7.
 abbrev pub wide_d : List ℕ
@@ -93,28 +93,28 @@ ten = (3 ∷ []) ∷ (3 ∷ 5 ∷ []) ∷ (3 ∷ 6 ∷ []) ∷ (5 ∷ []) ∷ (6
 -- whatever byte the output held
 pub record SetExamples (byte : ℕ) : Type 0 where
   -- the description is accepted
-  pub described : describe wide_d ≡ Description.Accepted wide_code
+  pub described : describe wide_d ≡ Ok wide_code
   -- single flips on V: trial 2 flips 5 and is accepted. Half restart resumes at 4 and restarted decoding at 6.
   pub by_single_flips :
       (flip_order (mask_of wide_d) wide_code (channel_values vector) ≡ 5 ∷ 3 ∷ 6 ∷ 7 ∷ [])
-      × (decoded_full wide_d vector 5 (byte ∷ []) ≡ (Accepted 2 48, 0x00 ∷ []))
-      × (decoded_half wide_d vector 5 (byte ∷ []) ≡ (Accepted 2 36, 0x00 ∷ []))
-      × (decoded_restarted wide_d vector 5 (byte ∷ []) ≡ (Accepted 2 32, 0x00 ∷ []))
-      × (decoded_full wide_d vector 1 (byte ∷ []) ≡ (Refused16 1 24, byte ∷ []))
-      × (decoded_full wide_d vector 6 (byte ∷ []) ≡ (Refused (Alone 14), byte ∷ []))
-      × (decoded_restarted wide_d vector 2 (byte ∷ []) ≡ (Accepted 2 32, 0x00 ∷ []))
+      × (decoded_full wide_d vector 5 (byte ∷ []) ≡ (Ok (tally 2 48), 0x00 ∷ []))
+      × (decoded_half wide_d vector 5 (byte ∷ []) ≡ (Ok (tally 2 36), 0x00 ∷ []))
+      × (decoded_restarted wide_d vector 5 (byte ∷ []) ≡ (Ok (tally 2 32), 0x00 ∷ []))
+      × (decoded_full wide_d vector 1 (byte ∷ []) ≡ (Err (NonePassed (tally 1 24)), byte ∷ []))
+      × (decoded_full wide_d vector 6 (byte ∷ []) ≡ (Err (Refused TrialLimit), byte ∷ []))
+      × (decoded_restarted wide_d vector 2 (byte ∷ []) ≡ (Ok (tally 2 32), 0x00 ∷ []))
   -- no single flip is accepted: all four are tried
   pub all_fail :
       (flip_order (mask_of wide_d) wide_code (channel_values pair_v) ≡ 3 ∷ 5 ∷ 6 ∷ 7 ∷ [])
-      × (decoded_full wide_d pair_v 5 (byte ∷ []) ≡ (Refused16 5 120, byte ∷ []))
+      × (decoded_full wide_d pair_v 5 (byte ∷ []) ≡ (Err (NonePassed (tally 5 120)), byte ∷ []))
   -- w = 1: the sixes reorder single flips. On V the magnitudes at 3, 5, 6 and 7 are 3, 2, 3 and 11, so the old decoder flips 5 first. The
   -- metrics are 3 + 6, 2 + 12, 3 + 18 and 11 + 24, so 3 comes first,
   -- and 5, which is accepted, on trial 3.
   pub by_metric :
       (map (λ i. metric_on vector [] (i ∷ [])) (3 ∷ 5 ∷ 6 ∷ 7 ∷ []) ≡ 9 ∷ 14 ∷ 21 ∷ 35 ∷ [])
       × (sets_on vector 1 5 ≡ (3 ∷ []) ∷ (5 ∷ []) ∷ (6 ∷ []) ∷ (7 ∷ []) ∷ [])
-      × (sets_full wide_d vector 1 5 (byte ∷ []) ≡ (Accepted 3 72, 0x00 ∷ []))
-      × (sets_restarted wide_d vector 1 5 (byte ∷ []) ≡ (Accepted 3 43, 0x00 ∷ []))
+      × (sets_full wide_d vector 1 5 (byte ∷ []) ≡ (Ok (tally 3 72), 0x00 ∷ []))
+      × (sets_restarted wide_d vector 1 5 (byte ∷ []) ≡ (Ok (tally 3 43), 0x00 ∷ []))
   -- A pair's metric comes from the trial that generated it: [3, 5] has 1 + 1 + 12 from the trial of [3], and comes before [5] with 3 + 12.
   -- From trial 1 it would have 1 + 3 + 12, and come after it. Trial 1 decides 0 at index 5, the trial of [3] decides 1, and that of [3, 5]
   -- takes the opposite of 1. It is accepted on trial 3; no single flip is accepted.
@@ -126,63 +126,63 @@ pub record SetExamples (byte : ℕ) : Type 0 where
       × (bits_on pair_v [] ≡ 0 ∷ 0 ∷ 0 ∷ 0 ∷ 0 ∷ 0 ∷ 1 ∷ 0 ∷ [])
       × (bits_on pair_v (3 ∷ []) ≡ 0 ∷ 0 ∷ 0 ∷ 1 ∷ 0 ∷ 1 ∷ 1 ∷ 0 ∷ [])
       × (bits_on pair_v (3 ∷ 5 ∷ []) ≡ 0 ∷ 0 ∷ 0 ∷ 1 ∷ 0 ∷ 0 ∷ 1 ∷ 1 ∷ [])
-      × (sets_full wide_d pair_v 2 4 (byte ∷ []) ≡ (Accepted 3 72, 0x80 ∷ []))
-      × (sets_restarted wide_d pair_v 2 4 (byte ∷ []) ≡ (Accepted 3 46, 0x80 ∷ []))
-      × (sets_restarted wide_d pair_v 1 5 (byte ∷ []) ≡ (Refused16 5 50, byte ∷ []))
+      × (sets_full wide_d pair_v 2 4 (byte ∷ []) ≡ (Ok (tally 3 72), 0x80 ∷ []))
+      × (sets_restarted wide_d pair_v 2 4 (byte ∷ []) ≡ (Ok (tally 3 46), 0x80 ∷ []))
+      × (sets_restarted wide_d pair_v 1 5 (byte ∷ []) ≡ (Err (NonePassed (tally 5 50)), byte ∷ []))
   -- Of equal metrics, 1 + 0 + 18 and 7 + 12, [3, 6] comes before [5]: lists are compared from their first entry. It is accepted on trial 3.
   pub by_first_entry :
       (metric_on equal_v (3 ∷ []) (3 ∷ 6 ∷ []) ≡ 19)
       × (metric_on equal_v [] (5 ∷ []) ≡ 19)
       × (sets_on equal_v 2 4 ≡ (3 ∷ []) ∷ (3 ∷ 6 ∷ []) ∷ (5 ∷ []) ∷ [])
-      × (sets_full wide_d equal_v 2 4 (byte ∷ []) ≡ (Accepted 3 72, 0x80 ∷ []))
-      × (sets_restarted wide_d equal_v 2 4 (byte ∷ []) ≡ (Accepted 3 46, 0x80 ∷ []))
+      × (sets_full wide_d equal_v 2 4 (byte ∷ []) ≡ (Ok (tally 3 72), 0x80 ∷ []))
+      × (sets_restarted wide_d equal_v 2 4 (byte ∷ []) ≡ (Ok (tally 3 46), 0x80 ∷ []))
   -- A longer list does not come first: of equal metrics, 19 + 6 and 3 + 4 + 18, [3] comes before [5, 6]. This is accepted on trial 4.
   pub not_by_length :
       (metric_on longer_v [] (3 ∷ []) ≡ 25)
       × (metric_on longer_v (5 ∷ []) (5 ∷ 6 ∷ []) ≡ 25)
       × (sets_on longer_v 2 4 ≡ (5 ∷ []) ∷ (3 ∷ []) ∷ (5 ∷ 6 ∷ []) ∷ [])
-      × (sets_full wide_d longer_v 2 12 (byte ∷ []) ≡ (Accepted 4 96, 0x00 ∷ []))
-      × (sets_restarted wide_d longer_v 2 12 (byte ∷ []) ≡ (Accepted 4 51, 0x00 ∷ []))
+      × (sets_full wide_d longer_v 2 12 (byte ∷ []) ≡ (Ok (tally 4 96), 0x00 ∷ []))
+      × (sets_restarted wide_d longer_v 2 12 (byte ∷ []) ≡ (Ok (tally 4 51), 0x00 ∷ []))
   -- Of equal metrics, 2 + 11 + 12 and 2 + 5 + 18, and equal first entries, [3, 5] comes before [3, 6]. It is accepted on trial 4.
   pub by_second_entry :
       (metric_on second_v (3 ∷ []) (3 ∷ 5 ∷ []) ≡ 25)
       × (metric_on second_v (3 ∷ []) (3 ∷ 6 ∷ []) ≡ 25)
       × (sets_on second_v 2 5 ≡ (3 ∷ []) ∷ (5 ∷ []) ∷ (3 ∷ 5 ∷ []) ∷ (3 ∷ 6 ∷ []) ∷ [])
-      × (sets_full wide_d second_v 2 12 (byte ∷ []) ≡ (Accepted 4 96, 0x00 ∷ []))
-      × (sets_restarted wide_d second_v 2 12 (byte ∷ []) ≡ (Accepted 4 54, 0x00 ∷ []))
+      × (sets_full wide_d second_v 2 12 (byte ∷ []) ≡ (Ok (tally 4 96), 0x00 ∷ []))
+      × (sets_restarted wide_d second_v 2 12 (byte ∷ []) ≡ (Ok (tally 4 54), 0x00 ∷ []))
   -- w = 3: a set of three is accepted, on trial 5. It has 0 + 2 + 0 + 18 from the trial of [3, 5].
   pub of_three :
       (metric_on three_v (3 ∷ 5 ∷ []) (3 ∷ 5 ∷ 6 ∷ []) ≡ 20)
       × (sets_on three_v 3 5 ≡ (3 ∷ []) ∷ (3 ∷ 5 ∷ []) ∷ (5 ∷ []) ∷ (3 ∷ 5 ∷ 6 ∷ []) ∷ [])
-      × (sets_full wide_d three_v 3 5 (byte ∷ []) ≡ (Accepted 5 120, 0x80 ∷ []))
-      × (sets_restarted wide_d three_v 3 5 (byte ∷ []) ≡ (Accepted 5 65, 0x80 ∷ []))
+      × (sets_full wide_d three_v 3 5 (byte ∷ []) ≡ (Ok (tally 5 120), 0x80 ∷ []))
+      × (sets_restarted wide_d three_v 3 5 (byte ∷ []) ≡ (Ok (tally 5 65), 0x80 ∷ []))
   -- A magnitude of 20 has its six: [5] has 20 + 12, and comes after [3, 5] with 27. With 20 + 6 it would come before it.
   pub at_20 :
       (magnitude_at (leaves_on twenty_v []) 5 ≡ 20)
       × (metric_on twenty_v [] (5 ∷ []) ≡ 32)
       × (metric_on twenty_v (3 ∷ []) (3 ∷ 5 ∷ []) ≡ 27)
       × (sets_on twenty_v 2 4 ≡ (3 ∷ []) ∷ (3 ∷ 5 ∷ []) ∷ (5 ∷ []) ∷ [])
-      × (sets_full wide_d twenty_v 2 4 (byte ∷ []) ≡ (Accepted 3 72, 0x00 ∷ []))
-      × (sets_restarted wide_d twenty_v 2 4 (byte ∷ []) ≡ (Accepted 3 46, 0x00 ∷ []))
+      × (sets_full wide_d twenty_v 2 4 (byte ∷ []) ≡ (Ok (tally 3 72), 0x00 ∷ []))
+      × (sets_restarted wide_d twenty_v 2 4 (byte ∷ []) ≡ (Ok (tally 3 46), 0x00 ∷ []))
   -- All ten sets are used up before T: 16 carries the 11 trials made. A magnitude of 21 has no six: [7] has 21 + 18.
   pub used_up :
       (magnitude_at (leaves_on used_up_v []) 7 ≡ 21)
       × (metric_on used_up_v [] (7 ∷ []) ≡ 39)
       × (sets_on used_up_v 2 512 ≡ ten)
-      × (sets_restarted wide_d used_up_v 2 12 (byte ∷ []) ≡ (Refused16 11 106, byte ∷ []))
-      × (sets_full wide_d used_up_v 2 512 (byte ∷ []) ≡ (Refused16 11 264, byte ∷ []))
-      × (sets_restarted wide_d used_up_v 2 512 (byte ∷ []) ≡ (Refused16 11 106, byte ∷ []))
+      × (sets_restarted wide_d used_up_v 2 12 (byte ∷ []) ≡ (Err (NonePassed (tally 11 106)), byte ∷ []))
+      × (sets_full wide_d used_up_v 2 512 (byte ∷ []) ≡ (Err (NonePassed (tally 11 264)), byte ∷ []))
+      × (sets_restarted wide_d used_up_v 2 512 (byte ∷ []) ≡ (Err (NonePassed (tally 11 106)), byte ∷ []))
   -- 26 comes after 13 and before 14. T is at most K + 1 = 5 for w = 1, and at most 512 above.
   pub refusals :
-      (sets_restarted wide_d pair_v 0 0 (byte ∷ []) ≡ (Refused (Alone 26), byte ∷ []))
-      × (sets_restarted wide_d pair_v 4 0 (byte ∷ []) ≡ (Refused (Alone 26), byte ∷ []))
-      × (sets_restarted wide_d (0x20 ∷ 0 ∷ 0 ∷ 0 ∷ 0 ∷ 0 ∷ 0 ∷ 0 ∷ []) 4 0 (byte ∷ []) ≡ (Refused (At 13 0), byte ∷ []))
-      × (sets_restarted wide_d pair_v 1 6 (byte ∷ []) ≡ (Refused (Alone 14), byte ∷ []))
-      × (sets_restarted wide_d pair_v 2 0 (byte ∷ []) ≡ (Refused (Alone 14), byte ∷ []))
-      × (sets_restarted wide_d pair_v 2 513 (byte ∷ []) ≡ (Refused (Alone 14), byte ∷ []))
-      × (sets_restarted wide_d pair_v 2 512 [] ≡ (Refused (Alone 15), []))
-      × (sets_restarted wide_d three_v 3 513 (byte ∷ []) ≡ (Refused (Alone 14), byte ∷ []))
-      × (sets_restarted wide_d three_v 3 512 (byte ∷ []) ≡ (Accepted 5 65, 0x80 ∷ []))
+      (sets_restarted wide_d pair_v 0 0 (byte ∷ []) ≡ (Err (Refused FlipCount), byte ∷ []))
+      × (sets_restarted wide_d pair_v 4 0 (byte ∷ []) ≡ (Err (Refused FlipCount), byte ∷ []))
+      × (sets_restarted wide_d (0x20 ∷ 0 ∷ 0 ∷ 0 ∷ 0 ∷ 0 ∷ 0 ∷ 0 ∷ []) 4 0 (byte ∷ []) ≡ (Err (Refused (ChannelValue 0)), byte ∷ []))
+      × (sets_restarted wide_d pair_v 1 6 (byte ∷ []) ≡ (Err (Refused TrialLimit), byte ∷ []))
+      × (sets_restarted wide_d pair_v 2 0 (byte ∷ []) ≡ (Err (Refused TrialLimit), byte ∷ []))
+      × (sets_restarted wide_d pair_v 2 513 (byte ∷ []) ≡ (Err (Refused TrialLimit), byte ∷ []))
+      × (sets_restarted wide_d pair_v 2 512 [] ≡ (Err (Refused OutputLength), []))
+      × (sets_restarted wide_d three_v 3 513 (byte ∷ []) ≡ (Err (Refused TrialLimit), byte ∷ []))
+      × (sets_restarted wide_d three_v 3 512 (byte ∷ []) ≡ (Ok (tally 5 65), 0x80 ∷ []))
 
 pub set_examples : (byte : ℕ) → SetExamples byte
 unfolding judge refused_or table number ones_below packed describe_up_to check_of covers parity transformed xors taken channel_value f g left_values right_values first_where node information insert_by sort_by run doubtful extensions insert_each tried decoded_under decoded_as

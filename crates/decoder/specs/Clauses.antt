@@ -1,8 +1,6 @@
 -- What only contracts below the public operations cite. Nothing here need be believed.
 use Rattle.std.specs.Prelude.{◌≡◌, Bool, cond, List, [], ◌∷◌, ◌++◌, map, ℕ, ◌-◌, ltb, ℤ, length, take}
 use Rattle.refusal.specs.declared.Refusal.{Refusal}
-use Rattle.refusal.specs.declared.Refusal.TheVariants.{Alone}
-use Rattle.refusal.specs.declared.Judgement.{Judgement}
 use Rattle.refusal.specs.Judge.{differs, judge}
 use Rattle.bits.specs.Packing.{bytes_for}
 use Rattle.code.specs.declared.Code.{Code}
@@ -14,10 +12,12 @@ use Rattle.decoder.specs.declared.Search.{Search}
 use Rattle.decoder.specs.Candidate.{Candidate, extensions, insert_each}
 use Rattle.decoder.specs.Tried.{tried}
 use Rattle.decoder.specs.Decoder.{Decoder, own_refusals, refusals_of}
+use Rattle.refusal.specs.declared.Refusal.TheVariants.{OutputLength}
+use Rattle.refusal.specs.Clauses.{Judgement}
 
 -- 15 the output is not of the packed payload's size
 abbrev pub output_refusals : Code → List ℕ → List (Bool × Refusal)
-output_refusals c output = (differs (length output) (bytes_for c.k), Alone 15) ∷ []
+output_refusals c output = (differs (length output) (bytes_for c.k), OutputLength) ∷ []
 
 -- j judges by a decoder's own refusals, by which `own` judges, and 15
 abbrev pub JudgesRest : Judgement → Code → List ℕ → Judgement → Type 0

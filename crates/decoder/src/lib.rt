@@ -8,7 +8,7 @@ ghost use Rattle.decoder.specs.Clauses.{output_refusals, JudgesRest, JudgesCall}
 
 use code::Code;
 use flip_trial::Restart;
-use refusal::{Judgement, Refusal};
+use refusal::Refusal;
 
 // How to search for the set of a trial that passes.
 #[derive(Clone, Copy)]
@@ -22,32 +22,33 @@ pub struct Search {
 }
 
 // Refusal 15.
-fn judge_output(code: Code, output: &[u8]) -> Judgement
+fn judge_output(code: Code, output: &[u8]) -> Result<(), Refusal>
     ensures { result ≡ judge (output_refusals code output.now) }
 {
     if output.len() != bits::bytes_for(code.k) {
-        return Judgement::Refused(Refusal::Alone(15));
+        return Err(Refusal::OutputLength);
     }
-    Judgement::Fine
+    Ok(())
 }
 
 // The refusals of a decoder, which are `own`, and then 15.
-fn judge_rest(own: Judgement, code: Code, output: &[u8]) -> Judgement
+fn judge_rest(own: Result<(), Refusal>, code: Code, output: &[u8]) -> Result<(), Refusal>
     ensures { JudgesRest own code output.now result }
 {
-    match own {
-        Judgement::Fine => judge_output(code, output),
-        Judgement::Refused(x) => Judgement::Refused(x),
-    }
+    own?;
+    judge_output(code, output)
 }
 
 // Refusals 12 and 13, those of a decoder, which are `own`, and then 15.
-pub fn judge_call(own: Judgement, code: Code, channel: &[u8], output: &[u8]) -> Judgement
+pub fn judge_call(
+    own: Result<(), Refusal>,
+    code: Code,
+    channel: &[u8],
+    output: &[u8],
+) -> Result<(), Refusal>
     requires { code.n ≤ largest_n }
     ensures { JudgesCall own code channel.now output.now result }
 {
-    match channel::judge_channel(code, channel) {
-        Judgement::Fine => judge_rest(own, code, output),
-        Judgement::Refused(x) => Judgement::Refused(x),
-    }
+    channel::judge_channel(code, channel)?;
+    judge_rest(own, code, output)
 }

@@ -6,13 +6,9 @@ use Prim.Native.Nat.{ℕ, ◌-◌, ◌*◌, ◌≤◌}
 use native.Mathlib.Omega.{arith}
 use lib.IntN.{ℤ}
 use lib.ListN.{length, take, replicate, length-map, length-replicate}
-use Rattle.refusal.specs.declared.Refusal.TheVariants.{Alone}
-use Rattle.refusal.specs.declared.Judgement.{Judgement}
-use Rattle.refusal.specs.declared.Judgement.TheVariants.{Fine, Refused as Refusing}
 use Rattle.refusal.specs.Judge.{differs, judge}
 use Rattle.bits.specs.Packing.{bytes_for}
 use Rattle.code.specs.declared.Code.{Code}
-use Rattle.code.specs.declared.Description.{Description}
 use Rattle.code.specs.Code.{code_length}
 use Rattle.code.specs.Description.{mask_of, describe}
 use Rattle.code.specs.Claims.{Coded}
@@ -29,6 +25,10 @@ use Rattle.decoder_demands.specs.Claims.{skipped_by, EveryRestart}
 use Rattle.decoder_demands.proofs.Flips.{flips_each, flips_most, flips_all}
 use Rattle.decoder_demands.proofs.Compare.{every-restart}
 use Rattle.decoder_demands.proofs.HalfSteps.{skipped-by, half_saves_less}
+use Rattle.std.specs.Prelude.{Err, Ok}
+use Rattle.refusal.specs.declared.Refusal.TheVariants.{OutputLength}
+use Rattle.refusal.specs.Clauses.{Judgement}
+use Rattle.code.specs.Clauses.{Description}
 
 -- from the root nothing is skipped
 skipped-root : (mask : List ℕ) (c : Code) (is : List ℕ) → skipped_by Root mask c is ≡ 0
@@ -36,8 +36,8 @@ skipped-root mask c [] = refl
 skipped-root mask c (i ∷ is) = omega (arith, skipped-none c.n, skipped-root mask c is)
 
 -- no refusal applies to outputs of this size
-module _ (p : Decoder) (d : List ℕ) (c : Code) (channel : List ℕ) (size : ℕ) (code : describe d ≡ Description.Accepted c)
-    (fine : (o : List ℕ) → length o ≡ size → judge (refusals_of p c channel o) ≡ Fine) where
+module _ (p : Decoder) (d : List ℕ) (c : Code) (channel : List ℕ) (size : ℕ) (code : describe d ≡ Ok c)
+    (fine : (o : List ℕ) → length o ≡ size → judge (refusals_of p c channel o) ≡ Ok tt) where
   abbrev mask : List ℕ
   mask = mask_of d
 
@@ -79,7 +79,7 @@ module _ (p : Decoder) (d : List ℕ) (c : Code) (channel : List ℕ) (size : �
 
 -- the refusals read of an output its size alone
 alike : (p : Decoder) (c : Code) (channel o o' : List ℕ) → length o ≡ length o' → judge (refusals_of p c channel o) ≡ judge (refusals_of p c channel o')
-alike p c channel o o' l = ap (λ (m : ℕ). judge (channel_refusals c channel ++ (own_refusals p c ++ ((differs m (bytes_for c.k), Alone 15) ∷ [])))) l
+alike p c channel o o' l = ap (λ (m : ℕ). judge (channel_refusals c channel ++ (own_refusals p c ++ ((differs m (bytes_for c.k), OutputLength) ∷ [])))) l
 
 -- a well-formed call is a run of trials, with any output of that size
 pub run_of : (p : Decoder) (d : List ℕ) (c : Code) (channel output : List ℕ) → WellFormed p d c channel output → SameRun p d c channel (length output)
@@ -92,10 +92,10 @@ agreement p d channel size = go (describe d) refl
     sized : (c : Code) (o : List ℕ) → length o ≡ size → judge (refusals_of p c channel o) ≡ judge (refusals_of p c channel (replicate size 0))
     sized c o l = alike p c channel o (replicate size 0) (l ∙ sym (length-replicate size 0))
 
-    under : (c : Code) → describe d ≡ Description.Accepted c → (j : Judgement) → judge (refusals_of p c channel (replicate size 0)) ≡ j → Agree p d channel size
-    under c e Fine h = inr (c, e, same-run p d c channel size e (λ o l. sized c o l ∙ h))
-    under c e (Refusing r) h = inl (r, λ restart o l. under-code p restart d channel o c e ∙ refused_answer p restart (mask_of d) c channel o r (sized c o l ∙ h))
+    under : (c : Code) → describe d ≡ Ok c → (j : Judgement) → judge (refusals_of p c channel (replicate size 0)) ≡ j → Agree p d channel size
+    under c e (Ok tt) h = inr (c, e, same-run p d c channel size e (λ o l. sized c o l ∙ h))
+    under c e (Err r) h = inl (r, λ restart o l. under-code p restart d channel o c e ∙ refused_answer p restart (mask_of d) c channel o r (sized c o l ∙ h))
 
     go : (x : Description) → describe d ≡ x → Agree p d channel size
-    go (Description.Accepted c) e = under c e (judge (refusals_of p c channel (replicate size 0))) refl
-    go (Description.Refused r) e = inl (r, λ restart o l. description_refused p restart d channel o r e)
+    go (Ok c) e = under c e (judge (refusals_of p c channel (replicate size 0))) refl
+    go (Err r) e = inl (r, λ restart o l. description_refused p restart d channel o r e)

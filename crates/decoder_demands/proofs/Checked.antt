@@ -10,7 +10,6 @@ use Rattle.bits.specs.Claims.{Bits}
 use Rattle.bits.specs.Mask.{mask_bit}
 use Rattle.bits.specs.Packing.{packed}
 use Rattle.code.specs.declared.Code.{Code}
-use Rattle.code.specs.declared.Description.TheVariants as Description
 use Rattle.code.specs.Code.{code_length}
 use Rattle.code.specs.Description.{mask_of, describe}
 use Rattle.channel.specs.Channel.{channel_values}
@@ -19,7 +18,6 @@ use Rattle.encoder.specs.Encode.{encoded}
 use Rattle.flip_trial.specs.declared.Restart.{Restart}
 use Rattle.flip_trial.specs.Trial.{lowest, restart_at, later_trial, message_in, trial_passes}
 use Rattle.flip_trial.proofs.Bounds.{first_bits, later-bits}
-use Rattle.flip_run.specs.declared.Decoded.TheVariants.{Accepted, Refused16}
 use Rattle.decoder.specs.Decoder.{Decoder, flips_of, trials_of, decoded_as}
 use Rattle.decoder.proofs.Decoder.{answer-fine, under-code}
 use Rattle.decoder_demands.specs.Checked.{trial_bits, OnlyChecked, AfterAll}
@@ -28,6 +26,9 @@ use Rattle.decoder_demands.proofs.Answers.{run-accepts, run_fails}
 use Rattle.decoder_demands.proofs.Codeword.{length_first_bits, length_later_bits, first-frozen, later-frozen, encodes_back}
 use Rattle.decoder_demands.proofs.Flips.{flips_each}
 use Rattle.decoder_demands.proofs.Trials.{FlipsEach, length-trials_of}
+use Rattle.std.specs.Prelude.{Err, Ok}
+use Rattle.flip_run.specs.Trials.{tally}
+use Rattle.flip_run.specs.declared.DecodingError.TheVariants.{NonePassed}
 
 -- bits that a message may have been placed in: one for each index, and zeros at the frozen ones
 record Placed (mask : List ℕ) (c : Code) (u : List ℕ) : Type 0 where
@@ -60,11 +61,11 @@ module _ (mask : List ℕ) (c : Code) (v : List ℤ) (restart : Restart) where
 
 -- the trial that passed, in full
 pub passed-at : (p : Decoder) (restart : Restart) (d : List ℕ) (c : Code) (channel output : List ℕ) (trial steps : ℕ) (payload : List ℕ)
-    → describe d ≡ Description.Accepted c → decoded_as p restart d channel output ≡ (Accepted trial steps, payload)
+    → describe d ≡ Ok c → decoded_as p restart d channel output ≡ (Ok (tally trial steps), payload)
     → (bits : List ℕ) × PassedAt (trial_passes (mask_of d) c) (trials_of p restart (mask_of d) c (channel_values channel)) trial steps bits × (payload ≡ packed (take c.k (message_in (mask_of d) c bits)))
 passed-at p restart d c channel output trial steps payload code e =
     run-accepts (mask_of d) c output (trials_of p restart (mask_of d) c (channel_values channel)) trial steps payload
-    (answer-fine p restart (mask_of d) c channel output (Accepted trial steps, payload) refl (sym (under-code p restart d channel output c code) ∙ e)).1
+    (answer-fine p restart (mask_of d) c channel output (Ok (tally trial steps), payload) refl (sym (under-code p restart d channel output c code) ∙ e)).1
 
 -- trials are counted from 1
 from_one : (os : List Out) (t : ℕ) → 1 ≤ t → bits_of_trial os t ≡ get_or (map (λ o. o.bits) os) (t - 1) []
@@ -90,5 +91,5 @@ pub after-all : AfterAll
 after-all p restart d c channel output made steps bytes code e =
     let os : List Out = trials_of p restart (mask_of d) c (channel_values channel) in
     let x = run_fails (mask_of d) c output os made steps bytes
-    (answer-fine p restart (mask_of d) c channel output (Refused16 made steps, bytes) refl (sym (under-code p restart d channel output c code) ∙ e)).1 in
+    (answer-fine p restart (mask_of d) c channel output (Err (NonePassed (tally made steps)), bytes) refl (sym (under-code p restart d channel output c code) ∙ e)).1 in
     (x.0.all, λ t l m. sym (ap (trial_passes (mask_of d) c) (from_one os t l)) ∙ x.0.each t l (omega (arith, x.0.all)))

@@ -14,8 +14,6 @@ use Rattle.bits.specs.Packing.{bytes_for, packed, unpacked, unused_bits}
 use Rattle.bits.proofs.Lists.{bits-take}
 use Rattle.bits.proofs.Packing.{length-packed, unpacked-packed, unused_packed}
 use Rattle.code.specs.declared.Code.{Code}
-use Rattle.code.specs.declared.Description.{Description}
-use Rattle.code.specs.declared.Description.TheVariants.{Accepted}
 use Rattle.code.specs.Code.{code_length, divisor, start_bits}
 use Rattle.code.specs.Description.{mask_of, describe, on_description}
 use Rattle.code.specs.Claims.{Coded}
@@ -27,7 +25,6 @@ use Rattle.placing.specs.Place.{placed}
 use Rattle.placing.proofs.Placing.{bits-taken, placed-taken}
 use Rattle.values.specs.Values.{Rule, decided, mask_rule}
 use Rattle.values.proofs.Rules.{rule-frozen}
-use Rattle.encoder.specs.declared.Encoded.TheVariants.{Done, Refused}
 use Rattle.encoder.specs.Encode.{message_of, codeword, encoded_by, encoded}
 use Rattle.encoder.specs.Claims.{WellFormed}
 use Rattle.encoder.proofs.WellFormed.{well_formed_answer}
@@ -41,6 +38,8 @@ use Rattle.flip_trial.proofs.Flips.{rule-zero}
 use Rattle.flip_trial.proofs.Restartable.{restartable}
 use Rattle.flip_trial.proofs.Agree.{length-prefix, same_bits}
 use Rattle.flip_trial.proofs.Message.{length-message}
+use Rattle.std.specs.Prelude.{Err, Ok}
+use Rattle.code.specs.Clauses.{Description}
 
 -- ---- the bits of a trial
 
@@ -92,7 +91,7 @@ module _ {mask : List ℕ} {c : Code} (on : Coded mask c) (u : List ℕ) where
 -- ---- under a description
 
 -- the answer of encode
-pub encodes_back : (d : List ℕ) {c : Code} → describe d ≡ Accepted c → (u : List ℕ) → length u ≡ code_length c → Bits u → ((i : ℕ) → i < code_length c → mask_bit (mask_of d) i ≡ 0 → get_or u i 0 ≡ 0) → trial_passes (mask_of d) c u ≡ true → (output : List ℕ) → length output ≡ code_length c / 8 → encoded d (packed (take c.k (message_in (mask_of d) c u))) output ≡ (Done, packed (transformed c.n u))
+pub encodes_back : (d : List ℕ) {c : Code} → describe d ≡ Ok c → (u : List ℕ) → length u ≡ code_length c → Bits u → ((i : ℕ) → i < code_length c → mask_bit (mask_of d) i ≡ 0 → get_or u i 0 ≡ 0) → trial_passes (mask_of d) c u ≡ true → (output : List ℕ) → length output ≡ code_length c / 8 → encoded d (packed (take c.k (message_in (mask_of d) c u))) output ≡ (Ok tt, packed (transformed c.n u))
 unfolding encoded
 encodes_back d {c} code u long bits frozen passes output size =
     let on : Coded (mask_of d) c = (described d c code).coded in
@@ -103,6 +102,6 @@ encodes_back d {c} code u long bits frozen passes output size =
       unused_clear = ap (unused_bits (packed p)) (sym k) ∙ unused_packed p;
       output_size = size;
     } in
-    ap (λ (x : Description). on_description x (λ i. (Refused i, output)) (λ c. encoded_by (mask_of d) c (packed p) output)) code
+    ap (λ (x : Description). on_description x (λ i. (Err i, output)) (λ c. encoded_by (mask_of d) c (packed p) output)) code
     ∙ well_formed_answer c (packed p) output (mask_of d) w
-    ∙ ap (λ (x : List ℕ). (Done, x)) (codeword-back on u long bits frozen passes)
+    ∙ ap (λ (x : List ℕ). (Ok tt, x)) (codeword-back on u long bits frozen passes)

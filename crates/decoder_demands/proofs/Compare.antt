@@ -14,11 +14,11 @@ use Rattle.pass_tree.specs.Node.{Out}
 use Rattle.flip_trial.specs.declared.Restart.{Restart}
 use Rattle.flip_trial.specs.declared.Restart.TheVariants.{Root}
 use Rattle.flip_trial.specs.Trial.{message_in, trial_passes}
-use Rattle.flip_run.specs.declared.Decoded.{Decoded}
 use Rattle.flip_run.specs.Trials.{Verdict, passed, failed, run, answer_of}
 use Rattle.decoder_demands.specs.Claims.{steps_of, PassedAt, AllFailed, Ends, SameButSteps, EveryRestart}
 use Rattle.decoder_demands.proofs.Trials.{FlipsEach, trials_for, length-trials_of, same-trials, sets_made, steps_trials}
 use Rattle.decoder_demands.proofs.Run.{run_ends, run-same}
+use Rattle.flip_run.specs.Clauses.{Decoded}
 
 -- the steps of a verdict, and it with other steps
 abbrev steps_in : Verdict → ℕ

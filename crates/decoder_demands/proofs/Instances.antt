@@ -12,22 +12,18 @@ use Rattle.laws.specs.First.{first_where}
 use Rattle.laws.specs.Table.{table}
 use Rattle.laws.proofs.Table.{get_or-table}
 use Rattle.refusal.specs.declared.Refusal.{Refusal}
-use Rattle.refusal.specs.declared.Refusal.TheVariants.{Alone}
 use Rattle.refusal.specs.Judge.{judge, refused_or}
 use Rattle.refusal.proofs.Judge.{judge-none, judge_no}
 use Rattle.refusal.proofs.Tests.{outside_no}
 use Rattle.bits.specs.Bit.{number}
 use Rattle.bits.specs.Mask.{ones_below}
 use Rattle.bits.specs.Packing.{packed, unpacked}
-use Rattle.code.specs.declared.Description.TheVariants as Description
 use Rattle.code.specs.Description.{mask_of, describe_up_to, describe}
 use Rattle.crc.specs.Check.{check_of}
 use Rattle.transform.specs.Transform.{covers, parity, transformed}
 use Rattle.placing.specs.Place.{placed}
 use Rattle.values.specs.Values.{hard, f}
 use Rattle.channel.specs.Channel.{channel_value, channel_values, first_outside}
-use Rattle.encoder.specs.declared.Encoded.{Encoded}
-use Rattle.encoder.specs.declared.Encoded.TheVariants.{Done}
 use Rattle.encoder.specs.Encode.{codeword, encoded_by, encoded}
 use Rattle.pass_tree.specs.Skipped.{skipped}
 use Rattle.flip_trial.specs.declared.Restart.{Restart}
@@ -35,9 +31,8 @@ use Rattle.flip_trial.specs.declared.Restart.TheVariants.{Root, Half, AfterFlip}
 use Rattle.flip_trial.specs.Trial.{first_trial, lowest, restart_at, later_trial, trial_passes}
 use Rattle.flip_trial.specs.FirstAfter.{FirstAfter}
 use Rattle.flip_trial.proofs.After.{after_3, after_5, after_6, after_7}
-use Rattle.flip_run.specs.declared.Decoded.{Decoded}
-use Rattle.flip_run.specs.declared.Decoded.TheVariants.{Accepted, Refused16, Refused}
-use Rattle.flip_run.specs.Trials.{flip_order}
+use Rattle.flip_run.specs.Trials.{flip_order, tally}
+use Rattle.flip_run.proofs.Tallies.{tally_in}
 use Rattle.decoder.specs.Decoder.{Decoder, single, sets, most_limit, WellFormed, decoded_as, decoded_full, decoded_half, decoded_restarted, sets_full, sets_restarted}
 use Rattle.decoder.specs.Claims.{Allowed}
 use Rattle.decoder.proofs.Decoder.{spelt_out}
@@ -52,8 +47,13 @@ use Rattle.decoder_demands.proofs.Demand3.{demand_3}
 use Rattle.decoder_demands.proofs.Noiseless.{noiseless, noiseless_decoding}
 use Rattle.decoder_demands.proofs.Checked.{only_checked}
 use Rattle.decoder_demands.proofs.Larger.{stays_accepted}
+use Rattle.std.specs.Prelude.{Err, Ok}
+use Rattle.refusal.specs.declared.Refusal.TheVariants.{TrialLimit}
+use Rattle.flip_run.specs.declared.DecodingError.TheVariants.{NonePassed, Refused}
+use Rattle.encoder.specs.Clauses.{Encoded}
+use Rattle.flip_run.specs.Clauses.{Decoded}
 
-pub describes : describe wide_d ≡ Description.Accepted wide_code
+pub describes : describe wide_d ≡ Ok wide_code
 describes = (set_examples 0).described
 
 -- ---- agreement: from what full decoding answers, which is computed, follows what half restart and restarted decoding do
@@ -67,7 +67,7 @@ module _ where
   pub single-run : SameRun (single 5) wide_d wide_code vector 1
   single-run = run_on (single 5) vector (set_examples 0).by_single_flips.1 (omega arith)
 
-  single-answers : (single-run.made ≡ 2) × ((r : Restart) (byte : ℕ) → decoded_as (single 5) r wide_d vector (byte ∷ []) ≡ (Accepted 2 (single-run.steps r), 0x00 ∷ []))
+  single-answers : (single-run.made ≡ 2) × ((r : Restart) (byte : ℕ) → decoded_as (single 5) r wide_d vector (byte ∷ []) ≡ (Ok (tally 2 (single-run.steps r)), 0x00 ∷ []))
   single-answers = accepted-run single-run (set_examples 0).by_single_flips.1
 
   single-lowest : lowest_of_each (single 5) wide_d wide_code vector single-run.made ≡ 5 ∷ []
@@ -83,44 +83,44 @@ module _ where
   single-full = omega (arith, single-run.full_steps, single-answers.0)
 
   -- the trial resumes at 6, and saves 6 + 6 + 4 steps
-  pub single_restarted : (byte : ℕ) → decoded_restarted wide_d vector 5 (byte ∷ []) ≡ (Accepted 2 32, 0x00 ∷ [])
+  pub single_restarted : (byte : ℕ) → decoded_restarted wide_d vector 5 (byte ∷ []) ≡ (Ok (tally 2 32), 0x00 ∷ [])
   unfolding first_where skipped
   single_restarted byte =
       let steps : single-run.steps AfterFlip ≡ 32 = omega (arith, single-full, single-run.exceeds AfterFlip, ap (λ (is : List ℕ). skipped_over 3 (map (restart_at AfterFlip (mask_of wide_d) 8) is)) single-lowest) in
-      single-answers.1 AfterFlip byte ∙ ap (λ (s : ℕ). (Accepted 2 s, 0x00 ∷ [])) steps
+      single-answers.1 AfterFlip byte ∙ ap (λ (s : ℕ). (Ok (tally 2 s), 0x00 ∷ [])) steps
 
   -- it resumes at 4, and saves 4 + 4 + 4 steps
-  pub single-half : (byte : ℕ) → decoded_half wide_d vector 5 (byte ∷ []) ≡ (Accepted 2 36, 0x00 ∷ [])
+  pub single-half : (byte : ℕ) → decoded_half wide_d vector 5 (byte ∷ []) ≡ (Ok (tally 2 36), 0x00 ∷ [])
   unfolding skipped
   single-half byte =
       let steps : single-run.steps Half ≡ 36 = omega (arith, single-full, single-run.exceeds Half, ap (λ (is : List ℕ). skipped_over 3 (map (restart_at Half (mask_of wide_d) 8) is)) single-lowest) in
-      single-answers.1 Half byte ∙ ap (λ (s : ℕ). (Accepted 2 s, 0x00 ∷ [])) steps
+      single-answers.1 Half byte ∙ ap (λ (s : ℕ). (Ok (tally 2 s), 0x00 ∷ [])) steps
 
   -- what restarted decoding is computed to take bounds half restart from below, and what full decoding is computed to take from above
   pub half_between : (32 ≤ single-run.steps Half) × (single-run.steps Half ≤ 48)
   half_between =
-      let answer : Accepted 2 32 ≡ Accepted 2 (single-run.steps AfterFlip) = ap (λ (z : Decoded × List ℕ). z.0) (sym (set_examples 0).by_single_flips.3 ∙ single-answers.1 AfterFlip 0) in
-      let restarted : single-run.steps AfterFlip ≡ 32 = cc in
+      let answer : Ok (tally 2 32) ≡ Ok (tally 2 (single-run.steps AfterFlip)) = ap (λ (z : Decoded × List ℕ). z.0) (sym (set_examples 0).by_single_flips.3 ∙ single-answers.1 AfterFlip 0) in
+      let restarted : single-run.steps AfterFlip ≡ 32 = sym (ap (λ (a : Decoded). (tally_in a).steps) answer) in
       (omega (arith, single-run.restarted_least, restarted), omega (arith, single-run.full_most, single-full))
 
 -- with T = 1 no later trial is made, and with T = 6 every restart refuses as 14
 pub one_at_most : (run_on (single 1) vector (set_examples 0).by_single_flips.4 (omega arith)).made ≤ 1
 one_at_most = omega (arith, (run_on (single 1) vector (set_examples 0).by_single_flips.4 (omega arith)).most)
 
-pub all_refuse : (r : Restart) (byte : ℕ) → decoded_as (single 6) r wide_d vector (byte ∷ []) ≡ (Refused (Alone 14), byte ∷ [])
+pub all_refuse : (r : Restart) (byte : ℕ) → decoded_as (single 6) r wide_d vector (byte ∷ []) ≡ (Err (Refused TrialLimit), byte ∷ [])
 all_refuse r byte =
     ⊎_elim
     (λ u.
-    let answer : Refused (Alone 14) ≡ Refused u.0 = ap (λ (z : Decoded × List ℕ). z.0) (sym (set_examples 0).by_single_flips.5 ∙ u.1 Root (0 ∷ []) refl) in
-    let same : u.0 ≡ Alone 14 = cc in
-    u.1 r (byte ∷ []) refl ∙ ap (λ (x : Refusal). (Refused x, byte ∷ [])) same)
+    let answer : Err (Refused TrialLimit) ≡ Err (Refused u.0) = ap (λ (z : Decoded × List ℕ). z.0) (sym (set_examples 0).by_single_flips.5 ∙ u.1 Root (0 ∷ []) refl) in
+    let same : u.0 ≡ TrialLimit = cc in
+    u.1 r (byte ∷ []) refl ∙ ap (λ (x : Refusal). (Err (Refused x), byte ∷ [])) same)
     (λ u.
     ⊎_elim (λ a. absurd (omega (arith, one_kind (set_examples 0).by_single_flips.5 (a.1 Root (0 ∷ []) refl))))
     (λ a. absurd (omega (arith, one_kind (set_examples 0).by_single_flips.5 (a.2 Root (0 ∷ []) refl)))) u.2.answers)
     (agreement (single 6) wide_d vector 1)
 
 -- sets: [3] and [3, 5] are flipped, and trial 3 is accepted. Both resume at 5, and save 5 + 4 + 4 steps each.
-pub pair_restarted : (byte : ℕ) → sets_restarted wide_d pair_v 2 4 (byte ∷ []) ≡ (Accepted 3 46, 0x80 ∷ [])
+pub pair_restarted : (byte : ℕ) → sets_restarted wide_d pair_v 2 4 (byte ∷ []) ≡ (Ok (tally 3 46), 0x80 ∷ [])
 unfolding first_where skipped
 pair_restarted byte =
     let x = run_on (sets 2 4) pair_v (set_examples 0).by_own_trial.7 (omega arith) in
@@ -128,7 +128,7 @@ pair_restarted byte =
     let is : lowest_of_each (sets 2 4) wide_d wide_code pair_v x.made ≡ 3 ∷ 3 ∷ [] =
     ap₂ (λ (m : ℕ) (js : List (List ℕ)). map lowest (take (m - 1) js)) e.0 (set_examples 0).by_own_trial.3 in
     let steps : x.steps AfterFlip ≡ 46 = omega (arith, x.full_steps, e.0, x.exceeds AfterFlip, ap (λ (is : List ℕ). skipped_over 3 (map (restart_at AfterFlip (mask_of wide_d) 8) is)) is) in
-    e.1 AfterFlip byte ∙ ap (λ (s : ℕ). (Accepted 3 s, 0x80 ∷ [])) steps
+    e.1 AfterFlip byte ∙ ap (λ (s : ℕ). (Ok (tally 3 s), 0x80 ∷ [])) steps
 
 -- ---- well-formed calls
 
@@ -173,7 +173,7 @@ module _ (byte byte' : ℕ) where
   flipped t = take (t - 1) (flip_order (mask_of wide_d) wide_code (channel_values vector))
 
   -- each buffer is as it was
-  pub both_refuse : (decoded_full wide_d vector 1 (byte ∷ []) ≡ (Refused16 1 24, byte ∷ [])) × (decoded_restarted wide_d vector 1 (byte' ∷ []) ≡ (Refused16 1 24, byte' ∷ []))
+  pub both_refuse : (decoded_full wide_d vector 1 (byte ∷ []) ≡ (Err (NonePassed (tally 1 24)), byte ∷ [])) × (decoded_restarted wide_d vector 1 (byte' ∷ []) ≡ (Err (NonePassed (tally 1 24)), byte' ∷ []))
   both_refuse =
       let both = both_decode 1 byte byte' (omega arith) (omega arith) in
       ⊎_elim (λ x. absurd (omega (arith, one_kind (set_examples byte).by_single_flips.4 x.1)))
@@ -181,13 +181,13 @@ module _ (byte byte' : ℕ) where
       let none = skipped_over-none (subst (λ (is : List ℕ). Each is both.qs) (ap flipped x.0) both.q_is) in
       let full : both.full ≡ 24 = omega (arith, both.full_steps, x.0) in
       let restarted : both.restarted ≡ 24 = omega (arith, full, both.exceeds, none) in (
-        x.1 ∙ ap₂ (λ (t s : ℕ). (Refused16 t s, byte ∷ [])) x.0 full,
-        x.2 ∙ ap₂ (λ (t s : ℕ). (Refused16 t s, byte' ∷ [])) x.0 restarted,
+        x.1 ∙ ap₂ (λ (t s : ℕ). (Err (NonePassed (tally t s)), byte ∷ [])) x.0 full,
+        x.2 ∙ ap₂ (λ (t s : ℕ). (Err (NonePassed (tally t s)), byte' ∷ [])) x.0 restarted,
       ))
       both.answers
 
   -- of restarted decoding alone
-  pub restarted_refuses : decoded_restarted wide_d vector 1 (byte' ∷ []) ≡ (Refused16 1 24, byte' ∷ [])
+  pub restarted_refuses : decoded_restarted wide_d vector 1 (byte' ∷ []) ≡ (Err (NonePassed (tally 1 24)), byte' ∷ [])
   restarted_refuses = both_refuse.1
 
   -- two trials are made, so there is one q
@@ -196,24 +196,24 @@ module _ (byte byte' : ℕ) where
       let both = both_decode 5 byte byte' (omega arith) (omega arith) in
       ⊎_elim
       (λ x.
-      let answer : Accepted 2 48 ≡ Accepted both.made both.full = ap (λ (z : Decoded × List ℕ). z.0) (sym (set_examples byte).by_single_flips.1 ∙ x.1) in
-      let made : both.made ≡ 2 = cc in
+      let answer : Ok (tally 2 48) ≡ Ok (tally both.made both.full) = ap (λ (z : Decoded × List ℕ). z.0) (sym (set_examples byte).by_single_flips.1 ∙ x.1) in
+      let made : both.made ≡ 2 = sym (ap (λ (a : Decoded). (tally_in a).trials) answer) in
       omega (arith, both.each, made))
       (λ x. absurd (omega (arith, one_kind (set_examples byte).by_single_flips.1 x.1)))
       both.answers
 
-  pub restarted_accepts : decoded_restarted wide_d vector 5 (byte' ∷ []) ≡ (Accepted 2 32, 0x00 ∷ [])
+  pub restarted_accepts : decoded_restarted wide_d vector 5 (byte' ∷ []) ≡ (Ok (tally 2 32), 0x00 ∷ [])
   restarted_accepts =
       let both = both_decode 5 byte byte' (omega arith) (omega arith) in
       ⊎_elim
       (λ x.
-      let e : (Accepted 2 48, 0x00 ∷ []) ≡ (Accepted both.made both.full, x.0) = sym (set_examples byte).by_single_flips.1 ∙ x.1 in
-      let answer : Accepted 2 48 ≡ Accepted both.made both.full = ap (λ (z : Decoded × List ℕ). z.0) e in
-      let made : both.made ≡ 2 = cc in
+      let e : (Ok (tally 2 48), 0x00 ∷ []) ≡ (Ok (tally both.made both.full), x.0) = sym (set_examples byte).by_single_flips.1 ∙ x.1 in
+      let answer : Ok (tally 2 48) ≡ Ok (tally both.made both.full) = ap (λ (z : Decoded × List ℕ). z.0) e in
+      let made : both.made ≡ 2 = sym (ap (λ (a : Decoded). (tally_in a).trials) answer) in
       let one : flipped both.made ≡ 5 ∷ [] = ap flipped made ∙ ap (take 1) (set_examples byte).by_single_flips.0 in
       let saved = skipped_after_5 (subst (λ (is : List ℕ). Each is both.qs) one both.q_is) in
       let steps : both.restarted ≡ 32 = omega (arith, both.full_steps, both.exceeds, made, saved) in
-      x.2 ∙ ap₂ (λ (a : Decoded) (b : List ℕ). (a, b)) (ap₂ Accepted made steps) (sym (ap (λ (z : Decoded × List ℕ). z.1) e)))
+      x.2 ∙ ap₂ (λ (a : Decoded) (b : List ℕ). (a, b)) (ap₂ (λ (t s : ℕ). Ok (tally t s)) made steps) (sym (ap (λ (z : Decoded × List ℕ). z.1) e)))
       (λ x. absurd (omega (arith, one_kind (set_examples byte).by_single_flips.1 x.1)))
       both.answers
 
@@ -225,7 +225,7 @@ skipped_after_all (Forall₂.cons a (Forall₂.cons b (Forall₂.cons c (Forall�
     (ap₂ (λ (x : ℕ) (xs : List ℕ). x ∷ xs) (after_3 a)
     (ap₂ (λ (x : ℕ) (xs : List ℕ). x ∷ xs) (after_5 b) (ap₂ (λ (x y : ℕ). x ∷ y ∷ []) (after_6 c) (after_7 d))))
 
-pub restarted_fails : (byte byte' : ℕ) → decoded_restarted wide_d pair_v 5 (byte' ∷ []) ≡ (Refused16 5 50, byte' ∷ [])
+pub restarted_fails : (byte byte' : ℕ) → decoded_restarted wide_d pair_v 5 (byte' ∷ []) ≡ (Err (NonePassed (tally 5 50)), byte' ∷ [])
 restarted_fails byte byte' =
     let on : (b : ℕ) → WellFormed (single 5) wide_d wide_code pair_v (b ∷ []) = well_formed (single 5) pair_v refl pair_inside (omega arith, omega arith) in
     let both = demand_3 wide_d wide_code pair_v 5 (byte ∷ []) (byte' ∷ []) (on byte) (on byte') in
@@ -234,7 +234,7 @@ restarted_fails byte byte' =
     let flipped = ap₂ (λ (t : ℕ) (order : List ℕ). take (t - 1) order) x.0 (set_examples byte).all_fail.0 in
     let saved = skipped_after_all (subst (λ (is : List ℕ). Each is both.qs) flipped both.q_is) in
     let steps : both.restarted ≡ 50 = omega (arith, both.full_steps, both.exceeds, x.0, saved) in
-    x.2 ∙ ap₂ (λ (t s : ℕ). (Refused16 t s, byte' ∷ [])) x.0 steps)
+    x.2 ∙ ap₂ (λ (t s : ℕ). (Err (NonePassed (tally t s)), byte' ∷ [])) x.0 steps)
     both.answers
 
 -- with T = 1 one trial is made, and there is no q
@@ -247,11 +247,11 @@ no_q byte = let both = both_decode 1 byte byte (omega arith) (omega arith) in om
 abbrev noiseless80 : List ℕ
 noiseless80 = 0xFF ∷ 0x1F ∷ 0xFE ∷ 0x01 ∷ 0x05 ∷ 0xE1 ∷ 0x01 ∷ 0xF7 ∷ []
 
-pub encodes_80 : encoded wide_d (0x80 ∷ []) (0 ∷ []) ≡ (Done, 0xA5 ∷ [])
+pub encodes_80 : encoded wide_d (0x80 ∷ []) (0 ∷ []) ≡ (Ok tt, 0xA5 ∷ [])
 unfolding judge refused_or table number ones_below packed unpacked describe_up_to check_of covers parity transformed placed codeword encoded_by encoded
 encodes_80 = refl
 
-encodes_00 : encoded wide_d (0x00 ∷ []) (0 ∷ []) ≡ (Done, 0x00 ∷ [])
+encodes_00 : encoded wide_d (0x00 ∷ []) (0 ∷ []) ≡ (Ok tt, 0x00 ∷ [])
 unfolding judge refused_or table number ones_below packed unpacked describe_up_to check_of covers parity transformed placed codeword encoded_by encoded
 encodes_00 = refl
 
@@ -284,11 +284,11 @@ received = record {
 }
 
 -- for every T, whatever byte the output held
-pub decodes_80 : (T byte : ℕ) → 1 ≤ T → T ≤ 5 → (decoded_full wide_d noiseless80 T (byte ∷ []) ≡ (Accepted 1 24, 0x80 ∷ [])) × (decoded_restarted wide_d noiseless80 T (byte ∷ []) ≡ (Accepted 1 24, 0x80 ∷ []))
+pub decodes_80 : (T byte : ℕ) → 1 ≤ T → T ≤ 5 → (decoded_full wide_d noiseless80 T (byte ∷ []) ≡ (Ok (tally 1 24), 0x80 ∷ [])) × (decoded_restarted wide_d noiseless80 T (byte ∷ []) ≡ (Ok (tally 1 24), 0x80 ∷ []))
 decodes_80 T byte least most = noiseless_decoding wide_d wide_code (0x80 ∷ []) noiseless80 T (byte ∷ []) received (well_formed (single T) noiseless80 refl noiseless-inside (least, most) byte)
 
 -- every restart by sets, for every w and every T
-pub sets_decode_80 : (r : Restart) (w T byte : ℕ) → 1 ≤ w → w ≤ 3 → 1 ≤ T → T ≤ most_limit w wide_code → decoded_as (sets w T) r wide_d noiseless80 (byte ∷ []) ≡ (Accepted 1 24, 0x80 ∷ [])
+pub sets_decode_80 : (r : Restart) (w T byte : ℕ) → 1 ≤ w → w ≤ 3 → 1 ≤ T → T ≤ most_limit w wide_code → decoded_as (sets w T) r wide_d noiseless80 (byte ∷ []) ≡ (Ok (tally 1 24), 0x80 ∷ [])
 sets_decode_80 r w T byte w-least w-most least most =
     noiseless (sets w T) r wide_d wide_code (0x80 ∷ []) noiseless80 (byte ∷ []) received (well_formed (sets w T) noiseless80 refl noiseless-inside (w-least, w-most, least, most) byte)
 
@@ -332,15 +332,15 @@ module _ where
 
 -- ---- a larger trial limit: what T = 2 accepts by single flips, T up to 5 does; by sets what T = 4 accepts, every larger T does
 
-accepts_at_2 : (byte : ℕ) → decoded_restarted wide_d vector 2 (byte ∷ []) ≡ (Accepted 2 32, 0x00 ∷ [])
+accepts_at_2 : (byte : ℕ) → decoded_restarted wide_d vector 2 (byte ∷ []) ≡ (Ok (tally 2 32), 0x00 ∷ [])
 accepts_at_2 byte = (set_examples byte).by_single_flips.6
 
-pub stays_for_larger : (T byte : ℕ) → 2 ≤ T → T ≤ 5 → decoded_restarted wide_d vector T (byte ∷ []) ≡ (Accepted 2 32, 0x00 ∷ [])
+pub stays_for_larger : (T byte : ℕ) → 2 ≤ T → T ≤ 5 → decoded_restarted wide_d vector T (byte ∷ []) ≡ (Ok (tally 2 32), 0x00 ∷ [])
 stays_for_larger T byte least most =
     stays_accepted (single 2) (single T) AfterFlip wide_d wide_code vector (0 ∷ []) (byte ∷ []) 2 32 (0x00 ∷ []) describes (single_more least)
     (judge_no _ _ _ (outside_no T 1 5 (omega arith) most) ∙ judge-none) refl (accepts_at_2 0)
 
-pub stays_for_larger_sets : (T byte : ℕ) → 4 ≤ T → T ≤ 512 → sets_full wide_d pair_v 2 T (byte ∷ []) ≡ (Accepted 3 72, 0x80 ∷ [])
+pub stays_for_larger_sets : (T byte : ℕ) → 4 ≤ T → T ≤ 512 → sets_full wide_d pair_v 2 T (byte ∷ []) ≡ (Ok (tally 3 72), 0x80 ∷ [])
 stays_for_larger_sets T byte least most =
     stays_accepted (sets 2 4) (sets 2 T) Root wide_d wide_code pair_v (0 ∷ []) (byte ∷ []) 3 72 (0x80 ∷ []) describes (sets_more least)
     (judge_no _ _ _ (outside_no 2 1 3 (omega arith) (omega arith)) ∙ judge_no _ _ _ (outside_no T 1 512 (omega arith) most) ∙ judge-none) refl (set_examples 0).by_own_trial.7

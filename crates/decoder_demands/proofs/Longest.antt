@@ -10,13 +10,13 @@ use Rattle.arrays.specs.Claims.{longest, longest_bytes, most_steps}
 use Rattle.bits.specs.Mask.{ones_below}
 use Rattle.bits.specs.Packing.{bytes_for}
 use Rattle.code.specs.declared.Code.{Code}
-use Rattle.code.specs.declared.Description.TheVariants as Description
 use Rattle.code.specs.Description.{describe_up_to, describe}
 use Rattle.channel.specs.Channel.{first_outside}
 use Rattle.decoder.specs.Decoder.{single, WellFormed}
 use Rattle.decoder.proofs.Decoder.{spelt_out}
 use Rattle.decoder_demands.specs.Demand3.{BothDecode}
 use Rattle.decoder_demands.proofs.Demand3.{demand_3}
+use Rattle.std.specs.Prelude.{Ok}
 
 -- D with the largest n: each byte of its mask is `E8`
 abbrev pub long_d : List ℕ
@@ -26,7 +26,7 @@ long_d = (8 + longest_bytes) % 256 ∷ (8 + longest_bytes) / 256 ∷ 0x01 ∷ 0x
 abbrev pub long_code : Code
 long_code = record { n = largest_n; r = 1; polynomial = 1; start = 0; k = longest / 2 - 1 }
 
-long-describes : describe long_d ≡ Description.Accepted long_code
+long-describes : describe long_d ≡ Ok long_code
 unfolding describe_up_to judge refused_or ones_below
 long-describes = refl
 

@@ -15,7 +15,6 @@ use Rattle.bits.proofs.Lists.{bits-unpacked}
 use Rattle.bits.proofs.Mask.{mask_cases}
 use Rattle.bits.proofs.Packing.{length-unpacked, packed-unpacked}
 use Rattle.code.specs.declared.Code.{Code}
-use Rattle.code.specs.declared.Description.TheVariants as Description
 use Rattle.code.specs.Code.{code_length, information_count, divisor, start_bits}
 use Rattle.code.specs.Description.{mask_of, describe}
 use Rattle.code.specs.Claims.{Described}
@@ -37,12 +36,12 @@ use Rattle.pass_tree.proofs.Steps.{steps_whole}
 use Rattle.pass_tree.proofs.Noiseless.{Signs, Carries, noiseless as pass-recovers}
 use Rattle.flip_trial.specs.declared.Restart.TheVariants.{Root, AfterFlip}
 use Rattle.flip_trial.specs.Trial.{first_trial, message_in, trial_passes}
-use Rattle.flip_run.specs.declared.Decoded.TheVariants.{Accepted}
-use Rattle.flip_run.specs.Trials.{run, answer_of}
+use Rattle.flip_run.specs.Trials.{run, answer_of, tally}
 use Rattle.decoder.specs.Decoder.{single}
 use Rattle.decoder.proofs.Decoder.{fine-answer, under-code}
 use Rattle.decoder_demands.specs.Noiseless.{Received, Noiseless, NoiselessDecoding}
 use Rattle.decoder_demands.proofs.Run.{run-first}
+use Rattle.std.specs.Prelude.{Ok}
 
 -- an index carries the bit that is placed at it
 carries : (mask message : List ℕ) (size i : ℕ) → i < size → Carries (mask_rule mask i) (get_or (placed mask message size) i 0)
@@ -97,8 +96,8 @@ module _ (mask : List ℕ) (c : Code) (payload : List ℕ) (ones : ones_below ma
       ∙ packed-unpacked payload c.k small size clear
 
 -- trials that begin with trial 1, whatever follows: the first one passes, with the payload
-pub first-answer : (d : List ℕ) (c : Code) (payload channel output : List ℕ) → describe d ≡ Description.Accepted c → Received (code_length c) d payload channel → (later : List Out)
-    → answer_of (mask_of d) c output (run (trial_passes (mask_of d) c) 0 0 (first_trial (mask_of d) c (channel_values channel) ∷ later)) ≡ (Accepted 1 (c.n * code_length c), payload)
+pub first-answer : (d : List ℕ) (c : Code) (payload channel output : List ℕ) → describe d ≡ Ok c → Received (code_length c) d payload channel → (later : List Out)
+    → answer_of (mask_of d) c output (run (trial_passes (mask_of d) c) 0 0 (first_trial (mask_of d) c (channel_values channel) ∷ later)) ≡ (Ok (tally 1 (c.n * code_length c)), payload)
 first-answer d c payload channel output code r later =
     let mask : List ℕ = mask_of d in
     let v : List ℤ = channel_values channel in
@@ -109,7 +108,7 @@ first-answer d c payload channel output code r later =
     first_recovers mask c payload ones channel (λ j l. r.sign j l ∙ ap (λ (x : List ℕ). get_or (unpacked x (code_length c)) j 0) (sym e.gives)) r.strength in
     let ok : trial_passes mask c (first_trial mask c v).bits ≡ true = ap (trial_passes mask c) first ∙ passes-back mask c payload ones in
     ap (answer_of mask c output) (run-first (trial_passes mask c) (first_trial mask c v) later ok)
-    ∙ ap₂ (λ (s : ℕ) (x : List ℕ). (Accepted 1 s, x)) (steps_whole c.n (mask_rule mask) v)
+    ∙ ap₂ (λ (s : ℕ) (x : List ℕ). (Ok (tally 1 s), x)) (steps_whole c.n (mask_rule mask) v)
     (ap (λ (b : List ℕ). packed (take c.k (message_in mask c b))) first
     ∙ payload-back mask c payload ones r.bytes e.well_formed.payload_size e.well_formed.unused_clear)
 

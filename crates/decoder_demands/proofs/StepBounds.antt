@@ -12,8 +12,6 @@ use Rattle.code.specs.declared.Code.{Code}
 use Rattle.code.specs.Code.{information_count, code_length}
 use Rattle.code.proofs.Facts.{described}
 use Rattle.flip_trial.specs.declared.Restart.{Restart}
-use Rattle.flip_run.specs.declared.Decoded.{Decoded}
-use Rattle.flip_run.specs.declared.Decoded.TheVariants.{Accepted, Refused16, Refused}
 use Rattle.flip_run.specs.Claims.{of_run}
 use Rattle.decoder.specs.Decoder.{Decoder, single, sets, decoded_as}
 use Rattle.decoder.specs.Claims.{Allowed}
@@ -21,18 +19,21 @@ use Rattle.decoder.proofs.Decoder.{spelt_out, well_formed_is_run}
 use Rattle.decoder.proofs.Limit.{limit_fits}
 use Rattle.decoder_demands.specs.Agreement.{limit_of}
 use Rattle.decoder_demands.proofs.Agreement.{run_of}
+use Rattle.std.specs.Prelude.{Err, Ok}
+use Rattle.flip_run.specs.declared.DecodingError.TheVariants.{NonePassed, Refused}
+use Rattle.flip_run.specs.Clauses.{Decoded}
 
 -- the trials and steps of an answer
 abbrev pub Bounded : Decoded × List ℕ → Type 0
-Bounded (Accepted trial steps, bytes) = (trial ≤ most_trials) × (steps ≤ most_trials * most_steps)
-Bounded (Refused16 made steps, bytes) = (made ≤ most_trials) × (steps ≤ most_trials * most_steps)
-Bounded (Refused x, bytes) = Unit
+Bounded (Ok t, bytes) = (t.trials ≤ most_trials) × (t.steps ≤ most_trials * most_steps)
+Bounded (Err (NonePassed t), bytes) = (t.trials ≤ most_trials) × (t.steps ≤ most_trials * most_steps)
+Bounded (Err (Refused x), bytes) = Unit
 
 -- a refusal before 16 has none
 run-bounded : (z : Decoded × List ℕ) → (of_run z.0 ≡ true → Bounded z) → Bounded z
-run-bounded (Accepted trial steps, bytes) p = p refl
-run-bounded (Refused16 made steps, bytes) p = p refl
-run-bounded (Refused x, bytes) p = tt
+run-bounded (Ok t, bytes) p = p refl
+run-bounded (Err (NonePassed t), bytes) p = p refl
+run-bounded (Err (Refused x), bytes) p = tt
 
 -- limits that are allowed are few enough
 few_allowed : (p : Decoder) (c : Code) → information_count c ≤ longest → Allowed p c → limit_of p ≤ most_trials

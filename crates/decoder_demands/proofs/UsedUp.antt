@@ -13,7 +13,6 @@ use Rattle.refusal.specs.Judge.{judge, refused_or}
 use Rattle.bits.specs.Bit.{number}
 use Rattle.bits.specs.Mask.{ones_below}
 use Rattle.code.specs.declared.Code.{Code}
-use Rattle.code.specs.declared.Description.TheVariants as Description
 use Rattle.code.specs.Description.{mask_of, describe_up_to, describe}
 use Rattle.crc.specs.Check.{check_of}
 use Rattle.transform.specs.Transform.{covers, parity, transformed, xors}
@@ -25,8 +24,7 @@ use Rattle.flip_trial.specs.declared.Restart.{Restart}
 use Rattle.flip_trial.specs.declared.Restart.TheVariants.{AfterFlip}
 use Rattle.flip_trial.specs.Trial.{later_trial, trial_passes}
 use Rattle.flip_trial.specs.Flips.{Flips}
-use Rattle.flip_run.specs.declared.Decoded.TheVariants.{Refused16}
-use Rattle.flip_run.specs.Trials.{run}
+use Rattle.flip_run.specs.Trials.{run, tally}
 use Rattle.decoder.specs.Candidate.{doubtful, extensions, insert_each}
 use Rattle.decoder.specs.Tried.{tried, flip_sets}
 use Rattle.decoder.specs.Decoder.{sets, flips_of, decoded_under, decoded_as, sets_full}
@@ -36,6 +34,8 @@ use Rattle.decoder_demands.proofs.Agreement.{agreement}
 use Rattle.decoder_demands.proofs.Known.{run_in, refused_run}
 use Rattle.decoder_demands.proofs.Checked.{after-all}
 use Rattle.decoder_demands.proofs.Instances.{describes, run_on, bits_by}
+use Rattle.std.specs.Prelude.{Err, Ok}
+use Rattle.flip_run.specs.declared.DecodingError.TheVariants.{NonePassed}
 
 -- ---- sets of one or two indices: 16 carries 11 trials of at most 512
 
@@ -53,7 +53,7 @@ ten_are_all =
     (refused_run used_up_run (set_examples 0).used_up.4).1
 
 -- every restart answers so, and each output is as it was
-pub used_up_refuses : (r : Restart) (byte : ℕ) → decoded_as (sets 2 512) r wide_d used_up_v (byte ∷ []) ≡ (Refused16 11 (used_up_run.steps r), byte ∷ [])
+pub used_up_refuses : (r : Restart) (byte : ℕ) → decoded_as (sets 2 512) r wide_d used_up_v (byte ∷ []) ≡ (Err (NonePassed (tally 11 (used_up_run.steps r))), byte ∷ [])
 used_up_refuses = (refused_run used_up_run (set_examples 0).used_up.4).2
 
 -- each of the eleven trials fails, and no more are made
@@ -90,9 +90,9 @@ twenty_five =
     ∷ (4 ∷ 5 ∷ 7 ∷ []) ∷ (6 ∷ 7 ∷ []) ∷ (3 ∷ 4 ∷ 7 ∷ []) ∷ (4 ∷ 6 ∷ 7 ∷ []) ∷ (3 ∷ 7 ∷ []) ∷ (4 ∷ 7 ∷ []) ∷ (7 ∷ []) ∷ []
 
 -- by computation
-threes : (describe five_d ≡ Description.Accepted five_code)
+threes : (describe five_d ≡ Ok five_code)
     × (flip_sets 3 512 (mask_of five_d) five_code (channel_values threes_v) ≡ twenty_five)
-    × (sets_full five_d threes_v 3 512 (0 ∷ []) ≡ (Refused16 26 624, 0 ∷ []))
+    × (sets_full five_d threes_v 3 512 (0 ∷ []) ≡ (Err (NonePassed (tally 26 624)), 0 ∷ []))
 unfolding judge refused_or table number ones_below describe_up_to check_of covers parity transformed xors taken channel_value f g left_values right_values first_where node insert_by run doubtful extensions insert_each tried decoded_under decoded_as
 threes = (refl, refl, refl)
 

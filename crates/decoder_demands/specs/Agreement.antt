@@ -1,10 +1,9 @@
 -- Document 02, request 2.4: "For one input, all three decoders agree in payload and trial or refusal, and steps obey restarted ≤ half restart ≤ full."
 -- `agreement` of proofs/Agreement.antt proves it of every decoder, with demand 3's exact steps.
-use Rattle.std.specs.Prelude.{◌≡◌, ◌⊎◌, ℕ, ◌+◌, ◌-◌, ◌*◌, ◌≤◌, ℤ, length, take}
+use Rattle.std.specs.Prelude.{◌≡◌, ◌⊎◌, ℕ, ◌+◌, ◌-◌, ◌*◌, ◌≤◌, ℤ, length, take, Err, Ok, Result}
 use mathlib.Core.List.{List, [], ◌∷◌, map, Memᴰ}
 use Rattle.refusal.specs.declared.Refusal.{Refusal}
 use Rattle.code.specs.declared.Code.{Code}
-use Rattle.code.specs.declared.Description.TheVariants as Description
 use Rattle.code.specs.Code.{code_length}
 use Rattle.code.specs.Description.{mask_of, describe}
 use Rattle.channel.specs.Channel.{channel_values}
@@ -13,10 +12,12 @@ use Rattle.flip_trial.specs.declared.Restart.{Restart}
 use Rattle.flip_trial.specs.declared.Restart.TheVariants.{Root, Half, AfterFlip}
 use Rattle.flip_trial.specs.Trial.{lowest, restart_at}
 use Rattle.flip_trial.specs.Flips.{Flips}
-use Rattle.flip_run.specs.declared.Decoded.{Decoded}
-use Rattle.flip_run.specs.declared.Decoded.TheVariants.{Accepted, Refused16, Refused}
 use Rattle.decoder.specs.Tried.{flip_sets}
 use Rattle.decoder.specs.Decoder.{Decoder, single, sets, flips_of, decoded_as}
+use Rattle.flip_run.specs.Trials.{tally}
+use Rattle.flip_run.specs.declared.DecodingError.TheVariants.{NonePassed, Refused}
+use Rattle.flip_run.specs.declared.Tally.{Tally}
+use Rattle.flip_run.specs.declared.DecodingError.{DecodingError}
 
 -- the sum, over some q, of q − (q mod 2^j) for every j from 0 to n − 1
 abbrev pub skipped_over : ℕ → List ℕ → ℕ
@@ -34,7 +35,7 @@ AllTried (single limit) mask c v = ⊥
 AllTried (sets w limit) mask c v = (is : List ℕ) → Flips mask (code_length c) is → length is ≤ w → Memᴰ is (flip_sets w limit mask c v)
 
 -- `answer` is what p answers at each restart; each call has its own output of `size` bytes, whatever they are
-abbrev pub Answers : Decoder → List ℕ → List ℕ → ℕ → (Restart → List ℕ → Decoded × List ℕ) → Type 0
+abbrev pub Answers : Decoder → List ℕ → List ℕ → ℕ → (Restart → List ℕ → Result Tally DecodingError × List ℕ) → Type 0
 Answers p d channel size answer = (restart : Restart) (output : List ℕ) → length output ≡ size → decoded_as p restart d channel output ≡ answer restart output
 
 -- the lowest flipped index of each trial made after the first
@@ -54,10 +55,10 @@ pub record SameRun (p : Decoder) (d : List ℕ) (c : Code) (channel : List ℕ) 
   -- One trial number with one payload. Or refusal 16 after trial 1 and a trial of each set of `flips_of`, with each output as it was: these trials are as
   -- many as the limit allows (`made ≡ limit_of p`), or no untried set is left (`AllTried`).
   pub answers :
-      ((payload : List ℕ) × Answers p d channel size (λ restart output. (Accepted made (steps restart), payload)))
+      ((payload : List ℕ) × Answers p d channel size (λ restart output. (Ok (tally made (steps restart)), payload)))
       ⊎ ((made ≡ length (flips_of p (mask_of d) c (channel_values channel)) + 1)
       × ((made ≡ limit_of p) ⊎ AllTried p (mask_of d) c (channel_values channel))
-      × Answers p d channel size (λ restart output. (Refused16 made (steps restart), output)))
+      × Answers p d channel size (λ restart output. (Err (NonePassed (tally made (steps restart))), output)))
   -- full decoding reports trials made × n × N steps
   pub full_steps : steps Root ≡ made * c.n * code_length c
   -- full decoding's steps exceed the report at each restart by the sum, over every trial made after the first, of q − (q mod 2^j) for every j from 0 to
@@ -72,8 +73,8 @@ pub record SameRun (p : Decoder) (d : List ℕ) (c : Code) (channel : List ℕ) 
 -- one input, whatever it is, and outputs of any size: one refusal before 16, and each output as it was; or one run of trials
 abbrev pub Agree : Decoder → List ℕ → List ℕ → ℕ → Type 0
 Agree p d channel size =
-    ((r : Refusal) × Answers p d channel size (λ restart output. (Refused r, output)))
-    ⊎ ((c : Code) × (describe d ≡ Description.Accepted c) × SameRun p d c channel size)
+    ((r : Refusal) × Answers p d channel size (λ restart output. (Err (Refused r), output)))
+    ⊎ ((c : Code) × (describe d ≡ Ok c) × SameRun p d c channel size)
 
 -- every decoder, and any input at all
 abbrev pub Agreement : Type 0

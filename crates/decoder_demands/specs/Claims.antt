@@ -1,5 +1,5 @@
 -- What theorems state of the decoders: how a run of trials ends, what restarts share, and what half restart saves.
-use Rattle.std.specs.Prelude.{◌≡◌, Bool, true, false, cond, ◌⊎◌, List, [], ◌∷◌, map, ℕ, zero, suc, ◌+◌, ◌-◌, ◌*◌, ◌/◌, ◌<◌, ◌≤◌, leb, length, get_or, take}
+use Rattle.std.specs.Prelude.{◌≡◌, Bool, true, false, cond, ◌⊎◌, List, [], ◌∷◌, map, ℕ, zero, suc, ◌+◌, ◌-◌, ◌*◌, ◌/◌, ◌<◌, ◌≤◌, leb, length, get_or, take, Err, Ok}
 use Rattle.code.specs.declared.Code.{Code}
 use Rattle.code.specs.Code.{code_length}
 use Rattle.pass_tree.specs.Node.{Out}
@@ -7,11 +7,11 @@ use Rattle.pass_tree.specs.Skipped.{skipped}
 use Rattle.flip_trial.specs.declared.Restart.{Restart}
 use Rattle.flip_trial.specs.declared.Restart.TheVariants.{Root, Half, AfterFlip}
 use Rattle.flip_trial.specs.Trial.{lowest, restart_at}
-use Rattle.flip_run.specs.declared.Decoded.{Decoded}
-use Rattle.flip_run.specs.declared.Decoded.TheVariants.{Accepted, Refused16}
-use Rattle.flip_run.specs.Trials.{Verdict, passed, failed}
+use Rattle.flip_run.specs.Trials.{Verdict, passed, failed, tally}
 use Rattle.decoder.specs.Decoder.{Decoder}
 use Rattle.decoder_demands.specs.Agreement.{lowest_of_each, SameRun}
+use Rattle.flip_run.specs.declared.DecodingError.TheVariants.{NonePassed}
+use Rattle.flip_run.specs.Clauses.{Decoded}
 
 -- the bits of each trial
 abbrev pub bits_of_each : List Out → List (List ℕ)
@@ -74,8 +74,8 @@ pub record EveryRestart (mask : List ℕ) (c : Code) (sets : List (List ℕ)) (F
   pub each : length (take (made - 1) sets) + 1 ≡ made
   -- one trial number with one payload; or refusal 16 after the trials of all sets, and each output as it was
   pub answers :
-      ((payload : List ℕ) × ((r : Restart) (o : List ℕ) → Fitting o → answer r o ≡ (Accepted made (steps r), payload)))
-      ⊎ ((made ≡ length sets + 1) × ((r : Restart) (o : List ℕ) → Fitting o → answer r o ≡ (Refused16 made (steps r), o)))
+      ((payload : List ℕ) × ((r : Restart) (o : List ℕ) → Fitting o → answer r o ≡ (Ok (tally made (steps r)), payload)))
+      ⊎ ((made ≡ length sets + 1) × ((r : Restart) (o : List ℕ) → Fitting o → answer r o ≡ (Err (NonePassed (tally made (steps r))), o)))
   -- each reports trials made × n × N steps, without exactly those that its restarts skip
   pub counted : (r : Restart) → steps r + skipped_by r mask c (map lowest (take (made - 1) sets)) ≡ made * c.n * code_length c
 

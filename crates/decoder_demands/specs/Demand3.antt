@@ -1,16 +1,16 @@
 -- Document 01, "Flip decoding, full and restarted": demand 3, in the owner's words, about the definitions that the promises of both decoders cite.
 -- `demand_3` of proofs/Demand3.antt proves it from `Agreement`.
-use Rattle.std.specs.Prelude.{◌≡◌, ◌⊎◌, ℕ, ◌+◌, ◌-◌, ◌*◌, ◌≤◌, length, take}
+use Rattle.std.specs.Prelude.{◌≡◌, ◌⊎◌, ℕ, ◌+◌, ◌-◌, ◌*◌, ◌≤◌, length, take, Err, Ok}
 use mathlib.Core.List.{List, Forall₂}
 use Rattle.code.specs.declared.Code.{Code}
 use Rattle.code.specs.Code.{code_length}
 use Rattle.code.specs.Description.{mask_of}
 use Rattle.channel.specs.Channel.{channel_values}
 use Rattle.flip_trial.specs.FirstAfter.{FirstAfter}
-use Rattle.flip_run.specs.declared.Decoded.TheVariants.{Accepted, Refused16}
-use Rattle.flip_run.specs.Trials.{flip_order}
+use Rattle.flip_run.specs.Trials.{flip_order, tally}
 use Rattle.decoder.specs.Decoder.{single, WellFormed, decoded_full, decoded_restarted}
 use Rattle.decoder_demands.specs.Agreement.{skipped_over}
+use Rattle.flip_run.specs.declared.DecodingError.TheVariants.{NonePassed}
 
 -- the answers of both decoders under d, each with its own output
 pub record BothDecode (d : List ℕ) (c : Code) (channel : List ℕ) (limit : ℕ) (output output' : List ℕ) : Type 0 where
@@ -25,11 +25,11 @@ pub record BothDecode (d : List ℕ) (c : Code) (channel : List ℕ) (limit : �
   -- one trial number, and one payload in both buffers; or refusal 16 with one T, and each buffer as it was
   pub answers :
       ((payload : List ℕ)
-      × (decoded_full d channel limit output ≡ (Accepted made full, payload))
-      × (decoded_restarted d channel limit output' ≡ (Accepted made restarted, payload)))
+      × (decoded_full d channel limit output ≡ (Ok (tally made full), payload))
+      × (decoded_restarted d channel limit output' ≡ (Ok (tally made restarted), payload)))
       ⊎ ((made ≡ limit)
-      × (decoded_full d channel limit output ≡ (Refused16 made full, output))
-      × (decoded_restarted d channel limit output' ≡ (Refused16 made restarted, output')))
+      × (decoded_full d channel limit output ≡ (Err (NonePassed (tally made full)), output))
+      × (decoded_restarted d channel limit output' ≡ (Err (NonePassed (tally made restarted)), output')))
   -- full decoding reports exactly trials made × n × N steps
   pub full_steps : full ≡ made * c.n * code_length c
   -- the q of each trial made after the first

@@ -1,11 +1,9 @@
 -- Document 01, "Check and encoder": a payload and an output are well-formed if none of refusals 9 to 11 applies. Encode accepts exactly
 -- these: `well_formed_exactly` of proofs/WellFormed.antt.
-use Rattle.std.specs.Prelude.{◌≡◌, Bool, true, false, List, ℕ, ◌/◌, length}
+use Rattle.std.specs.Prelude.{◌≡◌, List, ℕ, ◌/◌, length}
 use Rattle.bits.specs.Packing.{bytes_for, unused_bits}
 use Rattle.code.specs.declared.Code.{Code}
 use Rattle.code.specs.Code.{code_length}
-use Rattle.encoder.specs.declared.Encoded.{Encoded}
-use Rattle.encoder.specs.declared.Encoded.TheVariants.{Done, Refused}
 
 -- none of the three refusals applies
 pub record WellFormed (c : Code) (payload output : List ℕ) : Type 0 where
@@ -15,8 +13,3 @@ pub record WellFormed (c : Code) (payload output : List ℕ) : Type 0 where
   pub unused_clear : unused_bits payload c.k ≡ 0
   -- not 11
   pub output_size : length output ≡ code_length c / 8
-
--- whether an answer is no refusal
-abbrev pub accepts : Encoded → Bool
-accepts Done = true
-accepts (Refused x) = false

@@ -1,5 +1,5 @@
 -- What only contracts below the public operations cite. Nothing here need be believed.
-use Rattle.std.specs.Prelude.{◌≡◌, List, ℕ, ◌*◌, ◌^◌, ◌≤◌, ◌<◌, length}
+use Rattle.std.specs.Prelude.{◌≡◌, List, ℕ, ◌*◌, ◌^◌, ◌≤◌, ◌<◌, length, Result}
 use Rattle.arrays.specs.Sizes.{largest_n}
 use Rattle.bits.specs.Claims.{Bits}
 use Rattle.bits.specs.Packing.{unpacked}
@@ -9,6 +9,11 @@ use Rattle.code.specs.Claims.{Coded}
 use Rattle.placing.specs.Place.{placed}
 use Rattle.encoder.specs.Encode.{message_of}
 use Rattle.encoder.specs.Claims.{WellFormed}
+use Rattle.refusal.specs.declared.Refusal.{Refusal}
+
+-- what encode answers
+abbrev pub Encoded : Type 0
+Encoded = Result Unit Refusal
 
 -- a payload of k bits, and room for them and r check bits
 pub record MessagePre (c : Code) (payload message : List ℕ) : Type 0 where

@@ -11,17 +11,8 @@ ghost use Rattle.encoder.specs.Clauses.{MessagePre, PayloadPre, placed_message, 
 ghost use Rattle.encoder.specs.Claims.{WellFormed};
 
 use arrays::{ByteArray, SIZE};
-use code::{Code, Description};
-use refusal::{Judgement, Refusal};
-
-// What encode answers.
-#[derive(Clone, Copy)]
-pub enum Encoded {
-    // the codeword is written
-    Done,
-    // nothing is written
-    Refused(Refusal),
-}
+use code::Code;
+use refusal::Refusal;
 
 // The message of a payload: its k bits, then its r check bits.
 fn message_of(code: Code, payload: &[u8], message: &mut [u8])
@@ -76,46 +67,38 @@ fn has_unused_bit(payload: &[u8], k: usize) -> bool
 }
 
 // Judges a payload and an output: refusals 9 to 11.
-fn judge_encoding(mask: &[u8], code: Code, payload: &[u8], output: &[u8]) -> Judgement
+fn judge_encoding(mask: &[u8], code: Code, payload: &[u8], output: &[u8]) -> Result<(), Refusal>
     requires { Coded mask.now code }
     ensures { result ≡ judge (encoding_refusals code payload.now output.now) }
 {
     if payload.len() != bits::bytes_for(code.k) {
-        return Judgement::Refused(Refusal::Alone(9));
+        return Err(Refusal::PayloadLength);
     }
     if has_unused_bit(payload, code.k) {
-        return Judgement::Refused(Refusal::Alone(10));
+        return Err(Refusal::UnusedBit);
     }
     let size = mask.len();
     if output.len() != size {
-        return Judgement::Refused(Refusal::Alone(11));
+        return Err(Refusal::CodewordLength);
     }
-    Judgement::Fine
+    Ok(())
 }
 
-// Encodes a payload under a code.
-fn encode_by(mask: &[u8], code: Code, payload: &[u8], output: &mut [u8]) -> Encoded
+// Encodes a payload under a code. If the call is refused nothing is written.
+fn encode_by(mask: &[u8], code: Code, payload: &[u8], output: &mut [u8]) -> Result<(), Refusal>
     requires { Coded mask.now code }
     ensures { (result, output.new)
         ≡ encoded_by mask.now code payload.now output.old }
 {
-    match judge_encoding(mask, code, payload, output) {
-        Judgement::Fine => {
-            write_codeword(mask, code, payload, output);
-            Encoded::Done
-        }
-        Judgement::Refused(x) => Encoded::Refused(x),
-    }
+    judge_encoding(mask, code, payload, output)?;
+    write_codeword(mask, code, payload, output);
+    Ok(())
 }
 
-// Encodes a payload into the packed codeword.
-pub fn encode(description: &[u8], payload: &[u8], output: &mut [u8]) -> Encoded
+// Encodes a payload into the packed codeword. If the call is refused nothing is written.
+pub fn encode(description: &[u8], payload: &[u8], output: &mut [u8]) -> Result<(), Refusal>
     ensures { (result, output.new) ≡ encoded description.now payload.now output.old }
 {
-    match code::read_description(description) {
-        Description::Accepted(code) => {
-            encode_by(code::mask_of(description), code, payload, output)
-        }
-        Description::Refused(x) => Encoded::Refused(x),
-    }
+    let code = code::read_description(description)?;
+    encode_by(code::mask_of(description), code, payload, output)
 }

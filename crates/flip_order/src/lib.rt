@@ -3,7 +3,7 @@
 
 ghost use Rattle.std.specs.Prelude.{◌≡◌, ◌%◌, ◌≤◌, pos, nat_abs, length};
 ghost use Rattle.arrays.specs.Claims.{longest};
-ghost use Rattle.flip_order.specs.Clauses.{KeyPre, KeysPre, key_under, keys_of, above, lesser, least_above};
+ghost use Rattle.flip_order.specs.Clauses.{KeyPre, KeysPre, key_under, keys_of, above, least_above};
 
 use arrays::SIZE;
 
@@ -27,10 +27,8 @@ pub fn make_keys(mask: &[u8], values: &mut [i32])
     ensures { values.new ≡ keys_of mask.now values.old }
 {
     let size = 8 * mask.len();
-    let mut i = 0;
-    while i < size {
-        values[i] = key_under(mask, values[i], i);
-        i += 1;
+    for (i, value) in values[..size].iter_mut().enumerate() {
+        *value = key_under(mask, *value, i);
     }
 }
 
@@ -41,23 +39,14 @@ fn above(last: i32, key: i32) -> i32
     if last < key { key } else { NO_KEY }
 }
 
-// The lesser of two keys.
-fn lesser(a: i32, b: i32) -> i32
-    ensures { result ≡ lesser a b }
-{
-    if a < b { a } else { b }
-}
-
 // The least of those of the first `size` keys that are above the last one. `last` is -1 before the first.
 pub fn next_key(size: usize, keys: &[i32], last: i32) -> i32
     requires { size ≤ length keys.now }
     ensures { result ≡ least_above last keys.now size }
 {
     let mut best = NO_KEY;
-    let mut i: usize = 0;
-    while i < size {
-        best = lesser(above(last, keys[i]), best);
-        i += 1;
+    for key in &keys[..size] {
+        best = best.min(above(last, *key));
     }
     best
 }

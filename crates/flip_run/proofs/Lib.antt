@@ -2,3 +2,4 @@ pub mod Answers
 pub mod FlipOrder
 pub mod LoopInvariant
 pub mod LoopStep
+pub mod Tallies

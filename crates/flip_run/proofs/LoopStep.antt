@@ -24,12 +24,11 @@ use Rattle.pass_ends.specs.Clauses.{Arrays, arrays, Whole}
 use Rattle.flip_order.specs.Clauses.{most_magnitude, KeysPre}
 use Rattle.flip_trial.specs.Trial.{message_in}
 use Rattle.flip_trial.specs.Clauses.{TrialPre, FirstLeaves}
-use Rattle.flip_run.specs.declared.Decoded.{Decoded}
-use Rattle.flip_run.specs.declared.Ended.{Ended}
-use Rattle.flip_run.specs.declared.Ended.TheVariants.{Passed}
-use Rattle.flip_run.specs.Trials.{flip_order, Verdict, passed, failed, answer_of}
+use Rattle.flip_run.specs.declared.Tally.{Tally}
+use Rattle.flip_run.specs.Trials.{flip_order, Verdict, passed, failed, answer_of, tally}
 use Rattle.flip_run.specs.Clauses.{FramePre, PassedBits, answered, Ran}
 use Rattle.flip_run.proofs.FlipOrder.{length_order}
+use Rattle.std.specs.Prelude.{Ok, Result}
 
 -- channel values, none of them outside its range
 pub values-inside : (channel : List ℕ) → first_outside channel ≡ length channel → Within 31 (channel_values channel)
@@ -65,17 +64,17 @@ module _ {mask : List ℕ} {c : Code} {channel : List ℕ} (on : FramePre mask c
   }
 
 -- a trial passed, and its message stands in a room that begins with it
-pub ran_passed : {mask : List ℕ} {c : Code} → Coded mask c → {u : List ℕ} (bits message : List ℕ) {trial steps : ℕ} → take (code_length c) bits ≡ u → take (information_count c) message ≡ message_in mask c (take (code_length c) bits) → Bits u → Ran mask c (passed trial steps u) (Passed trial steps) message
+pub ran_passed : {mask : List ℕ} {c : Code} → Coded mask c → {u : List ℕ} (bits message : List ℕ) {trial steps : ℕ} → take (code_length c) bits ≡ u → take (information_count c) message ≡ message_in mask c (take (code_length c) bits) → Bits u → Ran mask c (passed trial steps u) (Ok (tally trial steps)) message
 ran_passed {mask} {c} coded {u} bits message own is p =
     let payload : take c.k message ≡ take c.k (message_in mask c u) = sym (take-take c.k (information_count c) message (omega arith)) ∙ ap (take c.k) (is ∙ ap (message_in mask c) own) in
     (refl, payload, subst Bits (sym payload) (bits-take c.k (message_in mask c u) (bits-taken mask u (code_length c) p)))
 
 -- what a run ended with is answered as its verdict is
-pub ran_answers : (mask : List ℕ) (c : Code) (output : List ℕ) (v : Verdict) (e : Ended) (message : List ℕ) → Ran mask c v e message → answered c.k e message output ≡ answer_of mask c output v
+pub ran_answers : (mask : List ℕ) (c : Code) (output : List ℕ) (v : Verdict) (e : Result Tally Tally) (message : List ℕ) → Ran mask c v e message → answered c.k e message output ≡ answer_of mask c output v
 ran_answers mask c output (passed trial steps bits) e message r =
-    ap (λ (x : Ended). answered c.k x message output) r.0 ∙ ap (λ (xs : List ℕ). (Decoded.Accepted trial steps, packed xs)) r.1
-ran_answers mask c output (failed made steps) e message r = ap (λ (x : Ended). answered c.k x message output) r
+    ap (λ (x : Result Tally Tally). answered c.k x message output) r.0 ∙ ap (λ (xs : List ℕ). (Ok (tally trial steps), packed xs)) r.1
+ran_answers mask c output (failed made steps) e message r = ap (λ (x : Result Tally Tally). answered c.k x message output) r
 
-pub ran_bits : (mask : List ℕ) (c : Code) (v : Verdict) (e : Ended) (message : List ℕ) → Ran mask c v e message → PassedBits e (take c.k message)
-ran_bits mask c (passed trial steps bits) e message r = subst (λ (x : Ended). PassedBits x (take c.k message)) (sym r.0) r.2
-ran_bits mask c (failed made steps) e message r = subst (λ (x : Ended). PassedBits x (take c.k message)) (sym r) tt
+pub ran_bits : (mask : List ℕ) (c : Code) (v : Verdict) (e : Result Tally Tally) (message : List ℕ) → Ran mask c v e message → PassedBits e (take c.k message)
+ran_bits mask c (passed trial steps bits) e message r = subst (λ (x : Result Tally Tally). PassedBits x (take c.k message)) (sym r.0) r.2
+ran_bits mask c (failed made steps) e message r = subst (λ (x : Result Tally Tally). PassedBits x (take c.k message)) (sym r) tt

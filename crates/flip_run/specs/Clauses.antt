@@ -1,5 +1,5 @@
 -- What only contracts below the public operations cite. Nothing here need be believed.
-use Rattle.std.specs.Prelude.{◌≡◌, List, [], ◌∷◌, map, ℕ, ◌+◌, ◌-◌, ◌*◌, ◌≤◌, ℤ, length, take}
+use Rattle.std.specs.Prelude.{◌≡◌, List, [], ◌∷◌, map, ℕ, ◌+◌, ◌-◌, ◌*◌, ◌≤◌, ℤ, length, take, Result, Ok, Err}
 use Rattle.bits.specs.Claims.{Bits}
 use Rattle.bits.specs.Packing.{packed, bytes_for}
 use Rattle.code.specs.declared.Code.{Code}
@@ -12,10 +12,14 @@ use Rattle.flip_order.specs.Clauses.{Keyed}
 use Rattle.flip_trial.specs.Trial.{first_trial, later_trial, trial_passes, message_in}
 use Rattle.flip_trial.specs.Clauses.{PlainRules, FirstBits, FirstLeaves}
 use Rattle.flip_run.specs.declared.Terms.{Terms}
-use Rattle.flip_run.specs.declared.Decoded.{Decoded}
-use Rattle.flip_run.specs.declared.Ended.{Ended}
-use Rattle.flip_run.specs.declared.Ended.TheVariants.{Passed, Failed}
-use Rattle.flip_run.specs.Trials.{flip_order, Verdict, passed, failed, run, answer_of}
+use Rattle.flip_run.specs.declared.Tally.{Tally}
+use Rattle.flip_run.specs.declared.DecodingError.TheVariants.{NonePassed}
+use Rattle.flip_run.specs.Trials.{flip_order, Verdict, passed, failed, run, answer_of, tally}
+use Rattle.flip_run.specs.declared.DecodingError.{DecodingError}
+
+-- what a decoder answers: the trials up to the one that passed
+abbrev pub Decoded : Type 0
+Decoded = Result Tally DecodingError
 
 -- a code, and channel values for it, each within its range
 pub record FramePre (mask : List ℕ) (c : Code) (channel : List ℕ) : Type 0 where
@@ -53,31 +57,31 @@ pub record FirstFailed (room : ℕ) (mask : List ℕ) (c : Code) (channel : List
   pub whole : Whole room a
 
 -- the bits of a message, if a trial passed
-abbrev pub PassedBits : Ended → List ℕ → Type 0
-PassedBits (Passed trial steps) bits = Bits bits
-PassedBits (Failed made steps) bits = Unit {0}
+abbrev pub PassedBits : Result Tally Tally → List ℕ → Type 0
+PassedBits (Ok t) bits = Bits bits
+PassedBits (Err t) bits = Unit {0}
 
 -- the answer to a run that ended so, with the message of the trial that passed
-abbrev pub answered : ℕ → Ended → List ℕ → List ℕ → Decoded × List ℕ
-answered k (Passed trial steps) message output = (Decoded.Accepted trial steps, packed (take k message))
-answered k (Failed made steps) message output = (Decoded.Refused16 made steps, output)
+abbrev pub answered : ℕ → Result Tally Tally → List ℕ → List ℕ → Decoded × List ℕ
+answered k (Ok t) message output = (Ok t, packed (take k message))
+answered k (Err t) message output = (Err (NonePassed t), output)
 
 -- a run ended with its verdict; if a trial passed, `message` begins with its payload
-abbrev pub Ran : List ℕ → Code → Verdict → Ended → List ℕ → Type 0
+abbrev pub Ran : List ℕ → Code → Verdict → Result Tally Tally → List ℕ → Type 0
 Ran mask c (passed trial steps bits) e message =
-    (e ≡ Passed trial steps) × (take c.k message ≡ take c.k (message_in mask c bits)) × Bits (take c.k message)
-Ran mask c (failed made steps) e message = e ≡ Failed made steps
+    (e ≡ Ok (tally trial steps)) × (take c.k message ≡ take c.k (message_in mask c bits)) × Bits (take c.k message)
+Ran mask c (failed made steps) e message = e ≡ Err (tally made steps)
 
 -- a run ended with its verdict, and the array of its message has the size that it had
-abbrev pub RunPost : ℕ → List ℕ → Code → Verdict → Ended → List ℕ → Type 0
+abbrev pub RunPost : ℕ → List ℕ → Code → Verdict → Result Tally Tally → List ℕ → Type 0
 RunPost room mask c v e message = Ran mask c v e message × (length message ≡ room)
 
 -- how trial 1 ended: it passed, and so a run ended, whatever later trials it has; or it failed
-abbrev pub BeginPost : ℕ → List ℕ → Code → List ℕ → List ℕ → Arrays → Ended → Type 0
-BeginPost room mask c channel rules a (Passed trial steps) =
-    (later : List Out) → RunPost room mask c (run (trial_passes mask c) 0 0 (first_trial mask c (channel_values channel) ∷ later)) (Passed trial steps) a.sums
-BeginPost room mask c channel rules a (Failed made start) =
-    (made ≡ 1) × FirstFailed room mask c channel start rules a
+abbrev pub BeginPost : ℕ → List ℕ → Code → List ℕ → List ℕ → Arrays → Result Tally Tally → Type 0
+BeginPost room mask c channel rules a (Ok t) =
+    (later : List Out) → RunPost room mask c (run (trial_passes mask c) 0 0 (first_trial mask c (channel_values channel) ∷ later)) (Ok t) a.sums
+BeginPost room mask c channel rules a (Err t) =
+    (t.trials ≡ 1) × FirstFailed room mask c channel t.steps rules a
 
 -- the keys of trial 1's leaf values
 abbrev pub FirstKeys : List ℕ → Code → List ℕ → List ℤ → Type 0

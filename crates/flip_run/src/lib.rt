@@ -4,6 +4,7 @@
 ghost use Rattle.std.specs.Prelude.{◌≡◌, ◌≤◌, length, take};
 ghost use Rattle.bits.specs.Packing.{bytes_for};
 ghost use Rattle.pass_ends.specs.Clauses.{arrays, Whole};
+ghost use Rattle.flip_run.specs.declared.DecodingError.TheVariants.{Refused};
 ghost use Rattle.flip_run.specs.Clauses.{FramePre, LimitPre, RunPre, FirstFailed, PassedBits, answered, BeginPost, RunPost, verdict_by, answer_by};
 
 use arrays::{BitArray, RuleArray, SIZE, ValueArray};
@@ -20,39 +21,50 @@ pub struct Terms {
     pub limit: u32,
 }
 
-// What a decoder answers.
-#[derive(Clone, Copy)]
-pub enum Decoded {
-    // The number of the trial that passed, and the steps of all trials made.
-    Accepted { trial: u32, steps: u32 },
-    // Refusal 16: all trials failed. Their number, and their steps.
-    Refused16 { trials: u32, steps: u32 },
-    // Another refusal.
-    Refused(Refusal),
+// The trials that were made. A run ends with `Ok` if the last of them passed, and with `Err` if all failed.
+#[derive(Clone, Copy, Debug, PartialEq, Eq)]
+pub struct Tally {
+    // How many trials were made.
+    pub trials: u32,
+    // The steps of all of them.
+    pub steps: u32,
 }
 
-// How a run of trials ended.
-#[derive(Clone, Copy)]
-pub enum Ended {
-    // The number of the trial that passed, and the steps of all trials made.
-    Passed { trial: u32, steps: u32 },
-    // All trials failed. Their number, and their steps.
-    Failed { trials: u32, steps: u32 },
+// Why a decoder writes no payload.
+#[derive(Clone, Copy, Debug, PartialEq, Eq)]
+pub enum DecodingError {
+    // A refusal before any trial.
+    Refused(Refusal),
+    // Refusal 16: no trial passed.
+    NonePassed(Tally),
+}
+
+impl From<Refusal> for DecodingError {
+    ghost from_gives = { λ x e. e ≡ Refused x };
+
+    fn from(refusal: Refusal) -> DecodingError {
+        DecodingError::Refused(refusal)
+    }
 }
 
 // The answer to a run. If a trial passed, the first k bits of its message are written to the output, packed.
-pub fn answer(k: usize, ended: Ended, message: &[u8], output: &mut [u8]) -> Decoded
+pub fn answer(
+    k: usize,
+    ended: Result<Tally, Tally>,
+    message: &[u8],
+    output: &mut [u8],
+) -> Result<Tally, DecodingError>
     requires { (k ≤ length message.now)
         × PassedBits ended (take k message.now)
         × (length output.old ≡ bytes_for k) }
     ensures { (result, output.new) ≡ answered k ended message.now output.old }
 {
     match ended {
-        Ended::Passed { trial, steps } => {
+        Ok(passed) => {
             bits::pack(&message[..k], output);
-            Decoded::Accepted { trial, steps }
+            Ok(passed)
         }
-        Ended::Failed { trials, steps } => Decoded::Refused16 { trials, steps },
+        Err(failed) => Err(DecodingError::NonePassed(failed)),
     }
 }
 
@@ -66,7 +78,7 @@ pub fn begin(
     rules: &mut RuleArray,
     work: &mut ValueArray,
     sums: &mut BitArray,
-) -> Ended
+) -> Result<Tally, Tally>
     requires { FramePre mask.now code channel.now
         × (length rules.old ≡ SIZE)
         × Whole SIZE (arrays work.old first.old sums.old values.old) }
@@ -74,16 +86,14 @@ pub fn begin(
         (arrays work.new first.new sums.new values.new) result }
 {
     let done = flip_trial::first_trial(mask, code, channel, first, values, rules, work, sums);
-    if flip_trial::trial_passes(mask, code, first, sums) {
-        return Ended::Passed {
-            trial: 1,
-            steps: done.steps,
-        };
-    }
-    Ended::Failed {
+    let tally = Tally {
         trials: 1,
         steps: done.steps,
+    };
+    if flip_trial::trial_passes(mask, code, first, sums) {
+        return Ok(tally);
     }
+    Err(tally)
 }
 
 // The trials after the first, which took `start` steps and failed, until one passes or the limit is reached. Trial 1's leaf values become
@@ -99,7 +109,7 @@ fn flip_trials(
     rules: &mut RuleArray,
     work: &mut ValueArray,
     sums: &mut BitArray,
-) -> Ended
+) -> Result<Tally, Tally>
     requires { FramePre mask.now code channel.now
         × LimitPre terms.limit code
         × FirstFailed SIZE mask.now code channel.now start rules.old (arrays work.old first.now sums.old values.old) }
@@ -109,21 +119,16 @@ fn flip_trials(
     let mut bits = [0u8; SIZE];
     let mut leaves = [0i32; SIZE];
     flip_order::make_keys(mask, values);
-    let restart = terms.restart;
-    let limit = terms.limit;
-    let size = channel.len();
-    let mut made: u32 = 1;
     let mut steps = start;
-    let mut key: i32 = -1;
-    while made < limit {
-        key = flip_order::next_key(size, values, key);
+    let mut key = -1;
+    for trial in 2..=terms.limit {
+        key = flip_order::next_key(channel.len(), values, key);
         let i = flip_order::index_of(key);
-        let q = flip_trial::restart_index(restart, mask, i);
-        let flips = [i; 1];
+        let q = flip_trial::restart_index(terms.restart, mask, i);
         let done = flip_trial::later_trial(
             code,
             q,
-            &flips,
+            &[i],
             channel,
             first,
             rules,
@@ -132,20 +137,28 @@ fn flip_trials(
             sums,
             &mut leaves,
         );
-        made += 1;
         steps += done.steps;
         if flip_trial::trial_passes(mask, code, &bits, sums) {
-            return Ended::Passed { trial: made, steps };
+            return Ok(Tally {
+                trials: trial,
+                steps,
+            });
         }
     }
-    Ended::Failed {
-        trials: made,
+    Err(Tally {
+        trials: terms.limit,
         steps,
-    }
+    })
 }
 
 // Makes the arrays of trial 1 and runs the trials. The message of a trial that passes is left in `sums`.
-fn run_trials(terms: Terms, mask: &[u8], code: Code, channel: &[u8], sums: &mut BitArray) -> Ended
+fn run_trials(
+    terms: Terms,
+    mask: &[u8],
+    code: Code,
+    channel: &[u8],
+    sums: &mut BitArray,
+) -> Result<Tally, Tally>
     requires { FramePre mask.now code channel.now
         × LimitPre terms.limit code
         × (length sums.old ≡ SIZE) }
@@ -166,17 +179,17 @@ fn run_trials(terms: Terms, mask: &[u8], code: Code, channel: &[u8], sums: &mut 
         &mut work,
         sums,
     ) {
-        Ended::Passed { trial, steps } => Ended::Passed { trial, steps },
-        Ended::Failed { trials, steps } => {
+        Ok(passed) => Ok(passed),
+        Err(failed) => {
             if terms.limit == 1 {
-                return Ended::Failed { trials, steps };
+                return Err(failed);
             }
             flip_trials(
                 terms,
                 mask,
                 code,
                 channel,
-                steps,
+                failed.steps,
                 &first,
                 &mut values,
                 &mut rules,
@@ -194,7 +207,7 @@ pub fn decode_in(
     code: Code,
     channel: &[u8],
     output: &mut [u8],
-) -> Decoded
+) -> Result<Tally, DecodingError>
     requires { RunPre terms mask.now code channel.now output.old }
     ensures { (result, output.new) ≡ answer_by terms mask.now code channel.now output.old }
 {

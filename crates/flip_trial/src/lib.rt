@@ -1,7 +1,7 @@
 // One trial of flip decoding: trial 1, a later trial, and its check.
 #![tactic(auto)]
 
-ghost use Rattle.std.specs.Prelude.{◌≡◌, ◌+◌, ◌-◌, ◌*◌, ◌≤◌, ◌<◌, length, take, get_or, replicate};
+ghost use Rattle.std.specs.Prelude.{◌≡◌, ◌+◌, ◌-◌, ◌*◌, ◌≤◌, ◌<◌, length, take, get_or};
 ghost use Rattle.laws.specs.Clauses.{splice};
 ghost use Rattle.code.specs.Code.{code_length, information_count};
 ghost use Rattle.code.specs.Claims.{Coded};
@@ -38,14 +38,10 @@ fn first_from(mask: &[u8], from: usize) -> usize
     requires { (8 * length mask.now ≤ SIZE) × (from ≤ 8 * length mask.now) }
     ensures { result ≡ first_from mask.now from (8 * length mask.now - from) }
 {
-    let mut j = from;
-    while j < 8 * mask.len() {
-        if bits::mask_bit(mask, j) == 1 {
-            return j;
-        }
-        j += 1;
-    }
-    j
+    let size = 8 * mask.len();
+    (from..size)
+        .find(|&j| bits::mask_bit(mask, j) == 1)
+        .unwrap_or(size)
 }
 
 // The index at which half restart resumes, of `size` indices.
@@ -68,18 +64,6 @@ pub fn restart_index(restart: Restart, mask: &[u8], lowest: usize) -> usize
     }
 }
 
-// Puts `count` zeros from index `at` on.
-fn clear_bits(at: usize, count: usize, bits: &mut BitArray)
-    requires { (at + count ≤ SIZE) × (length bits.old ≡ SIZE) }
-    ensures { bits.new ≡ splice bits.old at (replicate count 0) }
-{
-    let mut j = 0;
-    while j < count {
-        bits[at + j] = 0;
-        j += 1;
-    }
-}
-
 // How a trial whose lowest flipped index is i begins, up to q.
 fn put_prefix(i: usize, q: usize, first: &BitArray, bits: &mut BitArray)
     requires { (i < SIZE)
@@ -90,12 +74,12 @@ fn put_prefix(i: usize, q: usize, first: &BitArray, bits: &mut BitArray)
     ensures { bits.new ≡ splice bits.old 0 (forced_prefix first.now i q) }
 {
     if q <= i {
-        arrays::copy(first, 0, bits, 0, q);
+        bits[..q].copy_from_slice(&first[..q]);
         return;
     }
-    arrays::copy(first, 0, bits, 0, i);
+    bits[..i].copy_from_slice(&first[..i]);
     bits[i] = 1 - first[i];
-    clear_bits(i + 1, q - (i + 1), bits);
+    bits[i + 1..q].fill(0);
 }
 
 // Sets the rule of each of some indices.
@@ -103,11 +87,8 @@ fn set_rules(rule: u8, flips: &[usize], rules: &mut RuleArray)
     requires { Below SIZE flips.now × (length rules.old ≡ SIZE) }
     ensures { rules.new ≡ set_all rules.old flips.now rule }
 {
-    let mut a = 0;
-    while a < flips.len() {
-        let i = flips[a];
+    for &i in flips {
         rules[i] = rule;
-        a += 1;
     }
 }
 

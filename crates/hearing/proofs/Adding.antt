@@ -12,7 +12,6 @@ use lib.Seq.{length-take-le, get_or-take}
 use Rattle.laws.specs.Clauses.{splice}
 use Rattle.laws.proofs.Choice.{cond_ind, and_true}
 use Rattle.laws.proofs.Table.{length-table}
-use Rattle.refusal.specs.declared.Judgement.TheVariants.{Fine}
 use Rattle.refusal.specs.Judge.{judge}
 use Rattle.refusal.proofs.Judge.{judge-past, append-past}
 use Rattle.arrays.specs.Sizes.{largest_n}
@@ -26,6 +25,7 @@ use Rattle.channel.proofs.Judge.{fine_channel}
 use Rattle.channel.proofs.Outside.{each-inside}
 use Rattle.hearing.specs.Hearing.{Hearing, combined, clipped_sums, added_to, add_refusals, is_hearing}
 use Rattle.hearing.specs.Clauses.{zero_from, AddPre}
+use Rattle.std.specs.Prelude.{Ok}
 
 pub from_most : (c : Code) (count : ℕ) → zero_from c count ≤ code_length c
 from_most c count = cond_ind (λ (k : ℕ). k ≤ code_length c) (eqb count 0) 0 (code_length c) (λ t. omega arith) (λ t. omega arith)
@@ -57,7 +57,7 @@ pub held-size : (c : Code) (h : Hearing) → c.n ≤ largest_n → length h.valu
 held-size c h n_most long = length-take-le (code_length c) h.values (omega (arith, fits n_most))
 
 -- what no refusal says of a vector and the count
-module _ (c : Code) (count : ℕ) (channel : List ℕ) (fine : judge (add_refusals c count channel) ≡ Fine) where
+module _ (c : Code) (count : ℕ) (channel : List ℕ) (fine : judge (add_refusals c count channel) ≡ Ok tt) where
   channel_facts : (length channel ≡ code_length c) × (first_outside channel ≡ length channel)
   channel_facts = fine_channel c channel (append-past (channel_refusals c channel) _ fine).0
 
@@ -78,7 +78,7 @@ module _ (c : Code) (count : ℕ) (channel : List ℕ) (fine : judge (add_refusa
       go false e = absurd (full (omega (arith, ltb-false count 255 e)))
 
 module _ (c : Code) (h : Hearing) (channel : List ℕ) (n_most : c.n ≤ largest_n) (long : length h.values ≡ 2 ^ largest_n)
-    (is : is_hearing c h ≡ true) (fine : judge (add_refusals c h.count channel) ≡ Fine) where
+    (is : is_hearing c h ≡ true) (fine : judge (add_refusals c h.count channel) ≡ Ok tt) where
   pub add_pre : AddPre h.values channel
   add_pre =
       let size = channel_size c h.count channel fine in

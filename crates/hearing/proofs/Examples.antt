@@ -4,13 +4,13 @@ use mathlib.Core.List.{List, [], ◌∷◌}
 use Prim.Native.Nat.{ℕ}
 use Rattle.laws.specs.First.{first_where}
 use Rattle.laws.specs.Table.{table}
-use Rattle.refusal.specs.declared.Refusal.TheVariants.{Alone, At}
-use Rattle.refusal.specs.declared.Judgement.TheVariants.{Fine, Refused}
 use Rattle.refusal.specs.Judge.{judge}
 use Rattle.code.specs.declared.Code.{Code}
 use Rattle.channel.specs.Channel.{channel_value}
 use Rattle.hearing.specs.Hearing.{clipped_sums, add_refusals}
 use Rattle.hearing.specs.Clauses.{clipped_sum}
+use Rattle.refusal.specs.declared.Refusal.TheVariants.{ChannelLength, ChannelValue, HearingFull}
+use Rattle.std.specs.Prelude.{Err, Ok}
 
 -- a code of eight values
 abbrev eight : Code
@@ -28,10 +28,10 @@ pub record HearingExamples : Type 0 where
   pub each_clipped : (clipped_sum (clipped_sum 20 20) 0xE1 ≡ 0) × (clipped_sum (clipped_sum 0xE1 20) 20 ≡ 9)
   -- 12 and 13 come before 27; with a good vector 255 is refused and 254 is not
   pub refusals :
-      (judge (add_refusals eight 255 (seven [])) ≡ Refused (Alone 12))
-      × (judge (add_refusals eight 255 (seven (32 ∷ []))) ≡ Refused (At 13 7))
-      × (judge (add_refusals eight 255 (seven (31 ∷ []))) ≡ Refused (Alone 27))
-      × (judge (add_refusals eight 254 (seven (31 ∷ []))) ≡ Fine)
+      (judge (add_refusals eight 255 (seven [])) ≡ Err ChannelLength)
+      × (judge (add_refusals eight 255 (seven (32 ∷ []))) ≡ Err (ChannelValue 7))
+      × (judge (add_refusals eight 255 (seven (31 ∷ []))) ≡ Err HearingFull)
+      × (judge (add_refusals eight 254 (seven (31 ∷ []))) ≡ Ok tt)
 
 pub hearing_examples : HearingExamples
 unfolding channel_value table first_where judge

@@ -3,12 +3,12 @@
 use Rattle.std.specs.Prelude.{Bool, ◌&&◌, cond, List, [], ◌∷◌, ◌++◌, ℕ, ◌+◌, ◌^◌, leb, eqb, ◌+ℤ◌, get_or, take, drop}
 use Rattle.laws.specs.Table.{table}
 use Rattle.refusal.specs.declared.Refusal.{Refusal}
-use Rattle.refusal.specs.declared.Refusal.TheVariants.{Alone}
 use Rattle.arrays.specs.Sizes.{largest_n}
 use Rattle.arrays.specs.Padded.{padded, all_zero}
 use Rattle.code.specs.declared.Code.{Code}
 use Rattle.code.specs.Code.{code_length}
 use Rattle.channel.specs.Channel.{channel_value, byte_of, clip, first_outside, channel_refusals}
+use Rattle.refusal.specs.declared.Refusal.TheVariants.{HearingFull}
 
 -- the vectors of a frame, added up
 pub record Hearing : Type 0 where
@@ -39,7 +39,7 @@ added_to c h channel = hearing_of (clipped_sums (code_length c) h.values channel
 
 -- "The add applies 12 and 13 to its vector. It refuses, as 27 after 13, a hearing when the count is 255."
 abbrev pub add_refusals : Code → ℕ → List ℕ → List (Bool × Refusal)
-add_refusals c count channel = channel_refusals c channel ++ ((eqb count 255, Alone 27) ∷ [])
+add_refusals c count channel = channel_refusals c channel ++ ((eqb count 255, HearingFull) ∷ [])
 
 -- whether a list of adds and clears can leave this hearing under a code: a count of at most 255, values in −31..31, and zeros after the N of its code, or
 -- zeros alone if the count is 0. Adds and clears leave exactly these: `held_after` and `left_by_some` of crate `hearing_demands`.

@@ -10,45 +10,39 @@ ghost use Rattle.hearing.specs.Hearing.{clipped_sums, add_refusals, is_hearing};
 ghost use Rattle.hearing.specs.Clauses.{clipped_sum, zero_from, AddPre, hearing_by};
 
 use code::Code;
-use refusal::{Judgement, Refusal};
+use refusal::Refusal;
 
-// The sum of two values, clamped to −31..31. The sum has 62 added while it is clamped, so that it is not negative.
+// The sum of two values, clipped to −31..31.
 fn clipped_sum(a: u8, b: u8) -> u8
     requires { (nat_abs (channel_value a) ≤ 31)
         × (nat_abs (channel_value b) ≤ 31) }
     ensures { result ≡ clipped_sum a b }
 {
-    let sum = arrays::clamped((a as u32 + b as u32 + 62) % 256, 31, 93);
-    ((sum + 194) % 256) as u8
+    let sum = a.cast_signed() + b.cast_signed();
+    sum.clamp(-31, 31).cast_unsigned()
 }
 
-// Adds a vector to the first values, value by value.
+// Adds a vector to the first values, value by value. They are written by index: a proof knows nothing of what an `iter_mut().zip` wrote.
 pub fn add_values(values: &mut [u8], channel: &[u8])
     requires { AddPre values.old channel.now }
     ensures { values.new
         ≡ splice values.old 0 (clipped_sums (length channel.now) values.old channel.now) }
 {
-    let mut i = 0;
-    while i < channel.len() {
-        values[i] = clipped_sum(values[i], channel[i]);
-        i += 1;
+    for (i, value) in channel.iter().enumerate() {
+        values[i] = clipped_sum(values[i], *value);
     }
 }
 
 // Refusals 12, 13 and 27.
-pub fn judge_add(code: Code, count: u8, channel: &[u8]) -> Judgement
+pub fn judge_add(code: Code, count: u8, channel: &[u8]) -> Result<(), Refusal>
     requires { code.n ≤ largest_n }
     ensures { result ≡ judge (add_refusals code count channel.now) }
 {
-    match channel::judge_channel(code, channel) {
-        Judgement::Fine => {
-            if count == 255 {
-                return Judgement::Refused(Refusal::Alone(27));
-            }
-            Judgement::Fine
-        }
-        Judgement::Refused(x) => Judgement::Refused(x),
+    channel::judge_channel(code, channel)?;
+    if count == 255 {
+        return Err(Refusal::HearingFull);
     }
+    Ok(())
 }
 
 // The index from which on all values of a hearing are zero.

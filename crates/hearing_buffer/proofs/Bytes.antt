@@ -5,10 +5,8 @@ use mathlib.Core.List.{List, [], ◌∷◌, ◌++◌, append_assoc}
 use Prim.Native.Nat.{ℕ, suc, ◌+◌, ◌-◌, ◌^◌, ◌≤◌}
 use native.Mathlib.Omega.{arith}
 use borrow.Author.Tests.{eq-eqb}
-use lib.ListN.{length, take, drop, replicate, length-append, take-append-drop, replicate-append-replicate}
+use lib.ListN.{length, take, drop, replicate, length-append, length-drop, take-append-drop, replicate-append-replicate}
 use lib.Seq.{take_at, drop_at, get_or_at, drop-cons, append_snoc}
-use Rattle.laws.specs.Clauses.{splice}
-use Rattle.laws.proofs.Segment.{segment-splice, length-splice}
 use Rattle.arrays.specs.Sizes.{largest_n}
 use Rattle.code.specs.Code.{longest_description}
 use Rattle.hearing.specs.Hearing.{fresh}
@@ -46,12 +44,12 @@ written_read b nb =
 
 -- a description at the beginning of a buffer, and zeros after it, are the bytes of its fresh hearing
 pub fresh-bytes : (b d : List ℕ) → length b ≡ hearing_size → length d ≤ longest_description
-    → take (length d) (splice b 0 d) ++ replicate (length (splice b 0 d) - length d) 0 ≡ bytes_of (state_of d fresh)
+    → take (length d) (d ++ drop (length d) b) ++ replicate (length (d ++ drop (length d) b) - length d) 0 ≡ bytes_of (state_of d fresh)
 fresh-bytes b d nb room =
-    let fits : 0 + length d ≤ length b = omega arith in
+    let after : List ℕ = drop (length d) b in
     let rest : ℕ = longest_description - length d in
-    let many : length (splice b 0 d) - length d ≡ rest + suc (2 ^ largest_n - 0) = omega (arith, length-splice b 0 d (length d) refl fits) in
-    ap₂ (λ (l : List ℕ) (k : ℕ). l ++ replicate k 0) (segment-splice b 0 d (length d) refl fits) many
+    let many : length (d ++ after) - length d ≡ rest + suc (2 ^ largest_n - 0) = omega (arith, length-append d after, length-drop (length d) b) in
+    ap₂ (λ (l : List ℕ) (k : ℕ). l ++ replicate k 0) (take_at d after (length d) refl) many
     ∙ ap (λ (l : List ℕ). d ++ l) (sym (replicate-append-replicate rest (suc (2 ^ largest_n - 0)) 0))
     ∙ sym (append_assoc d (replicate rest 0) (replicate (suc (2 ^ largest_n - 0)) 0))
 

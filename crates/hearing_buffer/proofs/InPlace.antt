@@ -10,7 +10,6 @@ use lib.Dec.{eqb}
 use lib.ListN.{length, get_or, take, drop, set, length-drop, drop_of_length-le}
 use lib.Seq.{take_all, take-suc, append_snoc, set_at, length-take-le}
 use Rattle.code.specs.declared.Code.{Code}
-use Rattle.code.specs.declared.Description.TheVariants.{Accepted}
 use Rattle.code.specs.Code.{longest_description}
 use Rattle.hearing_state.specs.State.{no_state, code_of_state}
 use Rattle.hearing_state.specs.Clauses.{state_by, StatePre}
@@ -18,12 +17,13 @@ use Rattle.hearing_state.proofs.States.{no_code}
 use Rattle.hearing_buffer.specs.Lent.{hearing_size, state_in}
 use Rattle.hearing_buffer.specs.Clauses.{state_at}
 use Rattle.hearing_buffer.proofs.Bytes.{state_at_lem}
+use Rattle.std.specs.Prelude.{Ok}
 
 -- a buffer whose state has a code has the right size
-pub code-size : (b : List ℕ) (c : Code) → code_of_state (state_in b) ≡ Accepted c → length b ≡ hearing_size
+pub code-size : (b : List ℕ) (c : Code) → code_of_state (state_in b) ≡ Ok c → length b ≡ hearing_size
 code-size b c = at (eqb (length b) hearing_size) refl
   where
-    at : (t : Bool) → eqb (length b) hearing_size ≡ t → code_of_state (cond t (state_at b) no_state) ≡ Accepted c → length b ≡ hearing_size
+    at : (t : Bool) → eqb (length b) hearing_size ≡ t → code_of_state (cond t (state_at b) no_state) ≡ Ok c → length b ≡ hearing_size
     at true e f = eqb-true (length b) hearing_size e
     at false e f =
         let refused = sym no_code ∙ f in

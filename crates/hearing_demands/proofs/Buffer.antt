@@ -7,33 +7,31 @@ use native.Mathlib.Omega.{arith}
 use borrow.Author.Tests.{eq-eqb}
 use lib.ListN.{length}
 use Rattle.refusal.specs.declared.Refusal.{Refusal}
-use Rattle.refusal.specs.declared.Refusal.TheVariants.{Alone}
-use Rattle.refusal.specs.declared.Judgement.{Judgement}
-use Rattle.refusal.specs.declared.Judgement.TheVariants.{Fine, Refused}
 use Rattle.refusal.specs.Judge.{judge, refused_or}
 use Rattle.arrays.specs.Sizes.{largest_n}
 use Rattle.arrays.proofs.Zeros.{length-padded}
 use Rattle.code.specs.declared.Code.{Code}
-use Rattle.code.specs.declared.Description.TheVariants as Description
 use Rattle.code.specs.Description.{describe}
 use Rattle.code.specs.Code.{longest_description}
 use Rattle.hearing.specs.Hearing.{fresh, add_refusals}
 use Rattle.hearing_state.specs.State.{State, state_of, opened, added, cleared}
-use Rattle.hearing_buffer.specs.declared.Kept.{Kept as Answer}
-use Rattle.hearing_buffer.specs.declared.Kept.TheVariants as keep
 use Rattle.hearing_buffer.specs.Lent.{hearing_size, bytes_of, state_in, answer_in, opened_in}
+use Rattle.hearing_buffer.specs.Clauses.{Kept as Answer}
 use Rattle.hearing_buffer.proofs.Bytes.{size_of, read_written}
 use Rattle.hearing_demands.specs.Repeats.{Call, add, clear, after, buffer_after, BufferAfter}
 use Rattle.hearing_demands.proofs.Descriptions.{description-room, opened-is}
 use Rattle.hearing_demands.proofs.HeldAfter.{Invariant, room, kept_fresh, kept-add, kept_clear}
 use Rattle.hearing_demands.proofs.Refused.{refused_keeps}
+use Rattle.std.specs.Prelude.{Err, Ok}
+use Rattle.refusal.specs.declared.Refusal.TheVariants.{NotAState}
+use Rattle.refusal.specs.Clauses.{Judgement}
 
 -- a buffer of the right size in which the state s is read
 record InBuffer (b : List ℕ) (s : State) : Type 0 where
   size : length b ≡ hearing_size
   reads : state_in b ≡ s
 
-module _ (d : List ℕ) (c : Code) (code : describe d ≡ Description.Accepted c) where
+module _ (d : List ℕ) (c : Code) (code : describe d ≡ Ok c) where
   -- a state that calls leave is read back from its bytes
   written : {s : State} {vectors : List (List ℕ)} → Invariant d c code s vectors → InBuffer (bytes_of s) s
   written {s} k =
@@ -45,17 +43,17 @@ module _ (d : List ℕ) (c : Code) (code : describe d ≡ Description.Accepted c
       record { size = size_of s sizes.0 sizes.1; reads = read_written s sizes.0 sizes.1 }
 
   -- a call leaves its state in the buffer, or the buffer as it was
-  left_in : (b : List ℕ) (a : Judgement × State) {vectors : List (List ℕ)} → length b ≡ hearing_size → ((x : Refusal) → a.0 ≡ Refused x → a.1 ≡ state_in b)
+  left_in : (b : List ℕ) (a : Judgement × State) {vectors : List (List ℕ)} → length b ≡ hearing_size → ((x : Refusal) → a.0 ≡ Err x → a.1 ≡ state_in b)
       → Invariant d c code a.1 vectors → InBuffer (answer_in a b).1 a.1
   unfolding refused_or
   left_in b a nb same k = go a.0 refl
     where
       by : Judgement → Answer × List ℕ
-      by j = refused_or j (λ x. (keep.Refused x, b)) (keep.Done a.1.hearing.count, bytes_of a.1)
+      by j = refused_or j (λ x. (Err x, b)) (Ok a.1.hearing.count, bytes_of a.1)
 
       go : (j : Judgement) → a.0 ≡ j → InBuffer (by j).1 a.1
-      go Fine e = written k
-      go (Refused x) e = record { size = nb; reads = sym (same x e) }
+      go (Ok tt) e = written k
+      go (Err x) e = record { size = nb; reads = sym (same x e) }
 
   -- the next call on this buffer
   step : {b : List ℕ} {s : State} {vectors : List (List ℕ)} (calls : List Call)
@@ -79,7 +77,7 @@ module _ (d : List ℕ) (c : Code) (code : describe d ≡ Description.Accepted c
   opened_in_lem : (b : List ℕ) → length b ≡ hearing_size → (opened_in d b).1 ≡ bytes_of (state_of d fresh)
   unfolding refused_or
   opened_in_lem b nb =
-      ap (λ (t : Bool). (cond t (answer_in (opened d) b) (keep.Refused (Alone 40), b)).1) (eq-eqb (length b) hearing_size nb)
+      ap (λ (t : Bool). (cond t (answer_in (opened d) b) (Err NotAState, b)).1) (eq-eqb (length b) hearing_size nb)
       ∙ ap (λ (a : Judgement × State). (answer_in a b).1) (opened-is d c code)
 
 pub buffer-after : BufferAfter

@@ -8,14 +8,11 @@ use lib.IntN.{ℤ, pos, ◌+ℤ◌}
 use lib.ListN.{length, get_or, replicate, length-append}
 use Rattle.laws.specs.Table.{table}
 use Rattle.refusal.specs.declared.Refusal.{Refusal}
-use Rattle.refusal.specs.declared.Judgement.{Judgement}
-use Rattle.refusal.specs.declared.Judgement.TheVariants.{Fine, Refused}
 use Rattle.refusal.specs.Judge.{judge, refused_or}
 use Rattle.refusal.proofs.Judge.{refused_fine, refused_by}
 use Rattle.arrays.specs.Sizes.{largest_n}
 use Rattle.arrays.proofs.Sizes.{fits}
 use Rattle.code.specs.declared.Code.{Code}
-use Rattle.code.specs.declared.Description.TheVariants as Description
 use Rattle.code.specs.Code.{code_length}
 use Rattle.code.specs.Description.{describe}
 use Rattle.code.proofs.Facts.{described}
@@ -30,6 +27,8 @@ use Rattle.hearing_state.specs.Clauses.{added_under}
 use Rattle.hearing_demands.specs.Repeats.{Call, add, clear, after, accepted_in, fold_of_sums, Holds, HeldAfter}
 use Rattle.hearing_demands.specs.Claims.{Bounds, HeldBounds}
 use Rattle.hearing_demands.proofs.Descriptions.{opened-is, description-of, code_of, on_state, decoded_is}
+use Rattle.std.specs.Prelude.{Err, Ok}
+use Rattle.refusal.specs.Clauses.{Judgement}
 
 -- the last vector apart
 fold-snoc : (size : ℕ) (sums : List ℤ) (vectors : List (List ℕ)) (channel : List ℕ)
@@ -38,7 +37,7 @@ fold-snoc : (size : ℕ) (sums : List ℤ) (vectors : List (List ℕ)) (channel 
 fold-snoc size sums [] channel = refl
 fold-snoc size sums (v ∷ vectors) channel = fold-snoc size (table (λ i. clip (get_or sums i (pos 0) +ℤ get_or (channel_values v) i (pos 0))) size) vectors channel
 
-module _ (d : List ℕ) (c : Code) (code : describe d ≡ Description.Accepted c) where
+module _ (d : List ℕ) (c : Code) (code : describe d ≡ Ok c) where
   abbrev N : ℕ
   N = code_length c
 
@@ -54,10 +53,10 @@ module _ (d : List ℕ) (c : Code) (code : describe d ≡ Description.Accepted c
     under : (added s channel).1 ≡ (added_under c s channel).1
     under = ap (λ (a : Judgement × State). a.1) (on_state d c code (hearing_of v count) is (refused_in s) (λ c. added_under c s channel))
 
-    pub added-fine : judge (add_refusals c count channel) ≡ Fine → (added s channel).1 ≡ state_of d (hearing_of (clipped_sums N v channel) (count + 1))
+    pub added-fine : judge (add_refusals c count channel) ≡ Ok tt → (added s channel).1 ≡ state_of d (hearing_of (clipped_sums N v channel) (count + 1))
     added-fine e = under ∙ ap (λ (a : Judgement × State). a.1) (refused_fine (refused_in s) _ _ e) ∙ ap (state_of d) (added_to_lem c v w count channel)
 
-    added_refused : (x : Refusal) → judge (add_refusals c count channel) ≡ Refused x → (added s channel).1 ≡ s
+    added_refused : (x : Refusal) → judge (add_refusals c count channel) ≡ Err x → (added s channel).1 ≡ s
     added_refused x e = under ∙ ap (λ (a : Judgement × State). a.1) (refused_by (refused_in s) _ _ x e)
 
   -- ---- the invariant of a list of calls
@@ -87,12 +86,12 @@ module _ (d : List ℕ) (c : Code) (code : describe d ≡ Description.Accepted c
     pub kept_clear : Invariant (cleared s).1 []
     kept_clear =
         kept_fresh (ap (λ (t : State). (cleared t).1) k.state_is
-        ∙ ap (λ (a : Judgement × State). a.1) (on_state d c code h k.hearing (refused_in (state_of d h)) (λ _. (Fine, state_of d fresh))))
+        ∙ ap (λ (a : Judgement × State). a.1) (on_state d c code h k.hearing (refused_in (state_of d h)) (λ _. (Ok tt, state_of d fresh))))
 
     pub kept-add : (channel : List ℕ) (j : Judgement) → judge (add_refusals c (length vectors) channel) ≡ j
         → Invariant (added s channel).1 (refused_or j (λ _. vectors) (vectors ++ (channel ∷ [])))
     unfolding refused_or
-    kept-add channel Fine e =
+    kept-add channel (Ok tt) e =
         let sums : List ℕ = clipped_sums N k.values channel in
         let w : Inside N sums = sums-inside N k.values channel in
         let full : length vectors < 255 = not_full c (length vectors) channel e k.most in
@@ -108,7 +107,7 @@ module _ (d : List ℕ) (c : Code) (code : describe d ≡ Description.Accepted c
               ∙ ap (λ (vs : List ℤ). table (λ i. clip (get_or vs i (pos 0) +ℤ get_or (channel_values channel) i (pos 0))) N) k.values_are
               ∙ sym (fold-snoc N (replicate N (pos 0)) vectors channel);
         }
-    kept-add channel (Refused x) e =
+    kept-add channel (Err x) e =
         let same : (added s channel).1 ≡ s = ap (λ (t : State). (added t channel).1) k.state_is
         ∙ added_refused k.values k.inside (length vectors) k.hearing channel x e ∙ sym k.state_is in
         subst (λ (t : State). Invariant t vectors) (sym same) k

@@ -14,9 +14,6 @@ use Rattle.laws.specs.Table.{table}
 use Rattle.laws.specs.Insert.{insert_by, sort_by}
 use Rattle.laws.proofs.Choice.{and_true}
 use Rattle.laws.proofs.Each.{Each, each_append}
-use Rattle.refusal.specs.declared.Refusal.TheVariants.{Alone}
-use Rattle.refusal.specs.declared.Judgement.{Judgement}
-use Rattle.refusal.specs.declared.Judgement.TheVariants.{Fine, Refused}
 use Rattle.refusal.specs.Judge.{judge, refused_or}
 use Rattle.arrays.specs.Sizes.{largest_n}
 use Rattle.arrays.specs.Padded.{padded}
@@ -25,7 +22,6 @@ use Rattle.bits.specs.Bit.{number}
 use Rattle.bits.specs.Mask.{ones_below}
 use Rattle.bits.specs.Packing.{packed}
 use Rattle.code.specs.declared.Code.{Code}
-use Rattle.code.specs.declared.Description.{Description}
 use Rattle.code.specs.Description.{mask_of, describe_up_to, describe, on_description}
 use Rattle.code.specs.Code.{longest_description}
 use Rattle.crc.specs.Check.{check_of}
@@ -39,8 +35,7 @@ use Rattle.pass_tree.specs.Skipped.{skipped}
 use Rattle.flip_order.specs.Order.{information}
 use Rattle.flip_trial.specs.declared.Restart.TheVariants.{Root, AfterFlip}
 use Rattle.flip_trial.specs.Trial.{lowest, restart_at}
-use Rattle.flip_run.specs.declared.Decoded.TheVariants.{Accepted, Refused16}
-use Rattle.flip_run.specs.Trials.{flip_order, run}
+use Rattle.flip_run.specs.Trials.{flip_order, run, tally}
 use Rattle.decoder.specs.Decoder.{single, decoded_under, decoded_as, decoded_full, decoded_restarted}
 use Rattle.decoder_demands.specs.Agreement.{skipped_over, lowest_of_each}
 use Rattle.decoder_demands.proofs.Known.{run_in, accepted-run}
@@ -55,6 +50,11 @@ use Rattle.hearing_demands.proofs.Descriptions.{opened-is, code_of}
 use Rattle.hearing_demands.proofs.HeldAfter.{room, added-fine, held_after_lem, held-bounds}
 use Rattle.hearing_demands.proofs.Buffer.{buffer-after}
 use Rattle.hearing_demands.proofs.Left.{left_by_some, bytes_left}
+use Rattle.std.specs.Prelude.{Err, Ok}
+use Rattle.flip_run.specs.declared.DecodingError.TheVariants.{NonePassed}
+use Rattle.refusal.specs.declared.Refusal.TheVariants.{ChannelLength}
+use Rattle.refusal.specs.Clauses.{Judgement}
+use Rattle.code.specs.Clauses.{Description}
 
 -- document 01's D with r = 3 and the polynomial z^3 + z + 1, so k = 1: its information indices are 3, 5, 6 and 7
 abbrev d : List ℕ
@@ -63,7 +63,7 @@ d = 0x09 ∷ 0x00 ∷ 0x01 ∷ 0x00 ∷ 0x03 ∷ 0x03 ∷ 0x03 ∷ 0x00 ∷ 0xE8
 abbrev c : Code
 c = record { n = 3; r = 3; polynomial = 3; start = 0; k = 1 }
 
-describes : describe d ≡ Description.Accepted c
+describes : describe d ≡ Ok c
 unfolding judge refused_or ones_below describe_up_to
 describes = refl
 
@@ -82,11 +82,11 @@ sums_v = 0xFE ∷ 0xE1 ∷ 0x0B ∷ 0x03 ∷ 0x07 ∷ 0xEA ∷ 0x19 ∷ 0xF4 ∷
 -- with T = 5, which is K + 1, whatever byte the output held
 pub record Decodings (byte : ℕ) : Type 0 where
   -- neither hearing decodes
-  pub first_fails : decoded_full d first_v 5 (byte ∷ []) ≡ (Refused16 5 120, byte ∷ [])
-  pub second_fails : decoded_full d second_v 5 (byte ∷ []) ≡ (Refused16 5 120, byte ∷ [])
+  pub first_fails : decoded_full d first_v 5 (byte ∷ []) ≡ (Err (NonePassed (tally 5 120)), byte ∷ [])
+  pub second_fails : decoded_full d second_v 5 (byte ∷ []) ≡ (Err (NonePassed (tally 5 120)), byte ∷ [])
   -- their sums do, by full decoding and restarted
-  pub sums_full : decoded_full d sums_v 5 (byte ∷ []) ≡ (Accepted 3 72, 0x80 ∷ [])
-  pub sums_restarted : decoded_restarted d sums_v 5 (byte ∷ []) ≡ (Accepted 3 43, 0x80 ∷ [])
+  pub sums_full : decoded_full d sums_v 5 (byte ∷ []) ≡ (Ok (tally 3 72), 0x80 ∷ [])
+  pub sums_restarted : decoded_restarted d sums_v 5 (byte ∷ []) ≡ (Ok (tally 3 43), 0x80 ∷ [])
   -- 5 and 3 are flipped first
   pub sums_order : flip_order (mask_of d) c (channel_values sums_v) ≡ 5 ∷ 3 ∷ 6 ∷ 7 ∷ []
 
@@ -121,7 +121,7 @@ none-outside = (refl, refl)
 inside : (v : List ℕ) → length v ≡ 8 → first_outside v ≡ 8 → Inside 8 v
 inside v size e = record { size_is = size; at = each-inside v (omega (arith, size, e)) }
 
-fine : (judge (add_refusals c 0 first_v) ≡ Fine) × (judge (add_refusals c 1 second_v) ≡ Fine)
+fine : (judge (add_refusals c 0 first_v) ≡ Ok tt) × (judge (add_refusals c 1 second_v) ≡ Ok tt)
 unfolding first_where judge channel_value
 fine = (refl, refl)
 
@@ -157,7 +157,7 @@ pub record Held : Type 0 where
   -- the description that is held has nine bytes
   pub description : length (description_of s) ≡ 9
   -- a third vector is judged: as too short, and not as 40
-  pub code : (added s (0x01 ∷ [])).0 ≡ Refused (Alone 12)
+  pub code : (added s (0x01 ∷ [])).0 ≡ Err ChannelLength
   -- two vectors are held, and no list of calls leaves more than 255
   pub count : s.hearing.count ≡ 2
   pub most : (more : List Call) → ltb 255 (length (accepted_in c [] more)) ≡ false
@@ -166,8 +166,8 @@ pub record Held : Type 0 where
   pub size : length (combined c s.hearing) ≡ 8
   pub in_range : first_outside (combined c s.hearing) ≡ 8
   -- trial 3 decodes them, in 72 steps from the root and in 43 restarted
-  pub full : (byte : ℕ) → decoded_held_with Root s 5 (byte ∷ []) ≡ (Accepted 3 72, 0x80 ∷ [])
-  pub restarted : (byte : ℕ) → decoded_held_with AfterFlip s 5 (byte ∷ []) ≡ (Accepted 3 43, 0x80 ∷ [])
+  pub full : (byte : ℕ) → decoded_held_with Root s 5 (byte ∷ []) ≡ (Ok (tally 3 72), 0x80 ∷ [])
+  pub restarted : (byte : ℕ) → decoded_held_with AfterFlip s 5 (byte ∷ []) ≡ (Ok (tally 3 43), 0x80 ∷ [])
 
 pub held : Held
 unfolding first_where table judge refused_or channel_value
@@ -185,7 +185,7 @@ held = record {
 
 -- From what full decoding of the sums answers, which is computed, follows what restarted decoding does: trials 2 and 3 flip 5 and 3, resume at 6 and 5, and
 -- save 16 and 13 steps.
-pub restarted_agrees : (byte : ℕ) → decoded_restarted d (combined c s.hearing) 5 (byte ∷ []) ≡ (Accepted 3 43, 0x80 ∷ [])
+pub restarted_agrees : (byte : ℕ) → decoded_restarted d (combined c s.hearing) 5 (byte ∷ []) ≡ (Ok (tally 3 43), 0x80 ∷ [])
 unfolding first_where skipped
 restarted_agrees byte =
     let full = ap (λ (v : List ℕ). decoded_full d v 5 (0 ∷ [])) held_bytes ∙ (decodings 0).sums_full in
@@ -195,7 +195,7 @@ restarted_agrees byte =
     ap₂ (λ (v : List ℕ) (m : ℕ). lowest_of_each (single 5) d c v m) held_bytes e.0
     ∙ ap (λ (order : List ℕ). map lowest (take 2 (take 4 (map (λ i. i ∷ []) order)))) (decodings 0).sums_order in
     let steps : x.steps AfterFlip ≡ 43 = omega (arith, x.full_steps, e.0, x.exceeds AfterFlip, ap (λ (js : List ℕ). skipped_over 3 (map (restart_at AfterFlip (mask_of d) 8) js)) is) in
-    e.1 AfterFlip byte ∙ ap (λ (s : ℕ). (Accepted 3 s, 0x80 ∷ [])) steps
+    e.1 AfterFlip byte ∙ ap (λ (s : ℕ). (Ok (tally 3 s), 0x80 ∷ [])) steps
 
 -- in any buffer of the right size the calls leave the sums and count 2
 pub buffer_held : (b : List ℕ) → length b ≡ hearing_size → (combined c (state_in (buffer_after (opened_in d b).1 calls)).hearing ≡ sums_v) × ((state_in (buffer_after (opened_in d b).1 calls)).hearing.count ≡ 2)
@@ -235,7 +235,7 @@ values-bytes : Each Byte 0 twice.hearing.values
 unfolding below
 values-bytes = padded-bytes (2 ^ largest_n) sums_v refl
 
-twice-coded : code_of_state twice ≡ Description.Accepted c
+twice-coded : code_of_state twice ≡ Ok c
 twice-coded = code_of d c describes (hearing_of sums_v 2) (heard_hearing c sums_v sums-inside 1 (omega arith))
 
 -- as a state

@@ -14,15 +14,12 @@ use Rattle.laws.specs.Table.{table}
 use Rattle.laws.proofs.Choice.{and_true}
 use Rattle.laws.proofs.Each.{Each, each_take, each-drop}
 use Rattle.laws.proofs.Table.{table_ext, table-get_or}
-use Rattle.refusal.specs.declared.Judgement.{Judgement}
-use Rattle.refusal.specs.declared.Judgement.TheVariants.{Fine}
 use Rattle.refusal.specs.Judge.{judge}
 use Rattle.refusal.proofs.Judge.{judge-none, judge_no, append-fine}
 use Rattle.arrays.specs.Sizes.{largest_n}
 use Rattle.arrays.specs.Padded.{padded, all_zero}
 use Rattle.arrays.proofs.Zeros.{zeros_are, zeros-past}
 use Rattle.code.specs.declared.Code.{Code}
-use Rattle.code.specs.declared.Description.TheVariants as Description
 use Rattle.code.specs.Code.{code_length, longest_description}
 use Rattle.code.specs.Description.{word, describe}
 use Rattle.code.proofs.Facts.{described}
@@ -42,6 +39,8 @@ use Rattle.hearing_buffer.proofs.Bytes.{state_at_lem, written_read}
 use Rattle.hearing_demands.specs.Claims.{FitsBuffer, LeftBySome, BytesLeft}
 use Rattle.hearing_demands.proofs.Descriptions.{opened-is}
 use Rattle.hearing_demands.proofs.HeldAfter.{room, added-fine}
+use Rattle.std.specs.Prelude.{Ok}
+use Rattle.refusal.specs.Clauses.{Judgement}
 
 -- ---- adds to zeros
 
@@ -57,7 +56,7 @@ zero_and b l small =
 abbrev Byte : ℕ → Type 0
 Byte b = b < 256
 
-module _ (d : List ℕ) (c : Code) (code : describe d ≡ Description.Accepted c) where
+module _ (d : List ℕ) (c : Code) (code : describe d ≡ Ok c) where
   abbrev N : ℕ
   N = code_length c
 
@@ -70,7 +69,7 @@ module _ (d : List ℕ) (c : Code) (code : describe d ≡ Description.Accepted c
   -- one add
   add-leaves : {v : List ℕ} → Inside N v → Each Byte 0 v → {count : ℕ} → count < 255 → (added (holding zeros count) v).1 ≡ holding v (count + 1)
   add-leaves {v} w bytes {count} l =
-      let fine : judge (add_refusals c count v) ≡ Fine =
+      let fine : judge (add_refusals c count v) ≡ Ok tt =
       append-fine (channel_refusals c v) _ (channel_fine c v w.size_is (none-outside w ∙ sym w.size_is))
       ∙ judge_no _ _ _ (ne_eqb count 255 (λ e. omega arith)) ∙ judge-none in
       let same : clipped_sums N zeros v ≡ v =
@@ -107,7 +106,7 @@ padded-is size k w long {from} l e =
 
 -- ---- the state
 
-module _ (s : State) (c : Code) (z : FitsBuffer s) (e : code_of_state s ≡ Description.Accepted c) where
+module _ (s : State) (c : Code) (z : FitsBuffer s) (e : code_of_state s ≡ Ok c) where
   abbrev d : List ℕ
   d = description_of s
 
@@ -117,7 +116,7 @@ module _ (s : State) (c : Code) (z : FitsBuffer s) (e : code_of_state s ≡ Desc
   abbrev v : List ℕ
   v = combined c h
 
-  code : describe d ≡ Description.Accepted c
+  code : describe d ≡ Ok c
   code = (state_is s c e).0
 
   parts : (all_zero (drop (length d) s.description) ≡ true) × (is_hearing c h ≡ true)

@@ -1,11 +1,9 @@
 -- Document 02, request 2.6: what a hearing holds, "whatever list of adds preceded it". `held_after` of proofs/HeldAfter.antt proves it for
 -- every list of adds and clears from a fresh hearing.
-use Rattle.std.specs.Prelude.{◌≡◌, List, [], ◌∷◌, ◌++◌, map, ℕ, ℤ, pos, ◌+ℤ◌, length, get_or, replicate}
+use Rattle.std.specs.Prelude.{◌≡◌, List, [], ◌∷◌, ◌++◌, map, ℕ, ℤ, pos, ◌+ℤ◌, length, get_or, replicate, Ok, Result}
 use Rattle.laws.specs.Table.{table}
-use Rattle.refusal.specs.declared.Judgement.{Judgement}
 use Rattle.refusal.specs.Judge.{judge, refused_or}
 use Rattle.code.specs.declared.Code.{Code}
-use Rattle.code.specs.declared.Description.TheVariants as Description
 use Rattle.code.specs.Code.{code_length}
 use Rattle.code.specs.Description.{describe}
 use Rattle.channel.specs.Channel.{clip, channel_values}
@@ -15,6 +13,7 @@ use Rattle.decoder_demands.specs.Agreement.{Agree}
 use Rattle.hearing.specs.Hearing.{combined, add_refusals}
 use Rattle.hearing_state.specs.State.{State, description_of, code_of_state, opened, added, cleared, decoded_held_with}
 use Rattle.hearing_buffer.specs.Lent.{hearing_size, state_in, opened_in, added_in, cleared_in}
+use Rattle.refusal.specs.declared.Refusal.{Refusal}
 
 -- a call that may change a state
 pub data Call : Type 0 where
@@ -24,7 +23,7 @@ pub data Call : Type 0 where
   clear : Call
 
 -- what a call answers, and the state afterwards
-abbrev pub called : State → Call → Judgement × State
+abbrev pub called : State → Call → Result Unit Refusal × State
 called s (add channel) = added s channel
 called s clear = cleared s
 
@@ -50,7 +49,7 @@ pub record Holds (d : List ℕ) (c : Code) (s : State) (vectors : List (List ℕ
   -- it holds the description
   pub description_is : description_of s ≡ d
   -- it is a state of that code: no later call is refused as 40
-  pub code_is : code_of_state s ≡ Description.Accepted c
+  pub code_is : code_of_state s ≡ Ok c
   -- the count is the number of the vectors
   pub count_is : s.hearing.count ≡ length vectors
   -- the held values are the fold of clipped sums
@@ -63,7 +62,7 @@ pub record Holds (d : List ℕ) (c : Code) (s : State) (vectors : List (List ℕ
 
 -- any code, and any list of adds and clears from a fresh hearing
 abbrev pub HeldAfter : Type 0
-HeldAfter = (d : List ℕ) (c : Code) (calls : List Call) → describe d ≡ Description.Accepted c → Holds d c (after (opened d).1 calls) (accepted_in c [] calls)
+HeldAfter = (d : List ℕ) (c : Code) (calls : List Call) → describe d ≡ Ok c → Holds d c (after (opened d).1 calls) (accepted_in c [] calls)
 
 -- for C: what a call leaves in a buffer
 abbrev pub called_in : List ℕ → Call → List ℕ
@@ -80,4 +79,4 @@ buffer_after b (call ∷ calls) = buffer_after (called_in b call) calls
 abbrev pub BufferAfter : Type 0
 BufferAfter =
     (d b : List ℕ) (c : Code) (calls : List Call)
-    → describe d ≡ Description.Accepted c → length b ≡ hearing_size → state_in (buffer_after (opened_in d b).1 calls) ≡ after (opened d).1 calls
+    → describe d ≡ Ok c → length b ≡ hearing_size → state_in (buffer_after (opened_in d b).1 calls) ≡ after (opened d).1 calls

@@ -3,15 +3,11 @@ use mathlib.Core.Path.{◌≡◌, refl, ap, ◌∙◌, subst}
 use mathlib.Core.List.{List, [], ◌∷◌, ◌++◌}
 use Prim.Native.Nat.{ℕ}
 use lib.ListN.{length}
-use Rattle.refusal.specs.declared.Judgement.{Judgement}
-use Rattle.refusal.specs.declared.Judgement.TheVariants as judgement
 use Rattle.refusal.specs.Judge.{judge, refused_or}
 use Rattle.refusal.proofs.Judge.{refused_fine}
 use Rattle.code.specs.declared.Code.{Code}
-use Rattle.code.specs.declared.Description.{Description}
 use Rattle.code.specs.Description.{describe, on_description}
 use Rattle.flip_trial.specs.declared.Restart.TheVariants.{AfterFlip}
-use Rattle.flip_run.specs.declared.Decoded.TheVariants.{Refused}
 use Rattle.hearing.specs.Hearing.{added_to, add_refusals}
 use Rattle.hearing_state.specs.State.{State, refused_in, with_hearing, opened, added, decoded_held_with}
 use Rattle.hearing_state.specs.Clauses.{added_under}
@@ -21,6 +17,10 @@ use Rattle.hearing_demands.proofs.HeldAfter.{held_after_lem}
 use Rattle.hearing_demands.proofs.Buffer.{buffer-after}
 use Rattle.hearing_preview.specs.Claims.{previewed, Previews, PreviewAfter, PreviewInAfter}
 use Rattle.hearing_preview.proofs.Copy.{on_a_copy}
+use Rattle.std.specs.Prelude.{Err, Ok}
+use Rattle.flip_run.specs.declared.DecodingError.TheVariants.{Refused}
+use Rattle.refusal.specs.Clauses.{Judgement}
+use Rattle.code.specs.Clauses.{Description}
 
 -- one more add, of the state and of what is accepted
 module _ (channel : List ℕ) where
@@ -32,13 +32,13 @@ module _ (channel : List ℕ) where
   after_more s (call ∷ calls) = after_more (called s call).1 calls
 
   accepted-more : (c : Code) (vectors : List (List ℕ)) (calls : List Call)
-      → judge (add_refusals c (length (accepted_in c vectors calls)) channel) ≡ judgement.Fine
+      → judge (add_refusals c (length (accepted_in c vectors calls)) channel) ≡ Ok tt
       → accepted_in c vectors (more calls) ≡ accepted_in c vectors calls ++ (channel ∷ [])
   accepted-more c vectors [] e = refused_fine (λ x. vectors) (vectors ++ (channel ∷ [])) _ e
   accepted-more c vectors (add other ∷ calls) e = accepted-more c _ calls e
   accepted-more c vectors (clear ∷ calls) e = accepted-more c [] calls e
 
-module _ (d : List ℕ) (c : Code) (calls : List Call) (channel : List ℕ) (code : describe d ≡ Description.Accepted c) where
+module _ (d : List ℕ) (c : Code) (calls : List Call) (channel : List ℕ) (code : describe d ≡ Ok c) where
   abbrev s : State
   s = after (opened d).1 calls
 
@@ -50,7 +50,7 @@ module _ (d : List ℕ) (c : Code) (calls : List Call) (channel : List ℕ) (cod
 
   -- the add, by its refusals
   abbrev by : Judgement → Judgement × State
-  by j = refused_or j (refused_in s) (judgement.Fine, with_hearing s (added_to c s.hearing channel))
+  by j = refused_or j (refused_in s) (Ok tt, with_hearing s (added_to c s.hearing channel))
 
   added_is : (j : Judgement) → judge (add_refusals c (length vectors) channel) ≡ j → added s channel ≡ by j
   added_is j e =
@@ -60,11 +60,11 @@ module _ (d : List ℕ) (c : Code) (calls : List Call) (channel : List ℕ) (cod
 
   -- the preview, by the judgement of the add
   preview_is : (j : Judgement) → judge (add_refusals c (length vectors) channel) ≡ j → (limit : ℕ) (output : List ℕ)
-      → previewed s channel limit output ≡ refused_or (by j).0 (λ x. (Refused x, output)) (decoded_held_with AfterFlip (added s channel).1 limit output)
+      → previewed s channel limit output ≡ refused_or (by j).0 (λ x. (Err (Refused x), output)) (decoded_held_with AfterFlip (added s channel).1 limit output)
   preview_is j e limit output =
-      ap (λ (a : Judgement × State). refused_or a.0 (λ x. (Refused x, output)) (decoded_held_with AfterFlip (added s channel).1 limit output)) (added_is j e)
+      ap (λ (a : Judgement × State). refused_or a.0 (λ x. (Err (Refused x), output)) (decoded_held_with AfterFlip (added s channel).1 limit output)) (added_is j e)
 
-  sums : judge (add_refusals c (length vectors) channel) ≡ judgement.Fine → Holds d c (added s channel).1 (vectors ++ (channel ∷ []))
+  sums : judge (add_refusals c (length vectors) channel) ≡ Ok tt → Holds d c (added s channel).1 (vectors ++ (channel ∷ []))
   sums e =
       subst (λ (t : State). Holds d c t (vectors ++ (channel ∷ []))) (after_more channel (opened d).1 calls)
       (subst (Holds d c (after (opened d).1 (more channel calls))) (accepted-more channel c [] calls e) (held_after_lem d c (more channel calls) code))
@@ -72,8 +72,8 @@ module _ (d : List ℕ) (c : Code) (calls : List Call) (channel : List ℕ) (cod
   previews : Previews d c s vectors channel
   unfolding refused_or
   previews = record {
-    refused = λ x e limit output. preview_is (judgement.Refused x) e limit output;
-    decoded = λ e limit output. preview_is judgement.Fine e limit output ∙ (sums e).decoded_is AfterFlip limit output;
+    refused = λ x e limit output. preview_is (Err x) e limit output;
+    decoded = λ e limit output. preview_is (Ok tt) e limit output ∙ (sums e).decoded_is AfterFlip limit output;
     sums = sums;
   }
 

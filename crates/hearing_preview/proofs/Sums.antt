@@ -14,11 +14,8 @@ use Rattle.arrays.specs.Padded.{all_zero}
 use Rattle.arrays.proofs.Sizes.{fits}
 use Rattle.arrays.proofs.Zeros.{drop-replicate, length-padded, splice-padded}
 use Rattle.code.specs.declared.Code.{Code}
-use Rattle.code.specs.declared.Description.{Description}
-use Rattle.code.specs.declared.Description.TheVariants.{Accepted}
 use Rattle.code.specs.Code.{code_length, longest_description}
 use Rattle.code.specs.Description.{describe, on_description}
-use Rattle.flip_run.specs.declared.Decoded.TheVariants.{Refused}
 use Rattle.flip_trial.specs.declared.Restart.TheVariants.{AfterFlip}
 use Rattle.decoder.specs.Decoder.{single, decoded_as}
 use Rattle.hearing.specs.Hearing.{Hearing, combined, clipped_sums, added_to, is_hearing}
@@ -31,6 +28,9 @@ use Rattle.hearing_buffer.specs.Lent.{hearing_size, state_in}
 use Rattle.hearing_buffer.proofs.Bytes.{state_at_lem}
 use Rattle.hearing_buffer.proofs.InPlace.{code-size}
 use Rattle.hearing_preview.specs.Clauses.{MayAdd}
+use Rattle.std.specs.Prelude.{Err, Ok}
+use Rattle.flip_run.specs.declared.DecodingError.TheVariants.{Refused}
+use Rattle.code.specs.Clauses.{Description}
 
 module _ (c : Code) (b channel : List ℕ) (may : MayAdd c b channel) where
   pub size : length b ≡ hearing_size
@@ -49,7 +49,7 @@ module _ (c : Code) (b channel : List ℕ) (may : MayAdd c b channel) where
   description-long = ap (λ (t : State). length t.description) (state_at_lem b size) ∙ length-take-le longest_description b (omega (arith, size))
 
   -- what is held
-  pub describes : describe (description_of s) ≡ Accepted c
+  pub describes : describe (description_of s) ≡ Ok c
   describes = (state_is s c may.code_is).0
 
   n_most : c.n ≤ largest_n
@@ -97,7 +97,7 @@ module _ (c : Code) (b channel : List ℕ) (may : MayAdd c b channel) where
       length-padded (2 ^ largest_n) (clipped_sums N h.values channel) (omega (arith, many, room))
 
   -- a state holds them
-  code-after : code_of_state (with_hearing s sums) ≡ Accepted c
+  code-after : code_of_state (with_hearing s sums) ≡ Ok c
   code-after =
       let zeros : all_zero (drop (length (description_of s)) s.description) ≡ true = (and_true _ (is_hearing c h) (state_is s c may.code_is).1).0 in
       let full = not_full c h.count channel may.fine (count_most c h hears) in
@@ -107,4 +107,4 @@ module _ (c : Code) (b channel : List ℕ) (may : MayAdd c b channel) where
   pub decoded_sums : (limit : ℕ) (output : List ℕ)
       → decoded_held_with AfterFlip (with_hearing s sums) limit output ≡ decoded_as (single limit) AfterFlip (description_of s) (combined c sums) output
   decoded_sums limit output =
-      ap (λ (a : Description). on_description a (λ x. (Refused x, output)) (λ c. decoded_as (single limit) AfterFlip (description_of s) (combined c sums) output)) code-after
+      ap (λ (a : Description). on_description a (λ x. (Err (Refused x), output)) (λ c. decoded_as (single limit) AfterFlip (description_of s) (combined c sums) output)) code-after

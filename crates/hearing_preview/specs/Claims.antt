@@ -1,25 +1,23 @@
 -- What the theorems of this crate state of its definitions.
-use Rattle.std.specs.Prelude.{◌≡◌, List, [], ◌∷◌, ◌++◌, ℕ, length}
+use Rattle.std.specs.Prelude.{◌≡◌, List, [], ◌∷◌, ◌++◌, ℕ, length, Err, Ok}
 use Rattle.refusal.specs.declared.Refusal.{Refusal}
-use Rattle.refusal.specs.declared.Judgement.TheVariants as judgement
 use Rattle.refusal.specs.Judge.{judge, refused_or}
 use Rattle.code.specs.declared.Code.{Code}
-use Rattle.code.specs.declared.Description.TheVariants as Description
 use Rattle.code.specs.Description.{describe}
 use Rattle.flip_trial.specs.declared.Restart.TheVariants.{AfterFlip}
-use Rattle.flip_run.specs.declared.Decoded.{Decoded}
-use Rattle.flip_run.specs.declared.Decoded.TheVariants.{Refused}
 use Rattle.decoder.specs.Decoder.{decoded_restarted}
 use Rattle.hearing.specs.Hearing.{combined, add_refusals}
 use Rattle.hearing_state.specs.State.{State, opened, added, decoded_held_with}
 use Rattle.hearing_buffer.specs.Lent.{hearing_size, state_in, opened_in}
 use Rattle.hearing_demands.specs.Repeats.{Call, after, accepted_in, Holds, buffer_after}
 use Rattle.hearing_preview.specs.Preview.{previewed_in}
+use Rattle.flip_run.specs.declared.DecodingError.TheVariants.{Refused}
+use Rattle.flip_run.specs.Clauses.{Decoded}
 
 -- the preview of an add to a state: the refusal of the add, or restarted decoding of the state that it leaves
 abbrev pub previewed : State → List ℕ → ℕ → List ℕ → Decoded × List ℕ
 previewed s channel limit output =
-    refused_or (added s channel).0 (λ x. (Refused x, output)) (decoded_held_with AfterFlip (added s channel).1 limit output)
+    refused_or (added s channel).0 (λ x. (Err (Refused x), output)) (decoded_held_with AfterFlip (added s channel).1 limit output)
 
 -- the preview in a buffer, whatever it holds, is that of its state: `on_a_copy`
 abbrev pub OnACopy : Type 0
@@ -29,24 +27,24 @@ OnACopy = (b channel : List ℕ) (limit : ℕ) (output : List ℕ) → previewed
 pub record Previews (d : List ℕ) (c : Code) (s : State) (vectors : List (List ℕ)) (channel : List ℕ) : Type 0 where
   -- 12, 13 and 27 are the answer, and the output stays
   pub refused :
-      (x : Refusal) → judge (add_refusals c (length vectors) channel) ≡ judgement.Refused x
-      → (limit : ℕ) (output : List ℕ) → previewed s channel limit output ≡ (Refused x, output)
+      (x : Refusal) → judge (add_refusals c (length vectors) channel) ≡ Err x
+      → (limit : ℕ) (output : List ℕ) → previewed s channel limit output ≡ (Err (Refused x), output)
   -- otherwise the answer is that of restarted decoding of the sums
   pub decoded :
-      judge (add_refusals c (length vectors) channel) ≡ judgement.Fine
+      judge (add_refusals c (length vectors) channel) ≡ Ok tt
       → (limit : ℕ) (output : List ℕ) → previewed s channel limit output ≡ decoded_restarted d (combined c (added s channel).1.hearing) limit output
   -- and they are the sums of a state that holds this vector too
-  pub sums : judge (add_refusals c (length vectors) channel) ≡ judgement.Fine → Holds d c (added s channel).1 (vectors ++ (channel ∷ []))
+  pub sums : judge (add_refusals c (length vectors) channel) ≡ Ok tt → Holds d c (added s channel).1 (vectors ++ (channel ∷ []))
 
 -- any code, and any list of adds and clears from a fresh hearing: `preview_after`
 abbrev pub PreviewAfter : Type 0
 PreviewAfter =
     (d : List ℕ) (c : Code) (calls : List Call) (channel : List ℕ)
-    → describe d ≡ Description.Accepted c → Previews d c (after (opened d).1 calls) (accepted_in c [] calls) channel
+    → describe d ≡ Ok c → Previews d c (after (opened d).1 calls) (accepted_in c [] calls) channel
 
 -- in any buffer of the right size in which a hearing is opened, the answer is that of the state of `after`: `preview_in_after`
 abbrev pub PreviewInAfter : Type 0
 PreviewInAfter =
     (d b : List ℕ) (c : Code) (calls : List Call) (channel : List ℕ) (limit : ℕ) (output : List ℕ)
-    → describe d ≡ Description.Accepted c → length b ≡ hearing_size
+    → describe d ≡ Ok c → length b ≡ hearing_size
     → previewed_in (buffer_after (opened_in d b).1 calls) channel limit output ≡ previewed (after (opened d).1 calls) channel limit output

@@ -1,7 +1,7 @@
 // A vector that is tried before it is kept: an add to a copy of the values in a buffer, and restarted decoding of the sums.
 #![tactic(auto)]
 
-ghost use Rattle.std.specs.Prelude.{◌≡◌};
+ghost use Rattle.std.specs.Prelude.{◌≡◌, Ok};
 ghost use Rattle.hearing.specs.Hearing.{added_to};
 ghost use Rattle.hearing_state.specs.State.{code_of_state, with_hearing, decoded_held_with};
 ghost use Rattle.hearing_buffer.specs.Lent.{state_in};
@@ -9,14 +9,19 @@ ghost use Rattle.hearing_preview.specs.Preview.{previewed_in};
 ghost use Rattle.hearing_preview.specs.Clauses.{MayAdd};
 
 use arrays::SIZE;
-use code::{Code, Description, LONGEST};
-use flip_run::{Decoded, Terms};
+use code::{Code, LONGEST};
+use flip_run::{DecodingError, Tally, Terms};
 use flip_trial::Restart;
 use hearing_buffer::VALUES_AT;
-use refusal::Judgement;
 
 // Adds a vector to a copy of the values in a buffer, and decodes the sums.
-fn decode_sums(code: Code, buffer: &[u8], channel: &[u8], limit: u32, output: &mut [u8]) -> Decoded
+fn decode_sums(
+    code: Code,
+    buffer: &[u8],
+    channel: &[u8],
+    limit: u32,
+    output: &mut [u8],
+) -> Result<Tally, DecodingError>
     requires { MayAdd code buffer.now channel.now }
     ensures { (result, output.new)
         ≡ decoded_held_with Restart.AfterFlip (with_hearing (state_in buffer.now)
@@ -39,24 +44,26 @@ fn preview_under(
     channel: &[u8],
     limit: u32,
     output: &mut [u8],
-) -> Decoded
-    requires { code_of_state (state_in buffer.now) ≡ Description.Accepted code }
+) -> Result<Tally, DecodingError>
+    requires { code_of_state (state_in buffer.now) ≡ Ok code }
     ensures { (result, output.new)
         ≡ previewed_in buffer.now channel.now limit output.old }
 {
-    match hearing::judge_add(code, buffer[LONGEST], channel) {
-        Judgement::Fine => decode_sums(code, buffer, channel, limit, output),
-        Judgement::Refused(x) => Decoded::Refused(x),
-    }
+    let at = LONGEST;
+    hearing::judge_add(code, buffer[at], channel)?;
+    decode_sums(code, buffer, channel, limit, output)
 }
 
 // Previews an add to the hearing in a buffer, which is only read and holds afterwards what it held.
-pub fn preview_in(buffer: &[u8], channel: &[u8], limit: u32, output: &mut [u8]) -> Decoded
+pub fn preview_in(
+    buffer: &[u8],
+    channel: &[u8],
+    limit: u32,
+    output: &mut [u8],
+) -> Result<Tally, DecodingError>
     ensures { ((result, output.new) ≡ previewed_in buffer.now channel.now limit output.old)
         × (buffer.exit.now ≡ buffer.entry.now) }
 {
-    match hearing_buffer::code_in(buffer) {
-        Description::Accepted(code) => preview_under(code, buffer, channel, limit, output),
-        Description::Refused(x) => Decoded::Refused(x),
-    }
+    let code = hearing_buffer::code_in(buffer)?;
+    preview_under(code, buffer, channel, limit, output)
 }

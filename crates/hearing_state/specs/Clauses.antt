@@ -1,16 +1,14 @@
 -- What only contracts below the public operations cite. Nothing here need be believed.
-use Rattle.std.specs.Prelude.{◌≡◌, List, ℕ, ◌^◌, ◌≤◌, length}
-use Rattle.refusal.specs.declared.Judgement.{Judgement}
-use Rattle.refusal.specs.declared.Judgement.TheVariants.{Fine}
+use Rattle.std.specs.Prelude.{◌≡◌, List, ℕ, ◌^◌, ◌≤◌, length, Ok}
 use Rattle.refusal.specs.Judge.{judge, refused_or}
 use Rattle.arrays.specs.Sizes.{largest_n}
 use Rattle.code.specs.declared.Code.{Code}
-use Rattle.code.specs.declared.Description.TheVariants.{Accepted}
 use Rattle.code.specs.Code.{code_length, longest_description}
 use Rattle.code.specs.Description.{describe}
 use Rattle.code.specs.Record.{record_in}
 use Rattle.hearing.specs.Hearing.{added_to, add_refusals}
 use Rattle.hearing_state.specs.State.{State, refused_in, with_hearing}
+use Rattle.refusal.specs.Clauses.{Judgement}
 
 -- a state by its parts
 abbrev pub state_by : List ℕ → ℕ → List ℕ → State
@@ -20,7 +18,7 @@ state_by description count values = record { description = description; hearing 
 abbrev pub added_under : Code → State → List ℕ → Judgement × State
 added_under c s channel =
     refused_or (judge (add_refusals c s.hearing.count channel)) (refused_in s)
-    (Fine, with_hearing s (added_to c s.hearing channel))
+    (Ok tt, with_hearing s (added_to c s.hearing channel))
 
 -- arrays of the sizes that a state has
 pub record StatePre (description values : List ℕ) : Type 0 where
@@ -30,5 +28,5 @@ pub record StatePre (description values : List ℕ) : Type 0 where
 -- a description at the beginning of some bytes, and values for its code
 pub record DecodePre (c : Code) (bytes values : List ℕ) : Type 0 where
   pub field : 2 ≤ length bytes
-  pub describes : describe (record_in bytes) ≡ Accepted c
+  pub describes : describe (record_in bytes) ≡ Ok c
   pub room : code_length c ≤ length values

@@ -11,12 +11,12 @@ ghost use Rattle.decoder.specs.Decoder.{single, decoded_as};
 ghost use Rattle.hearing_state.specs.State.{is_state, code_of_state};
 ghost use Rattle.hearing_state.specs.Clauses.{state_by, StatePre, DecodePre};
 
-use code::{Code, Description};
-use flip_run::{Decoded, Terms};
+use code::Code;
+use flip_run::{DecodingError, Tally, Terms};
 use refusal::Refusal;
 
 // The description at the start of these bytes.
-fn described_in(bytes: &[u8]) -> Description
+fn described_in(bytes: &[u8]) -> Result<Code, Refusal>
     requires { 2 ≤ length bytes.now }
     ensures { result ≡ describe (record_in bytes.now) }
 {
@@ -44,18 +44,18 @@ fn is_state(code: Code, description: &[u8], count: u8, values: &[u8]) -> bool
 }
 
 // The code of a state given by its parts, or refusal 40.
-pub fn code_by(description: &[u8], count: u8, values: &[u8]) -> Description
+pub fn code_by(description: &[u8], count: u8, values: &[u8]) -> Result<Code, Refusal>
     requires { StatePre description.now values.now }
     ensures { result ≡ code_of_state (state_by description.now count values.now) }
 {
     match described_in(description) {
-        Description::Accepted(code) => {
+        Ok(code) => {
             if is_state(code, description, count, values) {
-                return Description::Accepted(code);
+                return Ok(code);
             }
-            Description::Refused(Refusal::Alone(40))
+            Err(Refusal::NotAState)
         }
-        Description::Refused(_) => Description::Refused(Refusal::Alone(40)),
+        Err(_) => Err(Refusal::NotAState),
     }
 }
 
@@ -66,7 +66,7 @@ pub fn decode_values(
     bytes: &[u8],
     values: &[u8],
     output: &mut [u8],
-) -> Decoded
+) -> Result<Tally, DecodingError>
     requires { DecodePre code bytes.now values.now }
     ensures { (result, output.new)
         ≡ decoded_as (single terms.limit) terms.restart (record_in bytes.now)

@@ -5,6 +5,7 @@ use Prim.Native.Nat.{ℕ, zero, suc, ◌+◌, ◌-◌, ◌<◌, ◌≤◌}
 use native.Mathlib.Nat.{add-zero, le_of_eq, le_of_suc-le-suc}
 use native.Mathlib.Numerals.{add-one}
 use native.Mathlib.Omega.{arith}
+use borrow.Rule.Slice.PartMut.{put_mid}
 use lib.ListN.{length, take, drop, get_or, set, replicate, length-append, length-drop, take-append-drop, drop_of_length-le}
 use lib.Seq.{get_or-take, get_or-drop, take-take, take_at, drop_at, drop-drop, length-take-le, take-nil, take_all, set_split}
 use Rattle.laws.specs.Clauses.{splice, segment}
@@ -86,6 +87,11 @@ module _ {A : Type 0} where
     pub length-splice : length (splice w at ys) ≡ length w
     unfolding splice
     length-splice = simp (length-append, length-drop, length-take-le at w (omega arith)) (omega arith)
+
+  -- the k elements of w from `at` on, overwritten by ys
+  pub put_mid-splice : (w ys zs : List A) (at k : ℕ) → ys ≡ zs → k ≡ length zs → put_mid at k w ys ≡ splice w at zs
+  unfolding splice
+  put_mid-splice w ys zs at k e len = rw (e, len, drop-drop) refl
 
   -- nothing spliced in
   pub splice-nil : (w : List A) (at : ℕ) → splice w at [] ≡ w

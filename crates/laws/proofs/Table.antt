@@ -38,6 +38,10 @@ module _ {A : Type 0} where
   table-get_or [] d = refl
   table-get_or (y ∷ ys) d = ap (λ (r : List A). y ∷ r) (table-get_or ys d)
 
+  -- a list whose elements are f 0, f 1, …
+  pub table_from : (f : ℕ → A) (n : ℕ) (d : A) (xs : List A) → length xs ≡ n → ((k : ℕ) → k < n → get_or xs k d ≡ f k) → xs ≡ table f n
+  table_from f n d xs len h = sym (table-get_or xs d) ∙ ap (table (λ j. get_or xs j d)) len ∙ table_ext _ f n h
+
   -- equal elements
   pub table-replicate : (a : A) (n : ℕ) → table (λ k. a) n ≡ replicate n a
   unfolding table

@@ -94,9 +94,7 @@ pub fn rules_from(mask: &[u8], rules: &mut RuleArray)
         × (length rules.new ≡ SIZE) }
 {
     let size = 8 * mask.len();
-    let mut i = 0;
-    while i < size {
-        rules[i] = bits::mask_bit(mask, i);
-        i += 1;
+    for (i, rule) in rules[..size].iter_mut().enumerate() {
+        *rule = bits::mask_bit(mask, i);
     }
 }

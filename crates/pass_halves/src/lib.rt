@@ -22,11 +22,9 @@ pub fn left_values(forced: bool, h: usize, work: &mut ValueArray) -> Work
         return Work::none();
     }
     let mut steps = 0;
-    let mut j = 0;
-    while j < h {
+    for j in 0..h {
         work[h + j] = f(work[2 * h + j], work[3 * h + j]);
         steps += 1;
-        j += 1;
     }
     Work::of(steps)
 }
@@ -38,11 +36,9 @@ pub fn right_values(h: usize, base: usize, sums: &BitArray, work: &mut ValueArra
         work.old work.new result }
 {
     let mut steps = 0;
-    let mut j = 0;
-    while j < h {
+    for j in 0..h {
         work[h + j] = g(work[2 * h + j], work[3 * h + j], sums[base + j]);
         steps += 1;
-        j += 1;
     }
     Work::of(steps)
 }
@@ -56,11 +52,9 @@ pub fn root_left_values(forced: bool, channel: &[u8], h: usize, work: &mut Value
         return Work::none();
     }
     let mut steps = 0;
-    let mut j = 0;
-    while j < h {
+    for j in 0..h {
         work[h + j] = f(channel_value(channel[j]), channel_value(channel[h + j]));
         steps += 1;
-        j += 1;
     }
     Work::of(steps)
 }
@@ -72,15 +66,13 @@ pub fn root_right_values(channel: &[u8], h: usize, sums: &BitArray, work: &mut V
         work.old work.new result }
 {
     let mut steps = 0;
-    let mut j = 0;
-    while j < h {
+    for j in 0..h {
         work[h + j] = g(
             channel_value(channel[j]),
             channel_value(channel[h + j]),
             sums[j],
         );
         steps += 1;
-        j += 1;
     }
     Work::of(steps)
 }

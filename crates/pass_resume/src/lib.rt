@@ -8,18 +8,9 @@ ghost use Rattle.pass_resume.specs.Resume.{first_bad, resuming_refusals, resumed
 ghost use Rattle.pass_resume.specs.Clauses.{bad_bit, resume_pass, prefix_refusals, ResumePre};
 
 use arrays::{BitArray, SIZE};
-use code::{Code, Description};
+use code::Code;
 use pass_tree::Work;
-use refusal::{Judgement, Refusal};
-
-// What resume answers.
-#[derive(Clone, Copy)]
-pub enum Resumed {
-    // The pass was made, in this many steps.
-    Done { steps: u32 },
-    // The refusal.
-    Refused(Refusal),
-}
+use refusal::Refusal;
 
 // Whether a prefix byte is other than 0 or 1, or a 1 at a frozen index, which the mask does not mark.
 fn is_bad(byte: u8, marked: u8) -> bool
@@ -33,14 +24,12 @@ fn first_bad(mask: &[u8], prefix: &[u8]) -> usize
     requires { length prefix.now ≤ 8 * length mask.now }
     ensures { result ≡ first_bad mask.now prefix.now }
 {
-    let mut i = 0;
-    while i < prefix.len() {
-        if is_bad(prefix[i], bits::mask_bit(mask, i)) {
+    for (i, byte) in prefix.iter().enumerate() {
+        if is_bad(*byte, bits::mask_bit(mask, i)) {
             return i;
         }
-        i += 1;
     }
-    i
+    prefix.len()
 }
 
 // The pass of an accepted call, whose bits are put in `bits` and then in the output.
@@ -78,22 +67,22 @@ fn resume_pass(
 }
 
 // Refusals 17 to 19.
-fn judge_prefix(mask: &[u8], code: Code, prefix: &[u8], output: &[u8]) -> Judgement
+fn judge_prefix(mask: &[u8], code: Code, prefix: &[u8], output: &[u8]) -> Result<(), Refusal>
     requires { Coded mask.now code }
     ensures { result ≡ judge (prefix_refusals mask.now code prefix.now output.now) }
 {
     let size = 1usize << code.n;
     if size < prefix.len() {
-        return Judgement::Refused(Refusal::Alone(17));
+        return Err(Refusal::PrefixLength);
     }
     let index = first_bad(mask, prefix);
     if index < prefix.len() {
-        return Judgement::Refused(Refusal::At { refusal: 18, index });
+        return Err(Refusal::PrefixBit(index));
     }
     if output.len() != size {
-        return Judgement::Refused(Refusal::Alone(19));
+        return Err(Refusal::BitsLength);
     }
-    Judgement::Fine
+    Ok(())
 }
 
 // Refusals 12, 13 and 17 to 19.
@@ -103,14 +92,12 @@ fn judge_resuming(
     channel: &[u8],
     prefix: &[u8],
     output: &[u8],
-) -> Judgement
+) -> Result<(), Refusal>
     requires { Coded mask.now code }
     ensures { result ≡ judge (resuming_refusals mask.now code channel.now prefix.now output.now) }
 {
-    match channel::judge_channel(code, channel) {
-        Judgement::Fine => judge_prefix(mask, code, prefix, output),
-        Judgement::Refused(x) => Judgement::Refused(x),
-    }
+    channel::judge_channel(code, channel)?;
+    judge_prefix(mask, code, prefix, output)
 }
 
 // Resume under a code.
@@ -121,30 +108,26 @@ fn resume_by(
     prefix: &[u8],
     bits: &mut BitArray,
     output: &mut [u8],
-) -> Resumed
+) -> Result<Work, Refusal>
     requires { Coded mask.now code
         × (length bits.old ≡ SIZE) }
     ensures { (result, output.new) ≡ resumed_by mask.now code channel.now prefix.now output.old }
 {
-    match judge_resuming(mask, code, channel, prefix, output) {
-        Judgement::Fine => {
-            let done = resume_pass(mask, code, channel, prefix, bits, output);
-            Resumed::Done { steps: done.steps }
-        }
-        Judgement::Refused(x) => Resumed::Refused(x),
-    }
+    judge_resuming(mask, code, channel, prefix, output)?;
+    Ok(resume_pass(mask, code, channel, prefix, bits, output))
 }
 
 // All N bits of a pass whose first bits are the prefix, one a byte. The array of bits is made first: DECISIONS.md, "Large frames", says why.
-pub fn resume(description: &[u8], channel: &[u8], prefix: &[u8], output: &mut [u8]) -> Resumed
+pub fn resume(
+    description: &[u8],
+    channel: &[u8],
+    prefix: &[u8],
+    output: &mut [u8],
+) -> Result<Work, Refusal>
     ensures { (result, output.new) ≡ resumed description.now channel.now prefix.now output.old }
 {
     let mut bits = [0u8; SIZE];
-    match code::read_description(description) {
-        Description::Accepted(code) => {
-            let mask = code::mask_of(description);
-            resume_by(mask, code, channel, prefix, &mut bits, output)
-        }
-        Description::Refused(x) => Resumed::Refused(x),
-    }
+    let code = code::read_description(description)?;
+    let mask = code::mask_of(description);
+    resume_by(mask, code, channel, prefix, &mut bits, output)
 }

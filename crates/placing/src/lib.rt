@@ -38,13 +38,11 @@ fn placed_byte(mask: &[u8], message: &[u8], m: usize, start: Walk) -> PlacedByte
 {
     let mut walk = start;
     let mut byte: u8 = 0;
-    let mut b: usize = 0;
-    while b < 8 {
+    for _ in 0..8 {
         let c = walk.ones();
         let seen = walk.look(mask);
         byte = byte * 2 + placed_bit(message, c, seen.bit);
         walk = seen.walk;
-        b += 1;
     }
     PlacedByte { byte, walk }
 }
@@ -57,6 +55,7 @@ pub fn place(mask: &[u8], message: &[u8], u: &mut [u8]) -> usize
         × (u.new ≡ splice u.old 0 (packed (placed mask.now message.now (8 * length mask.now)))) }
 {
     let mut walk = Walk::start();
+    // The walk's own count says which byte is next, so that nothing is placed without looks.
     while walk.looks() < 8 * mask.len() {
         let m = walk.looks() / 8;
         let next = placed_byte(mask, message, m, walk);
@@ -85,13 +84,11 @@ pub fn take_out(mask: &[u8], u: &[u8], message: &mut [u8]) -> usize
         × (message.new ≡ splice message.old 0 (taken mask.now u.now (8 * length mask.now))) }
 {
     let mut walk = Walk::start();
-    let mut i: usize = 0;
-    while i < 8 * mask.len() {
+    for bit in &u[..8 * mask.len()] {
         let c = walk.ones();
         let seen = walk.look(mask);
-        take_bit(message, c, seen.bit, u[i]);
+        take_bit(message, c, seen.bit, *bit);
         walk = seen.walk;
-        i += 1;
     }
     walk.looks()
 }

@@ -10,20 +10,15 @@ use borrow.Author.Tests.{ltb-true, ltb-false}
 use lib.Dec.{ltb, eqb}
 use lib.ListN.{length}
 use Rattle.refusal.specs.declared.Refusal.{Refusal}
-use Rattle.refusal.specs.declared.Refusal.TheVariants.{Alone, At}
-use Rattle.refusal.specs.declared.Judgement.{Judgement}
-use Rattle.refusal.specs.declared.Judgement.TheVariants.{Fine, Refused}
 use Rattle.refusal.specs.Judge.{differs, judge, refused_or}
 use Rattle.refusal.proofs.Judge.{Judged, judged_reached}
 use Rattle.refusal.proofs.Tests.{differs-past}
 use Rattle.arrays.specs.Sizes.{largest_n}
 use Rattle.arrays.proofs.Sizes.{fits, steps_fit}
 use Rattle.code.specs.declared.Code.{Code}
-use Rattle.code.specs.declared.Description.{Description}
-use Rattle.code.specs.declared.Description.TheVariants.{Accepted, Refused as NoCode}
 use Rattle.code.specs.Code.{code_length}
 use Rattle.code.specs.Description.{mask_of, code_of, describe_up_to, describe, on_description}
-use Rattle.code.specs.Clauses.{description_refusals}
+use Rattle.code.specs.Clauses.{description_refusals, Description}
 use Rattle.code.proofs.Facts.{described}
 use Rattle.values.specs.Values.{mask_rule}
 use Rattle.channel.specs.Channel.{channel_values, first_outside}
@@ -33,7 +28,6 @@ use Rattle.pass_resume.specs.Resume.{first_bad, resuming_refusals, resumed_by, r
 use Rattle.flip_trial.specs.declared.Restart.{Restart}
 use Rattle.flip_trial.specs.declared.Restart.TheVariants.{AfterFlip}
 use Rattle.flip_trial.specs.Trial.{trial_passes}
-use Rattle.flip_run.specs.declared.Decoded.{Decoded}
 use Rattle.flip_run.specs.Trials.{Verdict, passed, failed, run, answer_of}
 use Rattle.decoder.specs.Decoder.{Decoder, single, sets, refusals_of, trials_of, decoded_under, decoded_as}
 use Rattle.decoder_demands.proofs.StepBounds.{Bounded, bounded}
@@ -41,12 +35,15 @@ use Rattle.hearing.specs.Hearing.{fresh, combined, added_to, add_refusals, is_he
 use Rattle.hearing.proofs.Adding.{count_most, not_full}
 use Rattle.hearing_state.specs.State.{State, state_of, no_state, description_of, is_state, code_of_state, refused_in, with_hearing, opened, decoded_held_with}
 use Rattle.hearing_state.proofs.States.{code_by, code-most, is_hearing_lem}
-use Rattle.hearing_buffer.specs.declared.Kept.{Kept}
-use Rattle.hearing_buffer.specs.declared.Kept.TheVariants as keep
 use Rattle.hearing_buffer.specs.Lent.{hearing_size, state_in, answer_in, opened_in, added_in, cleared_in}
 use Rattle.hearing_preview.specs.Preview.{then_restarted_in, previewed_in}
 use Rattle.polar_number.specs.Number.{Parts, parts, refusal_parts, encoded_parts, resumed_parts, decoded_parts, kept_parts}
 use Rattle.polar_number.specs.Clauses.{Fitting}
+use Rattle.refusal.specs.declared.Refusal.TheVariants.{ChannelValue, NotAState, PrefixBit}
+use Rattle.std.specs.Prelude.{Err, Ok}
+use Rattle.refusal.specs.Clauses.{Judgement}
+use Rattle.flip_run.specs.Clauses.{Decoded}
+use Rattle.hearing_buffer.specs.Clauses.{Kept}
 
 -- an answer beside the output's bytes
 abbrev pub Fits : {A : Type 0} → (A → Parts) → A × List ℕ → Type 0
@@ -60,49 +57,50 @@ fitting r v s = record { refusal_fits = r; value_fits = v; steps_fits = s }
 abbrev RefusalFits : Refusal → Type 0
 RefusalFits x = Fitting (refusal_parts x)
 
-alone : {i : ℕ} → i < 2 ^ 8 → RefusalFits (Alone i)
+-- one that names no index
+alone : {i : ℕ} → i < 2 ^ 8 → Fitting (parts i 0 0)
 alone l = fitting l (omega arith) (omega arith)
 
 -- an index below a length that is at most N
 module _ (c : Code) (n_most : c.n ≤ largest_n) where
-  at : {i index size : ℕ} → i < 2 ^ 8 → size ≤ code_length c → ltb index size ≡ true → RefusalFits (At i index)
+  at : {i index size : ℕ} → i < 2 ^ 8 → size ≤ code_length c → ltb index size ≡ true → Fitting (parts i index 0)
   at {i} {index} {size} l m t = fitting l (omega (arith, ltb-true index size t, fits n_most)) (omega arith)
 
   -- refusal 13, after 12
-  outside-fits : (channel : List ℕ) → differs (length channel) (code_length c) ≡ false → ltb (first_outside channel) (length channel) ≡ true → RefusalFits (At 13 (first_outside channel))
+  outside-fits : (channel : List ℕ) → differs (length channel) (code_length c) ≡ false → ltb (first_outside channel) (length channel) ≡ true → RefusalFits (ChannelValue (first_outside channel))
   outside-fits channel t12 = at (omega arith) (le_of_eq (differs-past (length channel) (code_length c) t12))
 
   -- refusal 18, after 17
-  bad_fits : (mask prefix : List ℕ) → ltb (code_length c) (length prefix) ≡ false → ltb (first_bad mask prefix) (length prefix) ≡ true → RefusalFits (At 18 (first_bad mask prefix))
+  bad_fits : (mask prefix : List ℕ) → ltb (code_length c) (length prefix) ≡ false → ltb (first_bad mask prefix) (length prefix) ≡ true → RefusalFits (PrefixBit (first_bad mask prefix))
   bad_fits mask prefix t17 = at (omega arith) (ltb-false (code_length c) (length prefix) t17)
 
 -- ---- a call: its description, then its tests
 
 abbrev DescriptionFits : Description → Type 0
-DescriptionFits (Accepted c) = Unit
-DescriptionFits (NoCode x) = RefusalFits x
+DescriptionFits (Ok c) = Unit
+DescriptionFits (Err x) = RefusalFits x
 
 description-fits : (d : List ℕ) → DescriptionFits (describe d)
 unfolding describe_up_to refused_or
 description-fits d = go (judge (description_refusals d)) (judged_reached RefusalFits (description_refusals d) (search (rules, alone)))
   where
-    go : (j : Judgement) → Judged RefusalFits j → DescriptionFits (refused_or j NoCode (Accepted (code_of d)))
-    go Fine f = tt
-    go (Refused x) f = f
+    go : (j : Judgement) → Judged RefusalFits j → DescriptionFits (refused_or j Err (Ok (code_of d)))
+    go (Ok tt) f = tt
+    go (Err x) f = f
 
 -- what holds of its refusals, which fit, and of its answer, holds of what it gives
 module _ {X : Type 0} (Holds : X → Type 0) (refuse : Refusal → X) (carry : (x : Refusal) → RefusalFits x → Holds (refuse x)) where
   on-judged : (j : Judgement) → Judged RefusalFits j → {answer : X} → Holds answer → Holds (refused_or j refuse answer)
   unfolding refused_or
-  on-judged Fine f a = a
-  on-judged (Refused x) f a = carry x f
+  on-judged (Ok tt) f a = a
+  on-judged (Err x) f a = carry x f
 
-  on-code : (a : Description) → DescriptionFits a → {answer : Code → X} → ((c : Code) → a ≡ Accepted c → Holds (answer c)) → Holds (on_description a refuse answer)
-  on-code (Accepted c) f h = h c refl
-  on-code (NoCode x) f h = carry x f
+  on-code : (a : Description) → DescriptionFits a → {answer : Code → X} → ((c : Code) → a ≡ Ok c → Holds (answer c)) → Holds (on_description a refuse answer)
+  on-code (Ok c) f h = h c refl
+  on-code (Err x) f h = carry x f
 
   on_call : (d : List ℕ) (tests : Code → List (Bool × Refusal)) {answer : Code → X}
-      → ((c : Code) → describe d ≡ Accepted c → Judged RefusalFits (judge (tests c)) × Holds (answer c))
+      → ((c : Code) → describe d ≡ Ok c → Judged RefusalFits (judge (tests c)) × Holds (answer c))
       → Holds (on_description (describe d) refuse (λ c. refused_or (judge (tests c)) refuse (answer c)))
   on_call d tests h = on-code (describe d) (description-fits d) (λ c e. on-judged (judge (tests c)) (h c e).0 (h c e).1)
 
@@ -153,13 +151,13 @@ decoded_fits p restart d channel output =
 state_fits : (s : State) → DescriptionFits (code_of_state s)
 state_fits s = by (describe (description_of s))
   where
-    at : (t : Bool) (c : Code) → DescriptionFits (cond t (Accepted c) (NoCode (Alone 40)))
+    at : (t : Bool) (c : Code) → DescriptionFits (cond t (Ok c) (Err NotAState))
     at true c = tt
     at false c = alone (omega arith)
 
     by : (a : Description) → DescriptionFits (code_by s a)
-    by (Accepted c) = at (is_state c s) c
-    by (NoCode x) = alone (omega arith)
+    by (Ok c) = at (is_state c s) c
+    by (Err x) = alone (omega arith)
 
 -- what is kept of an answer, its count within 255
 abbrev KeptFits : List ℕ → Judgement × State → Type 0
@@ -169,14 +167,14 @@ kept_refused : (b : List ℕ) (s : State) (x : Refusal) → RefusalFits x → Ke
 unfolding refused_or
 kept_refused b s x f = f
 
-kept_fine : (b : List ℕ) (s : State) → s.hearing.count ≤ 255 → KeptFits b (Fine, s)
+kept_fine : (b : List ℕ) (s : State) → s.hearing.count ≤ 255 → KeptFits b (Ok tt, s)
 unfolding refused_or
 kept_fine b s l = fitting (omega arith) (omega arith) (omega arith)
 
 pub opened-fits : (d b : List ℕ) → Fits kept_parts (opened_in d b)
 opened-fits d b = at (eqb (length b) hearing_size)
   where
-    at : (t : Bool) → Fits kept_parts (cond t (answer_in (opened d) b) (keep.Refused (Alone 40), b))
+    at : (t : Bool) → Fits kept_parts (cond t (answer_in (opened d) b) (Err NotAState, b))
     at true = on-code (KeptFits b) (refused_in no_state) (kept_refused b no_state) (describe d) (description-fits d) (λ c e. kept_fine b (state_of d fresh) (omega arith))
     at false = alone (omega arith)
 
@@ -185,11 +183,11 @@ module _ (b channel : List ℕ) where
   s = state_in b
 
   added-under : (c : Code) → is_hearing c s.hearing ≡ true → (j : Judgement) → judge (add_refusals c s.hearing.count channel) ≡ j → Judged RefusalFits j
-      → KeptFits b (refused_or j (refused_in s) (Fine, with_hearing s (added_to c s.hearing channel)))
+      → KeptFits b (refused_or j (refused_in s) (Ok tt, with_hearing s (added_to c s.hearing channel)))
   unfolding refused_or
-  added-under c is Fine e f =
+  added-under c is (Ok tt) e f =
       kept_fine b (with_hearing s (added_to c s.hearing channel)) (omega (arith, not_full c s.hearing.count channel e (count_most c s.hearing is)))
-  added-under c is (Refused x) e f = kept_refused b s x f
+  added-under c is (Err x) e f = kept_refused b s x f
 
   pub added-fits : Fits kept_parts (added_in b channel)
   added-fits =
@@ -210,8 +208,8 @@ held_fits restart s limit output =
 
 -- a preview: the refusal of the add, or the answer of decoding
 previewed-by : (a : Kept × List ℕ) (limit : ℕ) (output : List ℕ) → Fits kept_parts a → Fits decoded_parts (then_restarted_in a limit output)
-previewed-by (keep.Done count, copy) limit output f = held_fits AfterFlip (state_in copy) limit output
-previewed-by (keep.Refused x, copy) limit output f = f
+previewed-by (Ok count, copy) limit output f = held_fits AfterFlip (state_in copy) limit output
+previewed-by (Err x, copy) limit output f = f
 
 pub previewed-fits : (b channel : List ℕ) (limit : ℕ) (output : List ℕ) → Fits decoded_parts (previewed_in b channel limit output)
 previewed-fits b channel limit output = previewed-by (added_in b channel) limit output (added-fits b channel)

@@ -5,10 +5,8 @@ ghost use Rattle.std.specs.Prelude.{◌≡◌, ◌<◌, ◌^◌};
 ghost use Rattle.polar_number.specs.Number.{parts, packed_parts, refusal_parts, encoded_parts, resumed_parts, decoded_parts, kept_parts};
 ghost use Rattle.polar_number.specs.Clauses.{Fitting};
 
-use encoder::Encoded;
-use flip_run::Decoded;
-use hearing_buffer::Kept;
-use pass_resume::Resumed;
+use flip_run::{DecodingError, Tally};
+use pass_tree::Work;
 use refusal::Refusal;
 
 // The number that comes back: refusal, then trial or index, then steps.
@@ -24,53 +22,52 @@ fn refusal_answer(refused: Refusal) -> u64
     requires { Fitting (refusal_parts refused) }
     ensures { result ≡ packed_parts (refusal_parts refused) }
 {
-    match refused {
-        Refusal::Alone(i) => answer(i, 0, 0),
-        Refusal::At { refusal, index } => answer(refusal, index as u64, 0),
-    }
+    answer(refused.number(), refused.index().unwrap_or(0) as u64, 0)
 }
 
 // The number of an encoder's answer.
-pub fn encoded_answer(encoded: Encoded) -> u64
+pub fn encoded_answer(encoded: Result<(), Refusal>) -> u64
     requires { Fitting (encoded_parts encoded) }
     ensures { result ≡ packed_parts (encoded_parts encoded) }
 {
     match encoded {
-        Encoded::Done => answer(0, 0, 0),
-        Encoded::Refused(x) => refusal_answer(x),
+        Ok(()) => answer(0, 0, 0),
+        Err(x) => refusal_answer(x),
     }
 }
 
 // The number of a resumed pass's answer.
-pub fn resumed_answer(resumed: Resumed) -> u64
+pub fn resumed_answer(resumed: Result<Work, Refusal>) -> u64
     requires { Fitting (resumed_parts resumed) }
     ensures { result ≡ packed_parts (resumed_parts resumed) }
 {
     match resumed {
-        Resumed::Done { steps } => answer(0, 0, steps as u64),
-        Resumed::Refused(x) => refusal_answer(x),
+        Ok(work) => answer(0, 0, work.steps as u64),
+        Err(x) => refusal_answer(x),
     }
 }
 
 // The number of a decoder's answer.
-pub fn decoded_answer(decoded: Decoded) -> u64
+pub fn decoded_answer(decoded: Result<Tally, DecodingError>) -> u64
     requires { Fitting (decoded_parts decoded) }
     ensures { result ≡ packed_parts (decoded_parts decoded) }
 {
     match decoded {
-        Decoded::Accepted { trial, steps } => answer(0, trial as u64, steps as u64),
-        Decoded::Refused16 { trials, steps } => answer(16, trials as u64, steps as u64),
-        Decoded::Refused(x) => refusal_answer(x),
+        Ok(passed) => answer(0, passed.trials as u64, passed.steps as u64),
+        Err(DecodingError::NonePassed(failed)) => {
+            answer(16, failed.trials as u64, failed.steps as u64)
+        }
+        Err(DecodingError::Refused(x)) => refusal_answer(x),
     }
 }
 
 // The number of an answer to a call on a lent state.
-pub fn kept_answer(kept: Kept) -> u64
+pub fn kept_answer(kept: Result<u8, Refusal>) -> u64
     requires { Fitting (kept_parts kept) }
     ensures { result ≡ packed_parts (kept_parts kept) }
 {
     match kept {
-        Kept::Done { count } => answer(0, count as u64, 0),
-        Kept::Refused(x) => refusal_answer(x),
+        Ok(count) => answer(0, count as u64, 0),
+        Err(x) => refusal_answer(x),
     }
 }

@@ -2,16 +2,14 @@
 // answered by a number that is no result.
 #![tactic(auto)]
 
-ghost use Rattle.std.specs.Prelude.{◌≡◌};
-ghost use Rattle.refusal.specs.Judge.{number_of};
+ghost use Rattle.std.specs.Prelude.{◌≡◌, unwrap_or};
+ghost use Rattle.refusal.specs.Judge.{number_of, index_of};
 ghost use Rattle.code.specs.Description.{describe};
 ghost use Rattle.quantiser.specs.Quantise.{quantised};
-ghost use Rattle.probe.specs.Numbers.{index_of, description_numbers, quantised_numbers};
+ghost use Rattle.probe.specs.Numbers.{description_numbers, quantised_numbers};
 ghost use Rattle.probe.specs.Clauses.{all_bits, packing, unpacking, bit_at, ones_answer, placing_answer, taking_answer};
 
 use arrays::BYTES;
-use code::Description;
-use quantiser::Quantised;
 use refusal::Refusal;
 
 // A refusal's number.
@@ -23,12 +21,9 @@ fn refusal_number(x: Refusal) -> u64
 
 // A refusal's index, or 0.
 fn refusal_index(x: Refusal) -> u64
-    ensures { result ≡ index_of x }
+    ensures { result ≡ unwrap_or (index_of x) 0 }
 {
-    match x {
-        Refusal::Alone(_) => 0,
-        Refusal::At { refusal: _, index } => index as u64,
-    }
+    x.index().unwrap_or(0) as u64
 }
 
 // Returns the refusal's number, or 0. `numbers` holds n, r, polynomial, start and k of an accepted description.
@@ -37,7 +32,7 @@ pub extern "C" fn probe_description(d: &[u8], numbers: &mut [u64; 5]) -> u64
     ensures { (result, numbers.new) ≡ description_numbers (describe d.now) numbers.old }
 {
     match code::read_description(d) {
-        Description::Accepted(code) => {
+        Ok(code) => {
             numbers[0] = code.n as u64;
             numbers[1] = code.r as u64;
             numbers[2] = code.polynomial as u64;
@@ -45,7 +40,7 @@ pub extern "C" fn probe_description(d: &[u8], numbers: &mut [u64; 5]) -> u64
             numbers[4] = code.k as u64;
             0
         }
-        Description::Refused(x) => refusal_number(x),
+        Err(x) => refusal_number(x),
     }
 }
 
@@ -53,14 +48,7 @@ pub extern "C" fn probe_description(d: &[u8], numbers: &mut [u64; 5]) -> u64
 fn are_bits(bits: &[u8]) -> bool
     ensures { result ≡ all_bits bits.now }
 {
-    let mut i = 0;
-    while i < bits.len() {
-        if 1 < bits[i] {
-            return false;
-        }
-        i += 1;
-    }
-    true
+    bits.iter().all(|bit| *bit < 2)
 }
 
 // Packs bits. Returns 0, or 1 if the call is not admitted.
@@ -158,12 +146,12 @@ pub extern "C" fn probe_quantise(
         × (output.new ≡ (quantised scale samples.now output.old).1) }
 {
     match quantiser::quantise(scale, samples, output) {
-        Quantised::Done(s) => {
+        Ok(s) => {
             numbers[0] = 0;
             numbers[1] = s.clipped as u64;
             s.peak
         }
-        Quantised::Refused(x) => {
+        Err(x) => {
             numbers[0] = refusal_number(x);
             numbers[1] = refusal_index(x);
             0.0

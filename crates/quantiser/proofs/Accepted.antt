@@ -12,18 +12,17 @@ use Rattle.quantiser_level.specs.Level.{level}
 use Rattle.channel.proofs.Bytes.{channel_byte}
 use Rattle.quantiser_level.proofs.Levels.{level_le}
 use Rattle.quantiser.specs.declared.Summary.{Summary}
-use Rattle.quantiser.specs.declared.Quantised.{Quantised}
-use Rattle.quantiser.specs.declared.Quantised.TheVariants.{Done}
 use Rattle.quantiser.specs.Quantise.{product, peak_of, clipped_of, bytes, quantised}
-use Rattle.quantiser.specs.Clauses.{accepted}
-use Rattle.quantiser.specs.Claims.{WellFormed, accepts, Peak}
+use Rattle.quantiser.specs.Clauses.{accepted, Quantised}
+use Rattle.quantiser.specs.Claims.{WellFormed, Peak}
 use Rattle.quantiser.proofs.Numbers.{admitted-number}
 use Rattle.quantiser.proofs.WellFormed.{well_formed_answer, well_formed_exactly}
 use Rattle.quantiser.proofs.Totals.{peak_number, peak_above, peak_reached}
+use Rattle.std.specs.Prelude.{Ok, is_ok}
 
-module _ (scale : Float) (samples : List Float) (output : List ℕ) (s : Summary) (written : List ℕ) (done : quantised scale samples output ≡ (Done s, written)) where
+module _ (scale : Float) (samples : List Float) (output : List ℕ) (s : Summary) (written : List ℕ) (done : quantised scale samples output ≡ (Ok s, written)) where
   abbrev answer : Quantised × List ℕ
-  answer = (Done s, written)
+  answer = (Ok s, written)
 
   abbrev p : ℕ → Float
   p = product scale samples
@@ -31,7 +30,7 @@ module _ (scale : Float) (samples : List Float) (output : List ℕ) (s : Summary
   -- no refusal applied
   admitted : WellFormed scale samples output × (accepted scale samples ≡ answer)
   admitted =
-      let w = (well_formed_exactly scale samples output).1 (ap (λ (z : Quantised × List ℕ). accepts z.0) done) in
+      let w = (well_formed_exactly scale samples output).1 (ap (λ (z : Quantised × List ℕ). is_ok z.0) done) in
       (w, sym (well_formed_answer scale samples output w) ∙ done)
 
   pub peak_largest : Peak p (length samples) s.peak
@@ -44,7 +43,7 @@ module _ (scale : Float) (samples : List Float) (output : List ℕ) (s : Summary
   }
     where
       same : peak_of p (length samples) ≡ s.peak
-      same = let e : Done (record { peak = peak_of p (length samples); clipped = clipped_of p (length samples) }) ≡ Done s = ap (λ (x : Quantised × List ℕ). x.0) admitted.1 in cc
+      same = let e : Ok (record { peak = peak_of p (length samples); clipped = clipped_of p (length samples) }) ≡ Ok s = ap (λ (x : Quantised × List ℕ). x.0) admitted.1 in cc
 
   -- the bytes are as many as the samples, and channel values all
   written_is : bytes p (length samples) ≡ written

@@ -1,31 +1,17 @@
--- Which floats are numbers: how a program tests it, and that a valid scale times a number is one.
-use mathlib.Core.Path.{◌≡◌, refl, sym, ap, ◌∙◌, subst}
+-- A valid scale times a number is a number.
+use mathlib.Core.Path.{◌≡◌}
 use mathlib.Core.Bool.{Bool, true, false, not, true≢false}
 use mathlib.Core.List.{List}
 use Prim.Native.Nat.{ℕ, zero, suc, ◌+◌, ◌*◌, ◌^◌, ◌<◌}
 use native.Mathlib.Omega.{arith}
 use lib.Dec.{T, ltb, ltb→lt, eqb-suc-zero}
-use lib.Ieee.{Float, nan, inf, fin, Format, binary32, prec, emax, low, up, down, odd, units, round, mul, lt, ne, is_nan}
-use lib.Ieee.Compare.{differs_from_itself, nan_differs}
+use lib.Ieee.{Float, nan, inf, fin, Format, binary32, prec, emax, low, up, down, odd, units, round, mul, lt, is_nan}
 use lib.Ieee.Fits.{and_l}
 use lib.ListN.{length, get_or}
 use Rattle.laws.proofs.Choice.{cond_ind}
 use Rattle.laws.proofs.First.{first-before}
 use Rattle.quantiser.specs.Quantise.{product, valid_scale}
 use Rattle.quantiser.specs.Claims.{WellFormed}
-
--- `y != y`
-pub differs_nan : (y : Float) → ne y y ≡ true → is_nan y ≡ true
-unfolding is_nan
-differs_nan y h = ap is_nan (differs_from_itself y (subst T (sym h) tt))
-
-pub same_number : (y : Float) → ne y y ≡ false → is_nan y ≡ false
-unfolding is_nan
-same_number nan h = absurd (true≢false (sym nan_differs ∙ h))
-same_number (inf s) h = refl
-same_number (fin s m e) h = refl
-
--- ---- what is rounded is a number
 
 odd_number : (d : ℕ) (s : Bool) (q k l : ℕ) → T (not (is_nan (odd d s q k l)))
 unfolding odd is_nan

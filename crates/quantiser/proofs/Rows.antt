@@ -7,9 +7,9 @@ use Rattle.laws.specs.First.{first_where}
 use Rattle.laws.specs.Table.{table}
 use Rattle.refusal.specs.Judge.{judge, refused_or}
 use Rattle.quantiser_level.specs.Level.{magnitude, quarters, whole, level, is_clipped}
-use Rattle.quantiser.specs.declared.Quantised.{Quantised}
-use Rattle.quantiser.specs.declared.Quantised.TheVariants.{Done}
 use Rattle.quantiser.specs.Quantise.{larger, peak_of, clipped_of, valid_scale, quantised}
+use Rattle.std.specs.Prelude.{Ok}
+use Rattle.quantiser.specs.Clauses.{Quantised}
 
 -- 0.125, −0.125, 0.375, 7.8125 and 7.875
 abbrev row : List Float
@@ -23,7 +23,7 @@ row =
 
 -- 1, −1, 2, 31 and 31, of which the last is clipped
 abbrev answer : Quantised × List ℕ
-answer = (Done record { peak = of_bits binary32 0x40fc_0000; clipped = 1 }, 1 ∷ 255 ∷ 2 ∷ 31 ∷ 31 ∷ [])
+answer = (Ok record { peak = of_bits binary32 0x40fc_0000; clipped = 1 }, 1 ∷ 255 ∷ 2 ∷ 31 ∷ 31 ∷ [])
 
 pub row_is : quantised (of_bits binary32 0x3f80_0000) row (0 ∷ 0 ∷ 0 ∷ 0 ∷ 0 ∷ []) ≡ answer
 unfolding of_bits mul lt is_nan judge refused_or table first_where magnitude quarters whole level is_clipped larger peak_of clipped_of valid_scale quantised

@@ -9,18 +9,16 @@ use lib.Dec.{T}
 use lib.Ieee.{Float}
 use lib.Ieee.Bits.{is_true}
 use lib.ListN.{length}
-use Rattle.refusal.specs.declared.Judgement.TheVariants.{Fine}
 use Rattle.refusal.specs.Judge.{judge}
 use Rattle.refusal.proofs.Judge.{judge-none, judge_no, judge-past, refused_fine, accepts-exactly}
 use Rattle.refusal.proofs.Tests.{differs-past, differs_no}
-use Rattle.quantiser.specs.declared.Quantised.{Quantised}
-use Rattle.quantiser.specs.declared.Quantised.TheVariants.{Refused}
 use Rattle.quantiser.specs.Quantise.{first_nan, valid_scale, quantising_refusals, quantised}
-use Rattle.quantiser.specs.Clauses.{accepted}
-use Rattle.quantiser.specs.Claims.{WellFormed, accepts}
+use Rattle.quantiser.specs.Clauses.{accepted, Quantised}
+use Rattle.quantiser.specs.Claims.{WellFormed}
+use Rattle.std.specs.Prelude.{Err, Ok, is_ok}
 
 module _ (scale : Float) (samples : List Float) (output : List ℕ) where
-  pub fine_well_formed : judge (quantising_refusals scale samples output) ≡ Fine → WellFormed scale samples output
+  pub fine_well_formed : judge (quantising_refusals scale samples output) ≡ Ok tt → WellFormed scale samples output
   fine_well_formed e =
       let t20 = judge-past _ _ _ e in
       let t21 = judge-past _ _ _ t20.1 in
@@ -30,7 +28,7 @@ module _ (scale : Float) (samples : List Float) (output : List ℕ) where
         all_numbers = ltb-false (first_nan samples) (length samples) t22.0;
       }
 
-  well_formed_fine : WellFormed scale samples output → judge (quantising_refusals scale samples output) ≡ Fine
+  well_formed_fine : WellFormed scale samples output → judge (quantising_refusals scale samples output) ≡ Ok tt
   well_formed_fine a =
       judge_no _ _ _ (differs_no (length samples) (length output) a.same_length)
       ∙ judge_no _ _ _ (ap not (is_true (valid_scale scale) a.scale_valid))
@@ -42,8 +40,8 @@ module _ (scale : Float) (samples : List Float) (output : List ℕ) where
   unfolding quantised
   well_formed_answer w = refused_fine _ _ _ (well_formed_fine w)
 
-  pub well_formed_exactly : WellFormed scale samples output ↔ (accepts (quantised scale samples output).0 ≡ true)
+  pub well_formed_exactly : WellFormed scale samples output ↔ (is_ok (quantised scale samples output).0 ≡ true)
   unfolding quantised
   well_formed_exactly =
-      accepts-exactly (λ (z : Quantised × List ℕ). accepts z.0) (λ x. (Refused x, output)) (λ x. refl) (accepted scale samples) refl
+      accepts-exactly (λ (z : Quantised × List ℕ). is_ok z.0) (λ x. (Err x, output)) (λ x. refl) (accepted scale samples) refl
       (judge (quantising_refusals scale samples output)) (well_formed_fine, fine_well_formed)

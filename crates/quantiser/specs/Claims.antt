@@ -1,9 +1,7 @@
 -- What the theorems of this crate state of its definitions.
-use Rattle.std.specs.Prelude.{◌≡◌, Bool, true, false, List, ℕ, ◌≤◌, ◌<◌, T, Float, length}
+use Rattle.std.specs.Prelude.{◌≡◌, false, List, ℕ, ◌≤◌, ◌<◌, T, Float, length}
 use Rattle.std.specs.Float.Ieee.{lt, is_nan}
 use Rattle.quantiser_level.specs.Level.{plus_zero, magnitude}
-use Rattle.quantiser.specs.declared.Quantised.{Quantised}
-use Rattle.quantiser.specs.declared.Quantised.TheVariants.{Done, Refused}
 use Rattle.quantiser.specs.Quantise.{first_nan, valid_scale}
 
 -- None of refusals 20 to 22 applies. The quantiser accepts exactly then: `well_formed_exactly` of proofs/WellFormed.antt.
@@ -14,11 +12,6 @@ pub record WellFormed (scale : Float) (samples : List Float) (output : List ℕ)
   pub scale_valid : T (valid_scale scale)
   -- not 22
   pub all_numbers : length samples ≤ first_nan samples
-
--- whether an answer is no refusal
-abbrev pub accepts : Quantised → Bool
-accepts (Done s) = true
-accepts (Refused x) = false
 
 -- x does not exceed y, for two numbers
 abbrev pub Under : Float → Float → Type 0

@@ -1,15 +1,14 @@
 -- Document 01, "Sample quantiser": the answer and the output bytes, with refusals 20, 21 and 22 in order.
-use Rattle.std.specs.Prelude.{Bool, false, not, ◌&&◌, cond, List, [], ◌∷◌, ℕ, zero, suc, ◌+◌, ltb, Float, length, get_or}
+use Rattle.std.specs.Prelude.{Bool, false, not, ◌&&◌, cond, List, [], ◌∷◌, ℕ, zero, suc, ◌+◌, ltb, Float, length, get_or, Result, Ok, Err}
 use Rattle.std.specs.Float.{nan, inf, binary32}
 use Rattle.std.specs.Float.Ieee.{mul, lt, is_nan}
 use Rattle.laws.specs.First.{first_where}
 use Rattle.laws.specs.Table.{table}
 use Rattle.refusal.specs.declared.Refusal.{Refusal}
-use Rattle.refusal.specs.declared.Refusal.TheVariants.{Alone, At}
 use Rattle.refusal.specs.Judge.{differs, judge, refused_or}
 use Rattle.quantiser_level.specs.Level.{plus_zero, level_of}
-use Rattle.quantiser.specs.declared.Quantised.{Quantised}
-use Rattle.quantiser.specs.declared.Quantised.TheVariants.{Done, Refused}
+use Rattle.quantiser.specs.declared.Summary.{Summary}
+use Rattle.refusal.specs.declared.Refusal.TheVariants.{NotANumber, SamplesLength, Scale}
 
 -- p for sample i: scale · y, rounded a single time
 abbrev pub product : Float → List Float → ℕ → Float
@@ -44,15 +43,15 @@ first_nan samples = first_where (λ i. is_nan (get_or samples i nan)) (length sa
 -- the refusals in order, each test beside its refusal
 abbrev pub quantising_refusals : Float → List Float → List ℕ → List (Bool × Refusal)
 quantising_refusals scale samples output =
-    (differs (length samples) (length output), Alone 20)
-    ∷ (not (valid_scale scale), Alone 21)
-    ∷ (ltb (first_nan samples) (length samples), At 22 (first_nan samples))
+    (differs (length samples) (length output), SamplesLength)
+    ∷ (not (valid_scale scale), Scale)
+    ∷ (ltb (first_nan samples) (length samples), NotANumber (first_nan samples))
     ∷ []
 
 -- the answer, and the bytes that the output holds afterwards. A refusal writes nothing.
-unfoldable pub quantised : Float → List Float → List ℕ → Quantised × List ℕ
+unfoldable pub quantised : Float → List Float → List ℕ → Result Summary Refusal × List ℕ
 quantised scale samples output =
     let p = product scale samples in
     let n = length samples in
-    refused_or (judge (quantising_refusals scale samples output)) (λ x. (Refused x, output))
-    (Done (record { peak = peak_of p n; clipped = clipped_of p n }), bytes p n)
+    refused_or (judge (quantising_refusals scale samples output)) (λ x. (Err x, output))
+    (Ok (record { peak = peak_of p n; clipped = clipped_of p n }), bytes p n)

@@ -135,7 +135,7 @@ shifted_lt c h = lt_of_lt_of_le (shl_lt 24 (c / 0x80_0000 - 123) (omega arith)) 
 
 -- what the code makes of the bits m of a magnitude
 abbrev clamp : ℕ → ℕ
-clamp m = max 0x3dff_ffff (min 0x40ff_ffff m)
+clamp m = max 0x3dff_ffff (min m 0x40ff_ffff)
 
 abbrev converted : ℕ → ℕ
 converted c = nearest (shifted c) 0x200_0000

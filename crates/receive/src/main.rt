@@ -53,15 +53,15 @@ fn receive<R: Read, W: Write>(
     ensures over { IfOk result StreamOver }
     ensures broken_pipe { IfErr result (λ e. error_kind e ≡ ErrorKind.BrokenPipe) }
 {
-    let mut stream = receive_stream::start();
-    while stream.turns < u64::MAX {
+    let mut stream = Stream::start();
+    for _turn in 0..u64::MAX {
         if stream.wanted == 0 {
             return Ok(stream);
         }
         let there = stream.there;
         let end = there + stream.wanted;
         let got = read_full(reader, &mut bytes[there..end]);
-        stream = receive_stream::advance(stream, got, bytes, held, output);
+        stream = stream.advance(got, bytes, held, output);
         let ready = stream.ready;
         if let Err(error) = writer.write_all(&output[..ready]) {
             if error.kind() == ErrorKind::BrokenPipe {

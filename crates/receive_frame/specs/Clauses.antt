@@ -1,7 +1,7 @@
 -- What only contracts below the public operations cite. Nothing here need be believed.
 use Rattle.std.specs.Prelude.{List, ℕ}
-use Rattle.flip_run.specs.declared.Decoded.{Decoded}
 use Rattle.receive_frame.specs.Frame.{answer_line}
+use Rattle.flip_run.specs.Clauses.{Decoded}
 
 -- the line of a decoder's answer and of the output that it left
 abbrev pub line_of_answer : Decoded × List ℕ → List ℕ

@@ -1,20 +1,21 @@
 -- Document 01, "Program `receive`": the line of a channel record, from the held description and the record's bytes. The held description
 -- is the empty list if none is held.
-use Rattle.std.specs.Prelude.{List, [], ◌∷◌, ℕ, ltb, eqb, length, drop, replicate}
-use Rattle.refusal.specs.declared.Refusal.TheVariants.{Alone}
+use Rattle.std.specs.Prelude.{List, [], ◌∷◌, ℕ, ltb, eqb, length, drop, replicate, Err, Ok, Result}
 use Rattle.refusal.specs.Judge.{judge, refused_or, number_of}
 use Rattle.bits.specs.Packing.{bytes_for}
 use Rattle.code.specs.Description.{word, describe, on_description}
-use Rattle.flip_run.specs.declared.Decoded.{Decoded}
-use Rattle.flip_run.specs.declared.Decoded.TheVariants.{Accepted, Refused16, Refused}
 use Rattle.decoder.specs.Decoder.{decoded_restarted}
 use Rattle.receive_lines.specs.Line.{ok_line, no_line}
+use Rattle.flip_run.specs.declared.DecodingError.TheVariants.{NonePassed, Refused}
+use Rattle.refusal.specs.declared.Refusal.TheVariants.{NoDescription, ShortRecord}
+use Rattle.flip_run.specs.declared.Tally.{Tally}
+use Rattle.flip_run.specs.declared.DecodingError.{DecodingError}
 
--- the line of a decoder's answer and the payload that it wrote: refusal 16 is `Refused16`
-abbrev pub answer_line : Decoded → List ℕ → List ℕ
-answer_line (Accepted trial steps) payload = ok_line trial steps payload
-answer_line (Refused16 trials steps) payload = no_line 16
-answer_line (Refused x) payload = no_line (number_of x)
+-- the line of a decoder's answer and the payload that it wrote: refusal 16 is `NonePassed`
+abbrev pub answer_line : Result Tally DecodingError → List ℕ → List ℕ
+answer_line (Ok passed) payload = ok_line passed.trials passed.steps payload
+answer_line (Err (NonePassed failed)) payload = no_line 16
+answer_line (Err (Refused x)) payload = no_line (number_of x)
 
 -- restarted decoding under the held description, into as many bytes as its payload takes
 unfoldable pub decoding_line : List ℕ → List ℕ → ℕ → List ℕ
@@ -25,5 +26,5 @@ decoding_line held channel limit =
 -- a channel record: T is in bytes 4 and 5, the values are in bytes 6 on
 unfoldable pub channel_line : List ℕ → List ℕ → List ℕ
 channel_line held bytes =
-    refused_or (judge ((eqb (length held) 0, Alone 23) ∷ (ltb (length bytes) 6, Alone 24) ∷ [])) (λ x. no_line (number_of x))
+    refused_or (judge ((eqb (length held) 0, NoDescription) ∷ (ltb (length bytes) 6, ShortRecord) ∷ [])) (λ x. no_line (number_of x))
     (decoding_line held (drop 6 bytes) (word bytes 4))

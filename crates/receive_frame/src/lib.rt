@@ -12,8 +12,8 @@ ghost use Rattle.receive_frame.specs.Clauses.{line_of_answer};
 ghost use Rattle.receive_frame.specs.Frame.{answer_line, decoding_line, channel_line};
 
 use arrays::BYTES;
-use code::{Code, Description};
-use flip_run::{Decoded, Terms};
+use code::Code;
+use flip_run::{DecodingError, Tally, Terms};
 use flip_trial::Restart;
 use receive_lines::LINE;
 use refusal::Refusal;
@@ -27,22 +27,19 @@ pub fn put_refusal(line: &mut [u8], refused: Refusal) -> usize
 }
 
 // The line of a decoder's answer and the payload that it wrote.
-fn put_answer(line: &mut [u8], answer: Decoded, payload: &[u8]) -> usize
+fn put_answer(line: &mut [u8], answer: Result<Tally, DecodingError>, payload: &[u8]) -> usize
     requires { (length payload.now ≤ BYTES) × (LINE ≤ length line.old) }
     ensures { PutPost line.old 0 (answer_line answer payload.now) line.new result }
 {
     match answer {
-        Decoded::Accepted { trial, steps } => receive_lines::put_ok(
+        Ok(passed) => receive_lines::put_ok(
             line,
-            trial as u64,
-            steps as u64,
+            passed.trials as u64,
+            passed.steps as u64,
             payload,
         ),
-        Decoded::Refused16 {
-            trials: _,
-            steps: _,
-        } => receive_lines::put_line(line, b"no", 16),
-        Decoded::Refused(x) => put_refusal(line, x),
+        Err(DecodingError::NonePassed(_)) => receive_lines::put_line(line, b"no", 16),
+        Err(DecodingError::Refused(x)) => put_refusal(line, x),
     }
 }
 
@@ -76,13 +73,13 @@ fn put_decoding(line: &mut [u8], held: &[u8], channel: &[u8], limit: u32) -> usi
     ensures { PutPost line.old 0 (decoding_line held.now channel.now limit) line.new result }
 {
     match code::read_description(held) {
-        Description::Accepted(code) => {
+        Ok(code) => {
             let mut payload = [0u8; BYTES];
             let size = bits::bytes_for(code.k);
             let mask = code::mask_of(held);
             put_decoded(line, mask, code, channel, limit, &mut payload[..size])
         }
-        Description::Refused(x) => put_refusal(line, x),
+        Err(x) => put_refusal(line, x),
     }
 }
 
@@ -92,10 +89,10 @@ pub fn put_channel(line: &mut [u8], held: &[u8], bytes: &[u8]) -> usize
     ensures { PutPost line.old 0 (channel_line held.now bytes.now) line.new result }
 {
     if held.len() == 0 {
-        return receive_lines::put_line(line, b"no", 23);
+        return put_refusal(line, Refusal::NoDescription);
     }
     if bytes.len() < 6 {
-        return receive_lines::put_line(line, b"no", 24);
+        return put_refusal(line, Refusal::ShortRecord);
     }
     let limit = code::read_word(bytes, 4);
     put_decoding(line, held, &bytes[6..], limit)

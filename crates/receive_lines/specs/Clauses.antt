@@ -3,6 +3,7 @@ use Rattle.std.specs.Prelude.{◌≡◌, List, ◌++◌, ℕ, ◌+◌, ◌*◌, 
 use Rattle.laws.specs.Clauses.{splice}
 use Rattle.arrays.specs.Claims.{longest_bytes}
 use Rattle.receive_lines.specs.Text.{text}
+use Rattle.receive_lines.specs.declared.Line.{Line}
 
 -- a field after its space
 abbrev pub spaced : List ℕ → List ℕ
@@ -17,3 +18,13 @@ pub record PutPost (before : List ℕ) (at : ℕ) (text after : List ℕ) (next 
   pub next_is : next ≡ at + length text
   pub fits : next ≤ length before
   pub after_is : after ≡ splice before at text
+
+-- room for n more bytes in a line's buffer
+abbrev pub Room : Line → ℕ → Type 0
+Room line n = line.end + n ≤ length line.buffer.now
+
+-- the line `before` is `after` once `text` is put behind it, in the same buffer
+pub record Put (before : Line) (text : List ℕ) (after : Line) : Type 0 where
+  pub same_buffer : after.buffer.ghost_name ≡ before.buffer.ghost_name
+  pub same_size : length after.buffer.now ≡ length before.buffer.now
+  pub put : PutPost before.buffer.now before.end text after.buffer.now after.end

@@ -1,22 +1,25 @@
 -- What only contracts below the public operations cite. Nothing here need be believed.
-use Rattle.std.specs.Prelude.{◌≡◌, List, ℕ, ◌≤◌, length, take}
-use Rattle.code.specs.Description.{word}
-use Rattle.receive_record.specs.declared.Response.{Response}
+use Rattle.std.specs.Prelude.{◌≡◌, cond, List, ℕ, ◌≤◌, eqb, length, take}
+use Rattle.code.specs.Description.{word, is_description}
+use Rattle.receive_record.specs.declared.held.Held.{Held}
+use Rattle.receive_record.specs.declared.kind.Kind.{Kind}
+use Rattle.receive_record.specs.declared.kind.Kind.TheVariants.{Description, Channel, Other}
 use Rattle.receive_record.specs.declared.Header.{Header}
 
--- what `respond` asks: a record with its header, a held description within its buffer, and room for the longest description and line
-pub record RespondPre (longest line-size : ℕ) (held : List ℕ) (size : ℕ) (bytes line : List ℕ) : Type 0 where
-  pub header : 4 ≤ length bytes
-  pub size_most : size ≤ length held
-  pub held_room : longest ≤ length held
-  pub line_room : line-size ≤ length line
+-- the description that is held
+abbrev pub held_bytes : Held → List ℕ
+held_bytes held = take held.size held.buffer.now
 
--- what `respond` answers: the lengths of the line and of the held description, in the buffers as they are afterwards
-pub record RespondPost (answer : List ℕ × List ℕ) (line held : List ℕ) (response : Response) : Type 0 where
-  pub line_fits : response.line ≤ length line
-  pub held_fits : response.held ≤ length held
-  pub answer_is : (take response.line line, take response.held held) ≡ answer
+-- what a record of a kind is
+abbrev pub kind_of : ℕ → Kind
+kind_of number = cond (is_description number) Description (cond (eqb number 2) Channel (Other number))
 
 -- a record starts with its length in bytes, header included, then its kind
 abbrev pub header_of : List ℕ → Header
-header_of bytes = record { length = word bytes 0; kind = word bytes 2 }
+header_of bytes = record { length = word bytes 0; kind = kind_of (word bytes 2) }
+
+-- what `respond` answers: the length of the line in its buffer, and what is held then, in the same buffer as before
+pub record RespondPost (before : Held) (answer : List ℕ × List ℕ) (line : List ℕ) (after : Held) (end : ℕ) : Type 0 where
+  pub same_buffer : after.buffer.ghost_name ≡ before.buffer.ghost_name
+  pub line_fits : end ≤ length line
+  pub answer_is : (take end line, held_bytes after) ≡ answer

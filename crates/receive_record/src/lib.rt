@@ -1,30 +1,25 @@
 // What `receive` does with one record: the line that it prints, and the description that it holds.
 #![tactic(auto)]
 
-ghost use Rattle.std.specs.Prelude.{◌≡◌, ◌≤◌, ◌<◌, length, take};
-ghost use Rattle.receive_record.specs.Clauses.{RespondPre, RespondPost, header_of};
+ghost use Rattle.std.specs.Prelude.{◌≡◌, ◌≤◌, ◌<◌, length};
+ghost use Rattle.receive_record.specs.Clauses.{RespondPost, header_of, held_bytes};
 ghost use Rattle.receive_record.specs.Respond.{description_response, responded};
 
-use code::{Description, LONGEST};
+mod held;
+mod kind;
+
+pub use held::Held;
+pub use kind::Kind;
 use receive_frame::{put_channel, put_refusal};
-use receive_lines::LINE;
+use receive_lines::{LINE, put_code, put_line};
 
 // The start of a record.
 #[derive(Clone, Copy)]
 pub struct Header {
     // the record's length in bytes, header included
     pub length: usize,
-    // the record's kind
-    pub kind: u32,
-}
-
-// What was done with a record.
-#[derive(Clone, Copy)]
-pub struct Response {
-    // the length of its line
-    pub line: usize,
-    // the length of the description that is held afterwards, 0 if none is
-    pub held: usize,
+    // what the record is
+    pub kind: Kind,
 }
 
 // Length and kind at the start of a record. Both are words of 16 bits.
@@ -34,47 +29,32 @@ pub fn read_header(bytes: &[u8]) -> Header
 {
     Header {
         length: code::read_word(bytes, 0) as usize,
-        kind: code::read_word(bytes, 2),
+        kind: Kind::from(code::read_word(bytes, 2)),
     }
 }
 
-// Responds to a description: it is held if it is accepted.
-fn respond_description(held: &mut [u8], size: usize, bytes: &[u8], line: &mut [u8]) -> Response
-    requires { RespondPre LONGEST LINE held.old size bytes.now line.old }
-    ensures { RespondPost (description_response (take size held.old) bytes.now) line.new held.new result }
+// Responds to a description: it is held if it is accepted. Returns its line's length.
+fn respond_description(held: &mut Held, bytes: &[u8], line: &mut [u8]) -> usize
+    requires { LINE ≤ length line.old }
+    ensures { RespondPost held.old (description_response (held_bytes held.old) bytes.now) line.new held.new result }
 {
     match code::read_description(bytes) {
-        Description::Accepted(code) => Response {
-            held: receive_lines::put_bytes(held, 0, bytes),
-            line: receive_lines::put_code(line, 1u64 << code.n, code.k as u64, code.r as u64),
-        },
-        Description::Refused(x) => Response {
-            held: size,
-            line: put_refusal(line, x),
-        },
+        Ok(code) => {
+            held.hold(bytes);
+            put_code(line, 1u64 << code.n, code.k as u64, code.r as u64)
+        }
+        Err(x) => put_refusal(line, x),
     }
 }
 
-// Responds to a whole record: its line is put at the start of `line`. The first `size` bytes of `held` are the description that is held;
-// `size` is 0 if none is.
-pub fn respond(held: &mut [u8], size: usize, bytes: &[u8], line: &mut [u8]) -> Response
-    requires { RespondPre LONGEST LINE held.old size bytes.now line.old }
-    ensures { RespondPost (responded (take size held.old) bytes.now) line.new held.new result }
+// Responds to a whole record: its line is put at the start of `line`. Returns the line's length.
+pub fn respond(held: &mut Held, bytes: &[u8], line: &mut [u8]) -> usize
+    requires { (4 ≤ length bytes.now) × (LINE ≤ length line.old) }
+    ensures { RespondPost held.old (responded (held_bytes held.old) bytes.now) line.new held.new result }
 {
-    let kind = read_header(bytes).kind;
-    if code::is_description(kind) {
-        return respond_description(held, size, bytes, line);
-    }
-    if kind == 2 {
-        let end = put_channel(line, &held[..size], bytes);
-        return Response {
-            held: size,
-            line: end,
-        };
-    }
-    let end = receive_lines::put_line(line, b"skip", kind as u64);
-    Response {
-        held: size,
-        line: end,
+    match read_header(bytes).kind {
+        Kind::Description => respond_description(held, bytes, line),
+        Kind::Channel => put_channel(line, held.bytes(), bytes),
+        Kind::Other(number) => put_line(line, b"skip", number as u64),
     }
 }

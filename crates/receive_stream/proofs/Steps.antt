@@ -1,5 +1,5 @@
 -- What each way of going on prints, from what is known of the current record.
-use mathlib.Core.Path.{◌≡◌, refl, sym, ap, ap₂, ◌∙◌, subst}
+use mathlib.Core.Path.{◌≡◌, sym, ap, ap₂, ◌∙◌, subst}
 use mathlib.Core.Bool.{Bool, cond}
 use mathlib.Core.Logic.{⊎_elim}
 use mathlib.Core.List.{List, [], ◌++◌, append_assoc, append-nil}
@@ -15,10 +15,10 @@ use Rattle.receive_stream.specs.declared.Ahead.TheVariants.{Whole, Missing, Shor
 use Rattle.receive_stream.specs.declared.Stream.{Stream}
 use Rattle.receive_stream.specs.Stream.{printed_from}
 use Rattle.receive_stream.specs.Claims.{IsRecord}
-use Rattle.receive_stream.specs.Clauses.{ahead_of, Fits, RespondToPost, EndPost, yet_printed, unless_over, AdvancePre, AdvancePost}
+use Rattle.receive_stream.specs.Clauses.{ahead_of, RespondToPost, EndPost, yet_printed, unless_over, AdvancePre, AdvancePost}
 use Rattle.receive_stream.proofs.Whole.{none-whole, word-append}
 use Rattle.receive_stream.proofs.Printed.{printed-end, printed_cut, printed-first}
-use Rattle.receive_stream.proofs.Says.{says, some_missing, within}
+use Rattle.receive_stream.proofs.Says.{says, within}
 
 -- ---- what has been read and what has not
 
@@ -52,7 +52,7 @@ module _ {longest : ℕ} (s : Stream) (got : ℕ) (bytes held output : List ℕ)
   none-there : (s' : Stream) → s'.there ≡ 0 → length (take s'.there bytes) ≡ s'.there
   none-there s' e = ap (λ (n : ℕ). length (take n bytes)) e ∙ sym e
 
-  pub record_there : ahead_of there ≡ Whole → IsRecord there
+  record_there : ahead_of there ≡ Whole → IsRecord there
   record_there e =
       let old = take s.there bytes in
       let more = take got (drop s.there bytes) in
@@ -132,22 +132,3 @@ module _ {longest : ℕ} (s : Stream) (got : ℕ) (bytes held output : List ℕ)
       (λ rest ends.
       ap₂ (λ (n : ℕ) (x : List ℕ). printed_from (take s.held held) s.count (take n bytes ++ x)) none (ends (omega arith))
       ∙ printed-end (take s.held held) s.count)
-
-  pub advance_more : {n : ℕ} → ahead_of there ≡ Missing n → Fits there (Missing n) → (got ≡ 0 → ⊥) → AdvancePost s got bytes held output held output (record { there = s.there + got; wanted = n; held = s.held; count = s.count; turns = s.turns + 1; waiting = s.waiting; ready = 0 })
-  advance_more {n} e fits some_read =
-      let long = length-take-le (s.there + got) bytes pre.bytes_room in
-      let some = some_missing there e in
-      record {
-        between = record {
-          there_is = long;
-          wanted_is = λ _. e;
-          wanted_fits = omega arith;
-          held_most = pre.between.held_most;
-          counts = omega (arith, pre.between.counts);
-          output_room = pre.between.output_room;
-        };
-        ready_most = omega arith;
-        turns_is = refl;
-        ends = λ none. absurd (some_read none);
-        prints = λ rest _. ap (λ (t : Bool). cond t [] (take s.waiting output ++ printing rest)) (sym (ne_eqb n 0 (λ z. omega arith)));
-      }

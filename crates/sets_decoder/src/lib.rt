@@ -8,11 +8,11 @@ ghost use Rattle.code.specs.Code.{information_count};
 ghost use Rattle.code.specs.Claims.{Coded};
 ghost use Rattle.decoder.specs.Decoder.{sets, most_limit, own_refusals, decoded_under, decoded_as, sets_full, sets_half, sets_restarted};
 
-use code::{Code, Description};
+use code::Code;
 use decoder::Search;
-use flip_run::Decoded;
+use flip_run::{DecodingError, Tally};
 use flip_trial::Restart;
-use refusal::{Judgement, Refusal};
+use refusal::Refusal;
 
 // The largest trial limit if a set may have more than one index.
 const MOST_TRIALS: usize = 512;
@@ -45,43 +45,48 @@ fn is_bad_limit(search: Search, code: Code) -> bool
 }
 
 // Refusals 26 and 14.
-fn judge_search(search: Search, code: Code) -> Judgement
+fn judge_search(search: Search, code: Code) -> Result<(), Refusal>
     requires { information_count code ≤ longest }
     ensures { result ≡ judge (own_refusals (sets search.w search.limit) code) }
 {
     if is_bad_count(search.w) {
-        return Judgement::Refused(Refusal::Alone(26));
+        return Err(Refusal::FlipCount);
     }
     if is_bad_limit(search, code) {
-        return Judgement::Refused(Refusal::Alone(14));
+        return Err(Refusal::TrialLimit);
     }
-    Judgement::Fine
+    Ok(())
 }
 
 // Decodes a channel's values into the packed payload, by the mask and the code of a description.
-fn decode_by(search: Search, mask: &[u8], code: Code, channel: &[u8], output: &mut [u8]) -> Decoded
+fn decode_by(
+    search: Search,
+    mask: &[u8],
+    code: Code,
+    channel: &[u8],
+    output: &mut [u8],
+) -> Result<Tally, DecodingError>
     requires { Coded mask.now code }
     ensures { (result, output.new)
         ≡ decoded_under (sets search.w search.limit) search.restart mask.now code channel.now output.old }
 {
     let own = judge_search(search, code);
-    match decoder::judge_call(own, code, channel, output) {
-        Judgement::Fine => sets_run::decode_in(search, mask, code, channel, output),
-        Judgement::Refused(x) => Decoded::Refused(x),
-    }
+    decoder::judge_call(own, code, channel, output)?;
+    sets_run::decode_in(search, mask, code, channel, output)
 }
 
 // Decodes a channel's values into the packed payload, by a description.
-fn decode(search: Search, description: &[u8], channel: &[u8], output: &mut [u8]) -> Decoded
+fn decode(
+    search: Search,
+    description: &[u8],
+    channel: &[u8],
+    output: &mut [u8],
+) -> Result<Tally, DecodingError>
     ensures { (result, output.new)
         ≡ decoded_as (sets search.w search.limit) search.restart description.now channel.now output.old }
 {
-    match code::read_description(description) {
-        Description::Accepted(code) => {
-            decode_by(search, code::mask_of(description), code, channel, output)
-        }
-        Description::Refused(x) => Decoded::Refused(x),
-    }
+    let code = code::read_description(description)?;
+    decode_by(search, code::mask_of(description), code, channel, output)
 }
 
 // Decodes with each later trial repeated from the root.
@@ -91,7 +96,7 @@ pub fn decode_sets_full(
     w: u32,
     limit: u32,
     output: &mut [u8],
-) -> Decoded
+) -> Result<Tally, DecodingError>
     ensures { (result, output.new) ≡ sets_full description.now channel.now w limit output.old }
 {
     let full = Search {
@@ -109,7 +114,7 @@ pub fn decode_sets_half(
     w: u32,
     limit: u32,
     output: &mut [u8],
-) -> Decoded
+) -> Result<Tally, DecodingError>
     ensures { (result, output.new) ≡ sets_half description.now channel.now w limit output.old }
 {
     let half = Search {
@@ -127,7 +132,7 @@ pub fn decode_sets_restarted(
     w: u32,
     limit: u32,
     output: &mut [u8],
-) -> Decoded
+) -> Result<Tally, DecodingError>
     ensures { (result, output.new) ≡ sets_restarted description.now channel.now w limit output.old }
 {
     let restarted = Search {

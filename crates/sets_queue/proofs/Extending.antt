@@ -34,9 +34,6 @@ module _ (mask : List ℕ) (leaves : List ℤ) where
   pub keys_frozen : (s : Stem) (small j : ℕ) → mask_bit mask j ≡ 0 → keys_with mask leaves s small j ≡ []
   keys_frozen s small j e = ap (λ (b : ℕ). cond (eqb b 1) (key_with leaves s small j ∷ []) []) e
 
-  pub keys_one : (s : Stem) (small j : ℕ) → mask_bit mask j ≡ 1 → keys_with mask leaves s small j ≡ key_with leaves s small j ∷ []
-  keys_one s small j e = ap (λ (b : ℕ). cond (eqb b 1) (key_with leaves s small j ∷ []) []) e
-
   key-is : (is : List ℕ) (j small : ℕ) → length is ≤ 2 → small ≡ doubtful mask leaves (suc j) → set_key (candidate mask leaves (is ++ (j ∷ []))) ≡ key_with leaves (stem_of leaves is) small j
   key-is [] j small l e = ap₂ (λ (m d : ℕ). m * base ^ 3 + d) (omega arith) (omega arith)
   key-is (a ∷ []) j small l e = ap₂ (λ (m d : ℕ). m * base ^ 3 + d) (omega arith) (omega arith)

@@ -1,6 +1,5 @@
 pub mod Inserting
 pub mod Pools
 pub mod Walking
-pub mod Stems
 pub mod Extending
 pub mod Keys

@@ -4,7 +4,7 @@ use mathlib.Core.List.{List, [], ◌∷◌, ◌++◌}
 use Prim.Native.Nat.{ℕ, zero, suc, ◌+◌, ◌-◌, ◌≤◌, ◌<◌, min}
 use native.Mathlib.Omega.{arith}
 use lib.Dec.{ltb}
-use lib.ListN.{length, get_or, take, drop, set, length-set, length-take, get_or-append}
+use lib.ListN.{length, get_or, take, drop, set, length-take, get_or-append}
 use lib.Seq.{get_or-take, get_or-drop, get_or-append-add, get_or-set_same, get_or-set_other, take_all}
 use Rattle.laws.specs.Insert.{insert_by}
 use Rattle.laws.proofs.Indices.{lt_cases}
@@ -12,51 +12,6 @@ use Rattle.laws.proofs.Insert.{length_insert}
 use Rattle.flip_order.proofs.Pairwise.{pairwise_tail}
 use Rattle.sets_queue.specs.Clauses.{insert_keys, Pool, Place, Shifted, PoolPre}
 use Rattle.sets_queue.proofs.Inserting.{insert_at, insert_ordered, take-ordered, insert_one}
-
--- ---- the search for a place, from the end down
-
-pub record Above (key j end : ℕ) (keys : List ℕ) : Type 0 where
-  pub at : (i : ℕ) → j ≤ i → i < end → key < get_or keys i 0
-
-pub above-none : (key end : ℕ) (keys : List ℕ) → Above key end end keys
-above-none key end keys = record { at = λ i l m. absurd (omega arith) }
-
-pub above_more : {key j end : ℕ} {keys : List ℕ} → Above key j end keys → key < get_or keys (j - 1) 0 → Above key (j - 1) end keys
-above_more {key} {j} {end} {keys} p l = record {
-  at = λ i m n. lt_cases i j (λ h. subst (λ (k : ℕ). key < get_or keys k 0) (omega arith) l) (λ h. p.at i h n);
-}
-
--- ---- the shift, from the end down
-
-pub record Shifting (at end : ℕ) (keys keys' : List ℕ) (j : ℕ) : Type 0 where
-  pub least : at ≤ j
-  pub most : j ≤ end
-  pub whole : length keys' ≡ length keys
-  pub up : (i : ℕ) → j ≤ i → i < end → get_or keys' (suc i) 0 ≡ get_or keys i 0
-  pub same : (i : ℕ) → i ≤ j → get_or keys' i 0 ≡ get_or keys i 0
-
-pub shift_none : (at end : ℕ) (keys : List ℕ) → at ≤ end → Shifting at end keys keys end
-shift_none at end keys l = record { least = l; most = omega arith; whole = refl; up = λ i m n. absurd (omega arith); same = λ i m. refl }
-
-pub shift_more : {at end : ℕ} {keys keys' : List ℕ} {j : ℕ} → Shifting at end keys keys' j → at < j → j < length keys → Shifting at end keys (set keys' j (get_or keys' (j - 1) 0)) (j - 1)
-shift_more {at} {end} {keys} {keys'} {j} p l room = record {
-  least = omega arith;
-  most = omega (arith, p.most);
-  whole = length-set keys' j (get_or keys' (j - 1) 0) ∙ p.whole;
-  up = λ i m n. lt_cases i j (moved i m) (λ h. get_or-set_other keys' j (suc i) (get_or keys' (j - 1) 0) 0 (λ e. omega arith) ∙ p.up i h n);
-  same = λ i m. get_or-set_other keys' j i (get_or keys' (j - 1) 0) 0 (λ e. omega arith) ∙ p.same i (omega arith);
-}
-  where
-    moved : (i : ℕ) → j - 1 ≤ i → i < j → get_or (set keys' j (get_or keys' (j - 1) 0)) (suc i) 0 ≡ get_or keys i 0
-    moved i m h =
-        let e : suc i ≡ j = omega arith in
-        let d : j - 1 ≡ i = omega arith in
-        ap (λ (k : ℕ). get_or (set keys' j (get_or keys' (j - 1) 0)) k 0) e
-        ∙ get_or-set_same keys' j (get_or keys' (j - 1) 0) 0 (omega (arith, p.whole))
-        ∙ p.same (j - 1) (omega arith) ∙ ap (λ (k : ℕ). get_or keys k 0) d
-
-pub shift_done : {at end : ℕ} {keys keys' : List ℕ} {j : ℕ} → Shifting at end keys keys' j → j ≤ at → Shifted at end keys keys'
-shift_done p l = record { whole = p.whole; up = λ i m n. p.up i (omega (arith, p.least)) n; below = λ i m. p.same i (omega (arith, p.least)) }
 
 -- ---- a key in its place
 

@@ -35,14 +35,10 @@ fn place_of(key: u64, low: usize, end: usize, keys: &[u64]) -> usize
         × (end ≤ length keys.now) }
     ensures { Place key low end keys.now result }
 {
-    let mut j = end;
-    while low < j {
-        if keys[j - 1] <= key {
-            return j;
-        }
-        j -= 1;
+    match keys[low..end].iter().rposition(|k| *k <= key) {
+        Some(i) => low + i + 1,
+        None => low,
     }
-    j
 }
 
 // Moves the keys `keys[at..end]` one place up.
@@ -51,11 +47,7 @@ fn shift(at: usize, end: usize, keys: &mut [u64])
         × (end < length keys.old) }
     ensures { Shifted at end keys.old keys.new }
 {
-    let mut j = end;
-    while at < j {
-        keys[j] = keys[j - 1];
-        j -= 1;
-    }
+    keys.copy_within(at..end, at + 1);
 }
 
 // Inserts a key into the queue `keys[low..count]`, and keeps the keys below place `room`. Returns the queue's new end.
@@ -67,9 +59,9 @@ fn insert(key: u64, low: usize, count: usize, room: usize, keys: &mut [u64]) -> 
     if at == room {
         return count;
     }
-    shift(at, arrays::min(count, room - 1), keys);
+    shift(at, count.min(room - 1), keys);
     keys[at] = key;
-    arrays::min(count + 1, room)
+    (count + 1).min(room)
 }
 
 // The magnitude of a leaf value.
@@ -87,13 +79,7 @@ fn doubt(mask: &[u8], leaves: &[i32], j: usize) -> u64
         × (j < 8 * length mask.now) }
     ensures { result ≡ doubt mask.now leaves.now j }
 {
-    if bits::mask_bit(mask, j) == 0 {
-        return 0;
-    }
-    if magnitude_at(leaves, j) <= 20 {
-        return 1;
-    }
-    0
+    u64::from(bits::mask_bit(mask, j) == 1 && magnitude_at(leaves, j) <= 20)
 }
 
 // How many of the indices below `end` are doubtful.
@@ -103,10 +89,8 @@ fn doubtful(mask: &[u8], leaves: &[i32], end: usize) -> u64
     ensures { result ≡ doubtful mask.now leaves.now end }
 {
     let mut count = 0;
-    let mut j = 0;
-    while j < end {
+    for j in 0..end {
         count += doubt(mask, leaves, j);
-        j += 1;
     }
     count
 }
@@ -133,20 +117,16 @@ fn stem_of(leaves: &[i32], set: &[usize]) -> Stem
     requires { SetPre (indexed leaves.now) leaves.now set.now }
     ensures { result ≡ stem_of leaves.now set.now }
 {
-    let none = Stem {
+    let mut stem = Stem {
         sum: 0,
         digits: 0,
         weight: BASE * BASE,
         from: 0,
     };
-    if set.len() == 0 {
-        return none;
+    for i in set {
+        stem = stem_with(leaves, stem, *i);
     }
-    let one = stem_with(leaves, none, set[0]);
-    if set.len() == 1 {
-        return one;
-    }
-    stem_with(leaves, one, set[1])
+    stem
 }
 
 // The key of the set that appends j, if `small` indices up to and including j are doubtful.
@@ -209,11 +189,9 @@ pub fn extend(
     let stem = stem_of(leaves, set);
     let mut small = doubtful(mask, leaves, stem.from);
     let mut end = count;
-    let mut j = stem.from;
-    while j < 8 * mask.len() {
+    for j in stem.from..8 * mask.len() {
         small += doubt(mask, leaves, j);
         end = append(mask, leaves, stem, small, j, low, end, room, keys);
-        j += 1;
     }
     end
 }

@@ -7,9 +7,8 @@ use Rattle.code.specs.Code.{code_length}
 use Rattle.channel.specs.Channel.{channel_values}
 use Rattle.flip_trial.specs.Trial.{lowest, restart_at, trial_passes}
 use Rattle.flip_trial.specs.Clauses.{FirstLeaves}
-use Rattle.flip_run.specs.declared.Decoded.{Decoded}
 use Rattle.flip_run.specs.Trials.{Verdict, run, answer_of}
-use Rattle.flip_run.specs.Clauses.{FramePre}
+use Rattle.flip_run.specs.Clauses.{FramePre, Decoded}
 use Rattle.decoder.specs.declared.Search.{Search}
 use Rattle.decoder.specs.Candidate.{Candidate, extensions, insert_each}
 use Rattle.decoder.specs.Decoder.{most_limit}

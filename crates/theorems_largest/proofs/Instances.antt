@@ -11,8 +11,6 @@ use Rattle.arrays.specs.Sizes.{largest_n}
 use Rattle.arrays.specs.Claims.{longest}
 use Rattle.bits.specs.Mask.{ones_below}
 use Rattle.code.specs.declared.Code.{Code}
-use Rattle.code.specs.declared.Description.{Description}
-use Rattle.code.specs.declared.Description.TheVariants.{Accepted}
 use Rattle.code.specs.Code.{code_length}
 use Rattle.code.specs.Description.{describe_up_to, describe, on_description}
 use Rattle.values.specs.Values.{Rule, mask_rule}
@@ -20,6 +18,8 @@ use Rattle.channel.specs.Channel.{channel_value, channel_values}
 use Rattle.pass_tree.specs.Node.{node}
 use Rattle.theorems_largest.proofs.Inner.{inner_bound}
 use Rattle.theorems_largest.proofs.Longer.{old_answers}
+use Rattle.std.specs.Prelude.{Ok}
+use Rattle.code.specs.Clauses.{Description}
 
 -- document 01's D, with N = 8
 abbrev D : List ℕ
@@ -29,7 +29,7 @@ D = 0x09 ∷ 0x00 ∷ 0x01 ∷ 0x00 ∷ 0x03 ∷ 0x01 ∷ 0x01 ∷ 0x00 ∷ 0xE8
 abbrev code_d : Code
 code_d = record { n = 3; r = 1; polynomial = 1; start = 0; k = 3 }
 
-accepted : describe D ≡ Accepted code_d
+accepted : describe D ≡ Ok code_d
 unfolding describe_up_to judge refused_or ones_below
 accepted = refl
 
@@ -48,12 +48,12 @@ largest_bound = inner_bound.largest
 
 -- ---- old answers: D with n up to 10 and up to 12
 
-accepted_10 : describe_up_to 10 D ≡ Accepted code_d
+accepted_10 : describe_up_to 10 D ≡ Ok code_d
 unfolding describe_up_to judge refused_or ones_below
 accepted_10 = refl
 
 -- the steps of a whole pass under D, by an operation that reads them, and 0 if D is refused
 pub D_stays : on_description (describe_up_to largest_n D) (λ x. 0) (λ c. c.n * code_length c) ≡ 24
 D_stays =
-    sym (old_answers ℕ (λ x. 0) (λ c. c.n * code_length c) 10 largest_n D (omega arith) (λ e. let same : describe_up_to 10 D ≡ Accepted code_d = accepted_10 in let z : ◌≡◌ {A = ℕ} 0 1 = cc in omega arith))
+    sym (old_answers ℕ (λ x. 0) (λ c. c.n * code_length c) 10 largest_n D (omega arith) (λ e. let same : describe_up_to 10 D ≡ Ok code_d = accepted_10 in let z : ◌≡◌ {A = ℕ} 0 1 = cc in omega arith))
     ∙ ap (λ (x : Description). on_description x (λ y. 0) (λ c. c.n * code_length c)) accepted_10

@@ -1,11 +1,10 @@
 -- Document 02, request 2.3: "Old descriptions must decode to what they did, with equal step reports." `old_answers` of proofs/Longer.antt
 -- proves it of any two largest n.
-use Rattle.std.specs.Prelude.{◌≡◌, List, ℕ, ◌≤◌}
+use Rattle.std.specs.Prelude.{◌≡◌, List, ℕ, ◌≤◌, Err}
 use Rattle.refusal.specs.declared.Refusal.{Refusal}
-use Rattle.refusal.specs.declared.Refusal.TheVariants.{Alone}
 use Rattle.code.specs.declared.Code.{Code}
-use Rattle.code.specs.declared.Description.TheVariants.{Refused}
 use Rattle.code.specs.Description.{describe_up_to, on_description}
+use Rattle.refusal.specs.declared.Refusal.TheVariants.{CodeLength}
 
 -- An operation is what it does with a refusal and with a code: encode, resume and every decoder at every restart are each `on_description (describe d) ..`,
 -- and `describe` is `describe_up_to largest_n`. (A hearing has the largest n in the sizes of its parts besides.) With n up to `small` and with n up to `large`
@@ -13,5 +12,5 @@ use Rattle.code.specs.Description.{describe_up_to, on_description}
 abbrev pub OldAnswers : Type 1
 OldAnswers =
     (X : Type 0) (refuse : Refusal → X) (go : Code → X) (small large : ℕ) (d : List ℕ)
-    → small ≤ large → (describe_up_to small d ≡ Refused (Alone 4) → ⊥)
+    → small ≤ large → (describe_up_to small d ≡ Err CodeLength → ⊥)
     → on_description (describe_up_to small d) refuse go ≡ on_description (describe_up_to large d) refuse go

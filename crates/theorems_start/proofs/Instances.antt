@@ -9,14 +9,12 @@ use lib.ListN.{get_or}
 use Rattle.laws.specs.First.{first_where}
 use Rattle.laws.specs.Table.{table}
 use Rattle.laws.specs.Insert.{insert_by, sort_by}
-use Rattle.refusal.specs.declared.Judgement.TheVariants.{Fine}
 use Rattle.refusal.specs.Judge.{judge, refused_or}
 use Rattle.bits.specs.Bit.{number}
 use Rattle.bits.specs.Claims.{Bits}
 use Rattle.bits.specs.Mask.{ones_below}
 use Rattle.bits.specs.Packing.{packed}
 use Rattle.code.specs.declared.Code.{Code}
-use Rattle.code.specs.declared.Description.TheVariants as Description
 use Rattle.code.specs.Description.{mask_of, describe_up_to, describe}
 use Rattle.crc.specs.Check.{check_of}
 use Rattle.transform.specs.Transform.{covers, parity, transformed, xors}
@@ -28,14 +26,15 @@ use Rattle.flip_order.specs.Order.{information}
 use Rattle.flip_trial.specs.declared.Restart.{Restart}
 use Rattle.flip_trial.specs.declared.Restart.TheVariants.{AfterFlip}
 use Rattle.flip_trial.specs.Trial.{first_trial, trial_passes}
-use Rattle.flip_run.specs.declared.Decoded.TheVariants.{Accepted, Refused16}
-use Rattle.flip_run.specs.Trials.{run}
+use Rattle.flip_run.specs.Trials.{run, tally}
 use Rattle.decoder.specs.Candidate.{doubtful, extensions, insert_each}
 use Rattle.decoder.specs.Tried.{tried}
 use Rattle.decoder.specs.Decoder.{single, sets, refusals_of, decoded_under, decoded_as}
 use Rattle.theorems_start.specs.Silence.{silence}
 use Rattle.theorems_start.specs.Claims.{starting_at}
 use Rattle.theorems_start.proofs.Silence.{silence-accepted, trial_1_fails, silence_fails, silence-later, one_start}
+use Rattle.std.specs.Prelude.{Err, Ok}
+use Rattle.flip_run.specs.declared.DecodingError.TheVariants.{NonePassed}
 
 -- document 01's D as a record of kind 4, with r = 3, the polynomial z^3 + z + 1, so k = 1, and a start below 8
 abbrev pub D4 : ℕ → List ℕ
@@ -44,7 +43,7 @@ D4 start = 0x0B ∷ 0x00 ∷ 0x04 ∷ 0x00 ∷ 0x03 ∷ 0x03 ∷ 0x03 ∷ 0x00 �
 abbrev pub code4 : ℕ → Code
 code4 start = record { n = 3; r = 3; polynomial = 3; start = start; k = 1 }
 
-describes : (s : ℕ) → s < 8 → describe (D4 s) ≡ Description.Accepted (code4 s)
+describes : (s : ℕ) → s < 8 → describe (D4 s) ≡ Ok (code4 s)
 unfolding describe_up_to judge refused_or ones_below
 describes zero l = refl
 describes (suc zero) l = refl
@@ -69,24 +68,24 @@ module _ (s : ℕ) (some : 0 < s) (below : s < 8) where
 
   -- ---- T = 1, at every restart
 
-  pub single_fails : (restart : Restart) (byte : ℕ) → decoded_as (single 1) restart (D4 s) (silence (code4 s)) (byte ∷ []) ≡ (Refused16 1 24, byte ∷ [])
+  pub single_fails : (restart : Restart) (byte : ℕ) → decoded_as (single 1) restart (D4 s) (silence (code4 s)) (byte ∷ []) ≡ (Err (NonePassed (tally 1 24)), byte ∷ [])
   unfolding judge
   single_fails restart byte = silence_fails (single 1) restart (D4 s) (code4 s) (byte ∷ []) (describes s below) some refl refl refl
 
-  pub sets_fail : (restart : Restart) (byte : ℕ) → decoded_as (sets 3 1) restart (D4 s) (silence (code4 s)) (byte ∷ []) ≡ (Refused16 1 24, byte ∷ [])
+  pub sets_fail : (restart : Restart) (byte : ℕ) → decoded_as (sets 3 1) restart (D4 s) (silence (code4 s)) (byte ∷ []) ≡ (Err (NonePassed (tally 1 24)), byte ∷ [])
   unfolding judge
   sets_fail restart byte = silence_fails (sets 3 1) restart (D4 s) (code4 s) (byte ∷ []) (describes s below) some refl refl refl
 
   -- ---- T = 2, at every restart: whatever trial accepts silence, it is a later one
 
-  pub single-later : (restart : Restart) (trial steps : ℕ) (payload : List ℕ) → decoded_as (single 2) restart (D4 s) (silence (code4 s)) (0 ∷ []) ≡ (Accepted trial steps, payload) → 2 ≤ trial
+  pub single-later : (restart : Restart) (trial steps : ℕ) (payload : List ℕ) → decoded_as (single 2) restart (D4 s) (silence (code4 s)) (0 ∷ []) ≡ (Ok (tally trial steps), payload) → 2 ≤ trial
   single-later restart trial steps payload e = omega (arith, silence-later (single 2) restart (D4 s) (code4 s) (0 ∷ []) trial steps payload (describes s below) some e)
 
-  pub sets-later : (restart : Restart) (trial steps : ℕ) (payload : List ℕ) → decoded_as (sets 2 2) restart (D4 s) (silence (code4 s)) (0 ∷ []) ≡ (Accepted trial steps, payload) → 2 ≤ trial
+  pub sets-later : (restart : Restart) (trial steps : ℕ) (payload : List ℕ) → decoded_as (sets 2 2) restart (D4 s) (silence (code4 s)) (0 ∷ []) ≡ (Ok (tally trial steps), payload) → 2 ≤ trial
   sets-later restart trial steps payload e = omega (arith, silence-later (sets 2 2) restart (D4 s) (code4 s) (0 ∷ []) trial steps payload (describes s below) some e)
 
 -- by computation: a start does not keep later trials from accepting silence. With start 4 trial 2 does, by single flips and by sets.
-accepted_at_2 : (decoded_as (single 2) AfterFlip (D4 4) (silence (code4 4)) (0 ∷ []) ≡ (Accepted 2 35, 0x80 ∷ [])) × (decoded_as (sets 2 2) AfterFlip (D4 4) (silence (code4 4)) (0 ∷ []) ≡ (Accepted 2 35, 0x80 ∷ []))
+accepted_at_2 : (decoded_as (single 2) AfterFlip (D4 4) (silence (code4 4)) (0 ∷ []) ≡ (Ok (tally 2 35), 0x80 ∷ [])) × (decoded_as (sets 2 2) AfterFlip (D4 4) (silence (code4 4)) (0 ∷ []) ≡ (Ok (tally 2 35), 0x80 ∷ []))
 unfolding judge refused_or table number ones_below packed describe_up_to check_of covers parity transformed xors taken channel_value f g left_values right_values first_where node information insert_by sort_by run doubtful extensions insert_each tried decoded_under decoded_as
 accepted_at_2 = (refl, refl)
 
@@ -98,11 +97,11 @@ later_met = (
 
 -- ---- start 0: silence is accepted on trial 1
 
-fine_0 : (byte : ℕ) → judge (refusals_of (sets 3 5) (code4 0) (silence (code4 0)) (byte ∷ [])) ≡ Fine
+fine_0 : (byte : ℕ) → judge (refusals_of (sets 3 5) (code4 0) (silence (code4 0)) (byte ∷ [])) ≡ Ok tt
 unfolding judge first_where channel_value
 fine_0 byte = refl
 
-pub silence_heard : (restart : Restart) (byte : ℕ) → decoded_as (sets 3 5) restart (D4 0) (silence (code4 0)) (byte ∷ []) ≡ (Accepted 1 24, 0x00 ∷ [])
+pub silence_heard : (restart : Restart) (byte : ℕ) → decoded_as (sets 3 5) restart (D4 0) (silence (code4 0)) (byte ∷ []) ≡ (Ok (tally 1 24), 0x00 ∷ [])
 unfolding table number packed
 silence_heard restart byte = silence-accepted (sets 3 5) restart (D4 0) (code4 0) (byte ∷ []) refl (record { described = describes 0 (omega arith); fine = fine_0 byte })
 

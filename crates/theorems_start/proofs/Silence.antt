@@ -13,8 +13,6 @@ use lib.ListN.{length, replicate, get_or, take, drop, length-map, length-replica
 use Rattle.laws.proofs.First.{first-is}
 use Rattle.laws.proofs.Segment.{take-replicate}
 use Rattle.laws.proofs.Table.{get_or-table}
-use Rattle.refusal.specs.declared.Refusal.TheVariants.{Alone}
-use Rattle.refusal.specs.declared.Judgement.TheVariants.{Fine}
 use Rattle.refusal.specs.Judge.{differs, judge}
 use Rattle.refusal.proofs.Judge.{judge-none, judge_no, append-fine}
 use Rattle.refusal.proofs.Tests.{differs_no}
@@ -26,7 +24,6 @@ use Rattle.bits.specs.Claims.{Bits}
 use Rattle.bits.proofs.Lists.{bits-take, bits_of_lem}
 use Rattle.bits.proofs.Mask.{mask_cases}
 use Rattle.code.specs.declared.Code.{Code}
-use Rattle.code.specs.declared.Description.TheVariants as Description
 use Rattle.code.specs.Code.{code_length, information_count, divisor, start_bits}
 use Rattle.code.specs.Description.{mask_of, describe}
 use Rattle.code.specs.Claims.{Described}
@@ -47,8 +44,7 @@ use Rattle.pass_tree.proofs.Leaves.{within-leaves}
 use Rattle.pass_tree.proofs.Steps.{steps_whole}
 use Rattle.flip_trial.specs.declared.Restart.{Restart}
 use Rattle.flip_trial.specs.Trial.{first_trial, restart_at, message_in, trial_passes}
-use Rattle.flip_run.specs.declared.Decoded.TheVariants.{Accepted, Refused16}
-use Rattle.flip_run.specs.Trials.{answer_of}
+use Rattle.flip_run.specs.Trials.{answer_of, tally}
 use Rattle.decoder.specs.Decoder.{Decoder, single, sets, own_refusals, refusals_of, trials_of, decoded_as}
 use Rattle.decoder.proofs.Decoder.{fine-answer, under-code}
 use Rattle.decoder_demands.specs.Agreement.{skipped_over, lowest_of_each, SameRun}
@@ -58,6 +54,9 @@ use Rattle.decoder_demands.proofs.Agreement.{run_of}
 use Rattle.decoder_demands.proofs.Checked.{passed-at}
 use Rattle.theorems_start.specs.Silence.{silence, Trial1Fails, SilenceFails, SilenceLater}
 use Rattle.theorems_start.specs.Claims.{SilenceAccepted, starting_at, TrialsAlike, OneStart}
+use Rattle.std.specs.Prelude.{Err, Ok}
+use Rattle.flip_run.specs.declared.DecodingError.TheVariants.{NonePassed}
+use Rattle.refusal.specs.declared.Refusal.TheVariants.{OutputLength}
 
 -- ---- zero values
 
@@ -215,12 +214,12 @@ silence-accepted p restart d c output none w =
     under-code p restart d (silence c) output c w.described
     ∙ fine-answer p restart mask c (silence c) output w.fine
     ∙ ap (answer_of mask c output) (run-first (trial_passes mask c) (first_trial mask c v) _ (ap (passes (divisor c) (start_bits c) c.k) message ∙ zeros-pass f none))
-    ∙ ap₂ (λ (s : ℕ) (x : List ℕ). (Accepted 1 s, packed x)) (steps_whole c.n (mask_rule mask) v)
+    ∙ ap₂ (λ (s : ℕ) (x : List ℕ). (Ok (tally 1 s), packed x)) (steps_whole c.n (mask_rule mask) v)
     (ap (take c.k) message ∙ take-replicate c.k (information_count c) 0 (omega arith))
 
 -- whatever trial accepts silence, it is not trial 1
 not_first : (p : Decoder) (restart : Restart) (d : List ℕ) (c : Code) (output : List ℕ) (trial steps : ℕ) (payload : List ℕ)
-    → describe d ≡ Description.Accepted c → 0 < c.start → decoded_as p restart d (silence c) output ≡ (Accepted trial steps, payload) → 2 ≤ trial
+    → describe d ≡ Ok c → 0 < c.start → decoded_as p restart d (silence c) output ≡ (Ok (tally trial steps), payload) → 2 ≤ trial
 not_first p restart d c output trial steps payload code some e = later trial (passed-at p restart d c (silence c) output trial steps payload code e).1
   where
     later : (trial : ℕ) {steps : ℕ} {bits : List ℕ} → PassedAt (trial_passes (mask_of d) c) (trials_of p restart (mask_of d) c (channel_values (silence c))) trial steps bits → 2 ≤ trial
@@ -248,13 +247,13 @@ silence_fails p restart d c output code some limit own size =
     let nothing = none-skipped c.n (map (restart_at restart (mask_of d) (code_length c)) is) (length-map is (restart_at restart (mask_of d) (code_length c)) ∙ omega (arith, x.each, one)) in
     let pass : x.made * c.n * code_length c ≡ 1 * c.n * code_length c = ap (λ (m : ℕ). m * c.n * code_length c) one in
     let steps : x.steps restart ≡ c.n * code_length c = omega (arith, nothing, x.exceeds restart, x.full_steps, pass) in
-    a.2 restart output refl ∙ ap₂ (λ (m s : ℕ). (Refused16 m s, output)) one steps) x.answers
+    a.2 restart output refl ∙ ap₂ (λ (m s : ℕ). (Err (NonePassed (tally m s)), output)) one steps) x.answers
   where
-    fine : judge (refusals_of p c (silence c) output) ≡ Fine
+    fine : judge (refusals_of p c (silence c) output) ≡ Ok tt
     fine =
-        append-fine (channel_refusals c (silence c)) (own_refusals p c ++ ((differs (length output) (bytes_for c.k), Alone 15) ∷ []))
+        append-fine (channel_refusals c (silence c)) (own_refusals p c ++ ((differs (length output) (bytes_for c.k), OutputLength) ∷ []))
         (channel_fine c (silence c) (length-replicate {A = ℕ} (code_length c) 0) (inside (code_length c)))
-        ∙ append-fine (own_refusals p c) ((differs (length output) (bytes_for c.k), Alone 15) ∷ []) own
+        ∙ append-fine (own_refusals p c) ((differs (length output) (bytes_for c.k), OutputLength) ∷ []) own
         ∙ judge_no _ _ _ (differs_no (length output) (bytes_for c.k) size) ∙ judge-none
 
     x : SameRun p d c (silence c) (length output)

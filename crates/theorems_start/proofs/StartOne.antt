@@ -14,7 +14,6 @@ use Rattle.bits.specs.Claims.{Bits}
 use Rattle.bits.specs.Mask.{ones_below}
 use Rattle.bits.specs.Packing.{packed}
 use Rattle.code.specs.declared.Code.{Code}
-use Rattle.code.specs.declared.Description.TheVariants as Description
 use Rattle.code.specs.Description.{mask_of, describe_up_to, describe}
 use Rattle.crc.specs.Check.{check_of}
 use Rattle.transform.specs.Transform.{covers, parity, transformed, xors}
@@ -26,14 +25,15 @@ use Rattle.flip_order.specs.Order.{information}
 use Rattle.flip_trial.specs.declared.Restart.{Restart}
 use Rattle.flip_trial.specs.declared.Restart.TheVariants.{AfterFlip}
 use Rattle.flip_trial.specs.Trial.{first_trial, trial_passes}
-use Rattle.flip_run.specs.declared.Decoded.TheVariants.{Accepted, Refused16}
-use Rattle.flip_run.specs.Trials.{run}
+use Rattle.flip_run.specs.Trials.{run, tally}
 use Rattle.decoder.specs.Candidate.{doubtful, extensions, insert_each}
 use Rattle.decoder.specs.Tried.{tried}
 use Rattle.decoder.specs.Decoder.{single, sets, decoded_under, decoded_as}
 use Rattle.theorems_start.specs.Silence.{silence}
 use Rattle.theorems_start.specs.Claims.{starting_at}
 use Rattle.theorems_start.proofs.Silence.{trial_1_fails, silence_fails, silence-later, one_start}
+use Rattle.std.specs.Prelude.{Err, Ok}
+use Rattle.flip_run.specs.declared.DecodingError.TheVariants.{NonePassed}
 
 -- document 01's D as a record of kind 4, with start 1
 abbrev pub D4 : List ℕ
@@ -43,7 +43,7 @@ D4 = 0x0B ∷ 0x00 ∷ 0x04 ∷ 0x00 ∷ 0x03 ∷ 0x01 ∷ 0x01 ∷ 0x00 ∷ 0x0
 abbrev pub code4 : Code
 code4 = record { n = 3; r = 1; polynomial = 1; start = 1; k = 3 }
 
-describes : describe D4 ≡ Description.Accepted code4
+describes : describe D4 ≡ Ok code4
 unfolding describe_up_to judge refused_or ones_below
 describes = refl
 
@@ -59,26 +59,26 @@ zeros_fail = sym (ap (trial_passes (mask_of D4) code4) first_bits) ∙ trial_1_f
 
 -- ---- T = 1, at every restart
 
-pub single_fails : (restart : Restart) (byte : ℕ) → decoded_as (single 1) restart D4 (silence code4) (byte ∷ []) ≡ (Refused16 1 24, byte ∷ [])
+pub single_fails : (restart : Restart) (byte : ℕ) → decoded_as (single 1) restart D4 (silence code4) (byte ∷ []) ≡ (Err (NonePassed (tally 1 24)), byte ∷ [])
 unfolding judge
 single_fails restart byte = silence_fails (single 1) restart D4 code4 (byte ∷ []) describes (omega arith) refl refl refl
 
-pub sets_fail : (restart : Restart) (byte : ℕ) → decoded_as (sets 3 1) restart D4 (silence code4) (byte ∷ []) ≡ (Refused16 1 24, byte ∷ [])
+pub sets_fail : (restart : Restart) (byte : ℕ) → decoded_as (sets 3 1) restart D4 (silence code4) (byte ∷ []) ≡ (Err (NonePassed (tally 1 24)), byte ∷ [])
 unfolding judge
 sets_fail restart byte = silence_fails (sets 3 1) restart D4 code4 (byte ∷ []) describes (omega arith) refl refl refl
 
 -- ---- T = 2: silence is accepted, by single flips and by sets, and not on trial 1
 
 -- by computation: a start does not keep later trials from accepting silence
-accepted_at_2 : (decoded_as (single 2) AfterFlip D4 (silence code4) (0 ∷ []) ≡ (Accepted 2 35, 0x80 ∷ [])) × (decoded_as (sets 2 2) AfterFlip D4 (silence code4) (0 ∷ []) ≡ (Accepted 2 35, 0x80 ∷ []))
+accepted_at_2 : (decoded_as (single 2) AfterFlip D4 (silence code4) (0 ∷ []) ≡ (Ok (tally 2 35), 0x80 ∷ [])) × (decoded_as (sets 2 2) AfterFlip D4 (silence code4) (0 ∷ []) ≡ (Ok (tally 2 35), 0x80 ∷ []))
 unfolding judge refused_or table number ones_below packed describe_up_to check_of covers parity transformed xors taken channel_value f g left_values right_values first_where node information insert_by sort_by run doubtful extensions insert_each tried decoded_under decoded_as
 accepted_at_2 = (refl, refl)
 
 -- whatever trial it is, it is a later one
-pub single-later : (trial steps : ℕ) (payload : List ℕ) → decoded_as (single 2) AfterFlip D4 (silence code4) (0 ∷ []) ≡ (Accepted trial steps, payload) → 2 ≤ trial
+pub single-later : (trial steps : ℕ) (payload : List ℕ) → decoded_as (single 2) AfterFlip D4 (silence code4) (0 ∷ []) ≡ (Ok (tally trial steps), payload) → 2 ≤ trial
 single-later trial steps payload e = omega (arith, silence-later (single 2) AfterFlip D4 code4 (0 ∷ []) trial steps payload describes (omega arith) e)
 
-pub sets-later : (trial steps : ℕ) (payload : List ℕ) → decoded_as (sets 2 2) AfterFlip D4 (silence code4) (0 ∷ []) ≡ (Accepted trial steps, payload) → 2 ≤ trial
+pub sets-later : (trial steps : ℕ) (payload : List ℕ) → decoded_as (sets 2 2) AfterFlip D4 (silence code4) (0 ∷ []) ≡ (Ok (tally trial steps), payload) → 2 ≤ trial
 sets-later trial steps payload e = omega (arith, silence-later (sets 2 2) AfterFlip D4 code4 (0 ∷ []) trial steps payload describes (omega arith) e)
 
 pub later_met : (2 ≤ 2) × (2 ≤ 2)

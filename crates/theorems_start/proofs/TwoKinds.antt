@@ -4,12 +4,8 @@ use mathlib.Core.List.{List, []}
 use Prim.Native.Nat.{ℕ, ◌≤◌}
 use lib.ListN.{length, drop}
 use Rattle.refusal.specs.declared.Refusal.{Refusal}
-use Rattle.refusal.specs.declared.Judgement.{Judgement}
-use Rattle.refusal.specs.declared.Judgement.TheVariants.{Fine, Refused}
 use Rattle.refusal.specs.Judge.{judge, refused_or}
 use Rattle.code.specs.declared.Code.{Code}
-use Rattle.code.specs.declared.Description.{Description}
-use Rattle.code.specs.declared.Description.TheVariants.{Accepted, Refused as NoCode}
 use Rattle.code.specs.Description.{word, mask_of, describe, on_description}
 use Rattle.code.specs.Claims.{refusals_at, code_at, describe_kind1, with_start}
 use Rattle.code.proofs.TwoKinds.{kind_1, mask_1, start_0, same-mask}
@@ -18,6 +14,9 @@ use Rattle.pass_resume.specs.Resume.{resumed_by, resumed}
 use Rattle.flip_trial.specs.declared.Restart.{Restart}
 use Rattle.decoder.specs.Decoder.{Decoder, decoded_under, decoded_as}
 use Rattle.theorems_start.specs.Claims.{encoded_kind1, resumed_kind1, decoded_kind1}
+use Rattle.std.specs.Prelude.{Err, Ok}
+use Rattle.refusal.specs.Clauses.{Judgement}
+use Rattle.code.specs.Clauses.{Description}
 
 -- an operation that does `go` under a mask and a code
 module _ {X : Type 0} (refuse : Refusal → X) (go : List ℕ → Code → X) where
@@ -30,9 +29,9 @@ module _ {X : Type 0} (refuse : Refusal → X) (go : List ℕ → Code → X) wh
   unfolding refused_or
   under-kind_1 d other go' same = ap₂ operation (kind_1 d other) (mask_1 d other) ∙ by (judge (refusals_at 1 8 [] d))
     where
-      by : (j : Judgement) → operation (refused_or j NoCode (Accepted (code_at 8 0 d))) (drop 8 d) ≡ on_description (refused_or j NoCode (Accepted (code_at 8 0 d))) refuse go'
-      by Fine = same
-      by (Refused x) = refl
+      by : (j : Judgement) → operation (refused_or j Err (Ok (code_at 8 0 d))) (drop 8 d) ≡ on_description (refused_or j Err (Ok (code_at 8 0 d))) refuse go'
+      by (Ok tt) = same
+      by (Err x) = refl
 
   -- under kind 4 with start 0 it is what it is under kind 1
   under_start_0 : (d : List ℕ) → 8 ≤ length d → word d 2 ≡ 1 → operation (describe (with_start 0 d)) (mask_of (with_start 0 d)) ≡ operation (describe d) (mask_of d)

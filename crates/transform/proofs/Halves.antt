@@ -3,7 +3,7 @@ use mathlib.Core.Path.{◌≡◌, refl, sym, ap, ap₂, ◌∙◌, subst}
 use mathlib.Core.List.{List, ◌++◌}
 use Prim.Native.Nat.{ℕ, suc, ◌+◌, ◌-◌, ◌/◌, ◌^◌, ◌≤◌}
 use native.Mathlib.Omega.{arith}
-use lib.ListN.{length, take, drop, length-append}
+use lib.ListN.{length, take, drop}
 use Rattle.laws.specs.Clauses.{splice, segment}
 use Rattle.laws.proofs.Segment.{length-segment, segment-front, segment-back, drop-splice, length-splice, splice-segment, segment_splice_front, segment_splice_back, splice-next, splice_over}
 use Rattle.laws.proofs.Powers.{half_pow, two_halves}
@@ -41,7 +41,7 @@ module _ {layer size n h room : ℕ} {w : List ℕ} {base : ℕ} (d : Halving la
   abbrev R : List ℕ
   R = folded n (segment w (base + h) h)
 
-  pub halves : BytesAt room w base (h + h)
+  halves : BytesAt room w base (h + h)
   halves = subst (BytesAt room w base) d.two p
 
   pub left-bytes : BytesAt room w base h
@@ -77,12 +77,6 @@ module _ {layer size n h room : ℕ} {w : List ℕ} {base : ℕ} (d : Halving la
         ∙ splice-next w base L R h h long_L long-R fits
 
   module _ {w₂ : List ℕ} (e : w₂ ≡ splice w base (L ++ R)) where
-    pub combine_next : BytesAt room w₂ base (h + h)
-    combine_next = record {
-      whole = ap length e ∙ length-splice w base (L ++ R) (h + h) (omega (arith, length-append L R, long_L, long-R)) fits ∙ p.whole;
-      fits = halves.fits;
-    }
-
     -- then both are combined
     pub combined : {w₃ : List ℕ} → w₃ ≡ splice w₂ base (xor_bytes h (segment w₂ base h) (segment w₂ (base + h) h)) → w₃ ≡ splice w base (folded layer (segment w base size))
     combined e₃ =

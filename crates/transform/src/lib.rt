@@ -10,16 +10,15 @@ ghost use Rattle.transform.specs.Clauses.{BitsAt, BytesAt, transformed_byte, fol
 
 use arrays::{BitArray, ByteArray, SIZE};
 
-// Replaces the first of two halves of h bytes, from `base` on, by the exclusive-or of both.
+// Replaces the first of two halves of h bytes, from `base` on, by the exclusive-or of both. They are written by index: a proof knows nothing
+// of what an `iter_mut().zip` wrote.
 fn xor_halves(bytes: &mut ByteArray, base: usize, h: usize)
     requires { BytesAt SIZE bytes.old base (h + h) }
     ensures { bytes.new
         ≡ splice bytes.old base (xor_bytes h (segment bytes.old base h) (segment bytes.old (base + h) h)) }
 {
-    let mut j = 0;
-    while j < h {
+    for j in 0..h {
         bytes[base + j] ^= bytes[base + h + j];
-        j += 1;
     }
 }
 
@@ -74,10 +73,8 @@ fn transform_bytes(size: usize, bytes: &mut ByteArray)
     requires { BytesAt SIZE bytes.old 0 size }
     ensures { bytes.new ≡ splice bytes.old 0 (table (λ m. transformed_byte (get_or bytes.old m 0)) size) }
 {
-    let mut m = 0;
-    while m < size {
-        bytes[m] = transform_byte(bytes[m]);
-        m += 1;
+    for byte in bytes[..size].iter_mut() {
+        *byte = transform_byte(*byte);
     }
 }
 

@@ -10,22 +10,14 @@ pub fn magnitude(a: i32) -> i32
     requires { nat_abs a < 2 ^ 31 }
     ensures { result ≡ pos (nat_abs a) }
 {
-    if a < 0 { 0 - a } else { a }
+    a.abs()
 }
 
 // 1 if the value is negative, else 0.
 pub fn hard(a: i32) -> u8
     ensures { result ≡ hard a }
 {
-    if a < 0 { 1 } else { 0 }
-}
-
-// The smaller of two magnitudes.
-fn smaller(x: i32, y: i32) -> i32
-    requires { (x ≡ pos (nat_abs x)) × (y ≡ pos (nat_abs y)) }
-    ensures { result ≡ pos (min (nat_abs x) (nat_abs y)) }
-{
-    if x < y { x } else { y }
+    u8::from(a < 0)
 }
 
 // A left value: the smaller magnitude, with the product of the signs.
@@ -33,8 +25,8 @@ pub fn f(a: i32, b: i32) -> i32
     requires { (nat_abs a < 2 ^ 31) × (nat_abs b < 2 ^ 31) }
     ensures { result ≡ f a b }
 {
-    let m = smaller(magnitude(a), magnitude(b));
-    if hard(a) == hard(b) { m } else { 0 - m }
+    let m = magnitude(a).min(magnitude(b));
+    if hard(a) == hard(b) { m } else { -m }
 }
 
 // A right value, by the left sum bit.

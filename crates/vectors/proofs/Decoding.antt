@@ -5,7 +5,6 @@ use Prim.Native.Nat.{ℕ}
 use Rattle.laws.specs.First.{first_where}
 use Rattle.laws.specs.Table.{table}
 use Rattle.laws.specs.Insert.{insert_by, sort_by}
-use Rattle.refusal.specs.declared.Refusal.TheVariants.{Alone, At}
 use Rattle.refusal.specs.Judge.{judge, refused_or}
 use Rattle.bits.specs.Bit.{number}
 use Rattle.bits.specs.Mask.{ones_below}
@@ -18,11 +17,13 @@ use Rattle.values.specs.Values.{f, g, left_values, right_values}
 use Rattle.channel.specs.Channel.{channel_value, channel_values}
 use Rattle.pass_tree.specs.Node.{node}
 use Rattle.flip_order.specs.Order.{information}
-use Rattle.flip_run.specs.declared.Decoded.{Decoded}
-use Rattle.flip_run.specs.declared.Decoded.TheVariants.{Accepted, Refused16, Refused}
-use Rattle.flip_run.specs.Trials.{flip_order, run}
+use Rattle.flip_run.specs.Trials.{flip_order, run, tally}
 use Rattle.decoder.specs.Decoder.{decoded_under, decoded_as, decoded_full, decoded_restarted}
 use Rattle.vectors.proofs.Descriptions.{D, starred_code, starred_v}
+use Rattle.std.specs.Prelude.{Err, Ok}
+use Rattle.flip_run.specs.declared.DecodingError.TheVariants.{NonePassed, Refused}
+use Rattle.refusal.specs.declared.Refusal.TheVariants.{ChannelValue, TrialLimit}
+use Rattle.flip_run.specs.Clauses.{Decoded}
 
 -- 4, −4, 4, −4, −4, 4, −4, 4
 abbrev pub noiseless_a0 : List ℕ
@@ -36,16 +37,16 @@ zeros_then byte = 0 ∷ 0 ∷ 0 ∷ 0 ∷ 0 ∷ 0 ∷ 0 ∷ byte ∷ []
 -- T = 1 and T = 2; eight zeros; T of 0 or 6, and 5; value 31 at index 7, and 32 and −32 there.
 abbrev Rows : (List ℕ → ℕ → List ℕ → Decoded × List ℕ) → ℕ → List ℕ → Type 0
 Rows decoded steps output =
-    (decoded noiseless_a0 1 output ≡ (Accepted 1 24, 0xA0 ∷ []))
-    × (decoded (starred_v 2) 1 output ≡ (Refused16 1 24, output))
-    × (decoded (starred_v 2) 2 output ≡ (Accepted 2 steps, 0x00 ∷ []))
-    × (decoded (zeros_then 0x00) 1 output ≡ (Accepted 1 24, 0x00 ∷ []))
-    × (decoded (starred_v 2) 0 output ≡ (Refused (Alone 14), output))
-    × (decoded (starred_v 2) 6 output ≡ (Refused (Alone 14), output))
-    × (decoded (starred_v 2) 5 output ≡ (Accepted 2 steps, 0x00 ∷ []))
-    × (decoded (zeros_then 0x1F) 1 output ≡ (Accepted 1 24, 0x00 ∷ []))
-    × (decoded (zeros_then 0x20) 1 output ≡ (Refused (At 13 7), output))
-    × (decoded (zeros_then 0xE0) 1 output ≡ (Refused (At 13 7), output))
+    (decoded noiseless_a0 1 output ≡ (Ok (tally 1 24), 0xA0 ∷ []))
+    × (decoded (starred_v 2) 1 output ≡ (Err (NonePassed (tally 1 24)), output))
+    × (decoded (starred_v 2) 2 output ≡ (Ok (tally 2 steps), 0x00 ∷ []))
+    × (decoded (zeros_then 0x00) 1 output ≡ (Ok (tally 1 24), 0x00 ∷ []))
+    × (decoded (starred_v 2) 0 output ≡ (Err (Refused TrialLimit), output))
+    × (decoded (starred_v 2) 6 output ≡ (Err (Refused TrialLimit), output))
+    × (decoded (starred_v 2) 5 output ≡ (Ok (tally 2 steps), 0x00 ∷ []))
+    × (decoded (zeros_then 0x1F) 1 output ≡ (Ok (tally 1 24), 0x00 ∷ []))
+    × (decoded (zeros_then 0x20) 1 output ≡ (Err (Refused (ChannelValue 7)), output))
+    × (decoded (zeros_then 0xE0) 1 output ≡ (Err (Refused (ChannelValue 7)), output))
 
 -- whatever byte the output held, with the order of flipped indices on V
 abbrev pub StarredDecoding : ℕ → Type 0

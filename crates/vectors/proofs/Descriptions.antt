@@ -2,12 +2,12 @@
 use mathlib.Core.Path.{◌≡◌, refl}
 use mathlib.Core.List.{List, [], ◌∷◌}
 use Prim.Native.Nat.{ℕ}
-use Rattle.refusal.specs.declared.Refusal.TheVariants.{Alone}
 use Rattle.refusal.specs.Judge.{judge, refused_or}
 use Rattle.bits.specs.Mask.{ones_below}
 use Rattle.code.specs.declared.Code.{Code}
-use Rattle.code.specs.declared.Description.TheVariants.{Accepted, Refused}
 use Rattle.code.specs.Description.{describe_up_to, describe}
+use Rattle.refusal.specs.declared.Refusal.TheVariants.{NoPayload}
+use Rattle.std.specs.Prelude.{Err, Ok}
 
 -- D of document 01, with a last byte of choice, `E8` in D itself
 abbrev pub starred_d : ℕ → List ℕ
@@ -27,7 +27,7 @@ starred_code k = record { n = 3; r = 1; polynomial = 1; start = 0; k = k }
 -- D has N = 2^3 and k = 3; with `C0` k is 1; with `80` it is refused
 abbrev pub StarredDescriptions : Type 0
 StarredDescriptions =
-    (describe D ≡ Accepted (starred_code 3)) × (describe (starred_d 0xC0) ≡ Accepted (starred_code 1)) × (describe (starred_d 0x80) ≡ Refused (Alone 8))
+    (describe D ≡ Ok (starred_code 3)) × (describe (starred_d 0xC0) ≡ Ok (starred_code 1)) × (describe (starred_d 0x80) ≡ Err NoPayload)
 
 pub starred_descriptions : StarredDescriptions
 unfolding describe_up_to judge refused_or ones_below

@@ -25,8 +25,7 @@ use Rattle.channel.specs.Channel.{channel_value, channel_values}
 use Rattle.pass_tree.specs.Node.{node}
 use Rattle.flip_order.specs.Order.{information}
 use Rattle.flip_trial.specs.declared.Restart.TheVariants.{Root, AfterFlip}
-use Rattle.flip_run.specs.declared.Decoded.TheVariants.{Accepted, Refused16}
-use Rattle.flip_run.specs.Trials.{run}
+use Rattle.flip_run.specs.Trials.{run, tally}
 use Rattle.decoder.specs.Decoder.{single, WellFormed, decoded_under, decoded_as, decoded_full, decoded_restarted}
 use Rattle.decoder.proofs.Decoder.{spelt_out}
 use Rattle.decoder.proofs.Examples.{wide_d, wide_code, vector}
@@ -40,6 +39,8 @@ use Rattle.hearing_demands.specs.Repeats.{Call, add, clear, after, accepted_in, 
 use Rattle.hearing_demands.specs.Claims.{Bounds}
 use Rattle.hearing_demands.proofs.HeldAfter.{held_after_lem, held-bounds}
 use Rattle.hearing_demands.proofs.Buffer.{buffer-after}
+use Rattle.std.specs.Prelude.{Err, Ok}
+use Rattle.flip_run.specs.declared.DecodingError.TheVariants.{NonePassed}
 
 -- 9, 3, −21, 9, 13, 8, −3, −17
 abbrev pub first_v : List ℕ
@@ -56,7 +57,7 @@ sums_v = 0xFF ∷ 0x06 ∷ 0xF5 ∷ 0x15 ∷ 0x04 ∷ 0xFC ∷ 0x06 ∷ 0xE1 ∷
 -- T = 5 is the largest that 14 allows; with a smaller one fewer of the same trials are made. Whatever byte the output held
 abbrev pub Neither : ℕ → List ℕ → Type 0
 Neither byte v =
-    (decoded_full wide_d v 5 (byte ∷ []) ≡ (Refused16 5 120, byte ∷ [])) × (decoded_restarted wide_d v 5 (byte ∷ []) ≡ (Refused16 5 50, byte ∷ []))
+    (decoded_full wide_d v 5 (byte ∷ []) ≡ (Err (NonePassed (tally 5 120)), byte ∷ [])) × (decoded_restarted wide_d v 5 (byte ∷ []) ≡ (Err (NonePassed (tally 5 50)), byte ∷ []))
 
 pub neither_decodes : (byte : ℕ) → Neither byte first_v × Neither byte second_v
 unfolding first_where table judge refused_or number ones_below packed describe_up_to check_of covers parity transformed xors taken f g left_values right_values channel_value node information insert_by sort_by run decoded_under decoded_as
@@ -107,7 +108,7 @@ module _ (s : State) (h : Holds wide_d wide_code s (first_v ∷ second_v ∷ [])
 
   -- for every T, whatever byte the output held
   pub both_decode : (T byte : ℕ) → 1 ≤ T → T ≤ 5
-      → (decoded_held_with Root s T (byte ∷ []) ≡ (Accepted 1 24, 0x80 ∷ [])) × (decoded_held_with AfterFlip s T (byte ∷ []) ≡ (Accepted 1 24, 0x80 ∷ []))
+      → (decoded_held_with Root s T (byte ∷ []) ≡ (Ok (tally 1 24), 0x80 ∷ [])) × (decoded_held_with AfterFlip s T (byte ∷ []) ≡ (Ok (tally 1 24), 0x80 ∷ []))
   both_decode T byte least most =
       let well : WellFormed (single T) wide_d wide_code held (byte ∷ []) = record {
         described = describes;
@@ -131,7 +132,7 @@ pub twice-counted : heard_twice.hearing.count ≡ 2
 twice-counted = holds-both.count_is
 
 pub twice_decodes : (T byte : ℕ) → 1 ≤ T → T ≤ 5
-    → (decoded_held_with Root heard_twice T (byte ∷ []) ≡ (Accepted 1 24, 0x80 ∷ [])) × (decoded_held_with AfterFlip heard_twice T (byte ∷ []) ≡ (Accepted 1 24, 0x80 ∷ []))
+    → (decoded_held_with Root heard_twice T (byte ∷ []) ≡ (Ok (tally 1 24), 0x80 ∷ [])) × (decoded_held_with AfterFlip heard_twice T (byte ∷ []) ≡ (Ok (tally 1 24), 0x80 ∷ []))
 twice_decodes = both_decode heard_twice holds-both in_bounds
 
 -- and in any buffer of the right size; a buffer of that size exists
@@ -140,7 +141,7 @@ module _ (b : List ℕ) (size : length b ≡ hearing_size) where
   buffer = buffer_after (opened_in wide_d b).1 calls
 
   pub buffer_decodes : (T byte : ℕ) → 1 ≤ T → T ≤ 5
-      → (full_in buffer T (byte ∷ []) ≡ (Accepted 1 24, 0x80 ∷ [])) × (restarted_in buffer T (byte ∷ []) ≡ (Accepted 1 24, 0x80 ∷ []))
+      → (full_in buffer T (byte ∷ []) ≡ (Ok (tally 1 24), 0x80 ∷ [])) × (restarted_in buffer T (byte ∷ []) ≡ (Ok (tally 1 24), 0x80 ∷ []))
   buffer_decodes =
       let same = sym (buffer-after wide_d b wide_code calls describes size) in
       both_decode (state_in buffer) (subst (λ (s : State). Holds wide_d wide_code s (first_v ∷ second_v ∷ [])) same holds-both)

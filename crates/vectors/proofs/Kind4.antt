@@ -6,13 +6,11 @@ use lib.ListN.{take, replicate}
 use Rattle.laws.specs.First.{first_where}
 use Rattle.laws.specs.Table.{table}
 use Rattle.laws.specs.Insert.{insert_by, sort_by}
-use Rattle.refusal.specs.declared.Refusal.TheVariants.{Alone}
 use Rattle.refusal.specs.Judge.{judge, refused_or}
 use Rattle.bits.specs.Bit.{number}
 use Rattle.bits.specs.Mask.{ones_below}
 use Rattle.bits.specs.Packing.{packed}
 use Rattle.code.specs.declared.Code.{Code}
-use Rattle.code.specs.declared.Description.TheVariants as Description
 use Rattle.code.specs.Description.{describe_up_to, describe}
 use Rattle.code.specs.Claims.{with_start}
 use Rattle.crc.specs.Check.{check_of}
@@ -30,6 +28,8 @@ use Rattle.receive_frame.specs.Frame.{decoding_line, channel_line}
 use Rattle.receive_record.specs.Respond.{description_response, responded}
 use Rattle.receive_stream.specs.Stream.{records_in, responses, printed_from, printed}
 use Rattle.vectors.proofs.Descriptions.{D}
+use Rattle.std.specs.Prelude.{Err, Ok}
+use Rattle.refusal.specs.declared.Refusal.TheVariants.{FieldsMissing, LengthField, Polynomial, StartValue, UnknownKind}
 
 -- D as a record of kind 4, with a start value of one byte
 abbrev D4 : ℕ → List ℕ
@@ -47,18 +47,18 @@ of_kind kind = 0x09 ∷ 0x00 ∷ kind ∷ 0x00 ∷ 0x03 ∷ 0x01 ∷ 0x01 ∷ 0x
 -- from the length field. Kinds 0, 2, 3 and 5 are no descriptions. With a polynomial of 0 and start 2, 7 comes before 25; with start 2 and
 -- one information index, 25 before 8.
 pub kind_4_rows :
-    (describe (D4 1) ≡ Description.Accepted code4)
+    (describe (D4 1) ≡ Ok code4)
     × (with_start 1 D ≡ D4 1)
-    × (describe (D4 2) ≡ Description.Refused (Alone 25))
-    × (describe (take 8 (D4 1)) ≡ Description.Refused (Alone 1))
-    × (describe (take 9 (D4 1)) ≡ Description.Refused (Alone 1))
-    × (describe (take 10 (D4 1)) ≡ Description.Refused (Alone 2))
-    × (describe (of_kind 0) ≡ Description.Refused (Alone 3))
-    × (describe (of_kind 2) ≡ Description.Refused (Alone 3))
-    × (describe (of_kind 3) ≡ Description.Refused (Alone 3))
-    × (describe (of_kind 5) ≡ Description.Refused (Alone 3))
-    × (describe (0x0B ∷ 0x00 ∷ 0x04 ∷ 0x00 ∷ 0x03 ∷ 0x01 ∷ 0x00 ∷ 0x00 ∷ 0x02 ∷ 0x00 ∷ 0xE8 ∷ []) ≡ Description.Refused (Alone 7))
-    × (describe (0x0B ∷ 0x00 ∷ 0x04 ∷ 0x00 ∷ 0x03 ∷ 0x01 ∷ 0x01 ∷ 0x00 ∷ 0x02 ∷ 0x00 ∷ 0x80 ∷ []) ≡ Description.Refused (Alone 25))
+    × (describe (D4 2) ≡ Err StartValue)
+    × (describe (take 8 (D4 1)) ≡ Err FieldsMissing)
+    × (describe (take 9 (D4 1)) ≡ Err FieldsMissing)
+    × (describe (take 10 (D4 1)) ≡ Err LengthField)
+    × (describe (of_kind 0) ≡ Err UnknownKind)
+    × (describe (of_kind 2) ≡ Err UnknownKind)
+    × (describe (of_kind 3) ≡ Err UnknownKind)
+    × (describe (of_kind 5) ≡ Err UnknownKind)
+    × (describe (0x0B ∷ 0x00 ∷ 0x04 ∷ 0x00 ∷ 0x03 ∷ 0x01 ∷ 0x00 ∷ 0x00 ∷ 0x02 ∷ 0x00 ∷ 0xE8 ∷ []) ≡ Err Polynomial)
+    × (describe (0x0B ∷ 0x00 ∷ 0x04 ∷ 0x00 ∷ 0x03 ∷ 0x01 ∷ 0x01 ∷ 0x00 ∷ 0x02 ∷ 0x00 ∷ 0x80 ∷ []) ≡ Err StartValue)
 unfolding describe_up_to judge refused_or ones_below
 kind_4_rows = (refl, refl, refl, refl, refl, refl, refl, refl, refl, refl, refl, refl)
 

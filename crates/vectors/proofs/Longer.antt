@@ -9,14 +9,11 @@ use lib.ListN.{length, get_or, replicate, length-replicate, get_or-replicate}
 use Rattle.laws.specs.Table.{table}
 use Rattle.laws.proofs.First.{first-is}
 use Rattle.refusal.specs.declared.Refusal.{Refusal}
-use Rattle.refusal.specs.declared.Refusal.TheVariants.{Alone}
 use Rattle.refusal.specs.Judge.{judge, refused_or}
 use Rattle.arrays.specs.Sizes.{largest_n}
 use Rattle.arrays.specs.Claims.{longest}
 use Rattle.bits.specs.Mask.{ones_below}
 use Rattle.code.specs.declared.Code.{Code}
-use Rattle.code.specs.declared.Description.{Description}
-use Rattle.code.specs.declared.Description.TheVariants.{Accepted, Refused}
 use Rattle.code.specs.Description.{mask_of, describe_up_to, describe, on_description}
 use Rattle.transform.specs.Transform.{covers, parity, transformed, xors}
 use Rattle.values.specs.Values.{f, g, left_values, right_values, Rule}
@@ -27,6 +24,9 @@ use Rattle.theorems_largest.specs.Claims.{NewAnswer, AnswersAs}
 use Rattle.theorems_largest.proofs.Longer.{old_answers, as_10}
 use Rattle.theorems_largest.proofs.Inner.{inner_bound}
 use Rattle.vectors.proofs.Descriptions.{D}
+use Rattle.std.specs.Prelude.{Err, Ok}
+use Rattle.refusal.specs.declared.Refusal.TheVariants.{CheckLength, CodeLength}
+use Rattle.code.specs.Clauses.{Description}
 
 -- D with another n: each of its N / 8 mask bytes is `E8`
 abbrev long : ℕ → List ℕ
@@ -41,14 +41,14 @@ long_code n = record { n = n; r = 1; polynomial = 1; start = 0; k = 2 ^ n / 2 - 
 -- n = 3 is D's. If n may be at most 10, 10 is accepted, and 11, 12 and 13 are refused as 4; of these 11 and 12 are accepted with `largest_n`.
 pub long_rows :
     (long 3 ≡ D)
-    × (describe_up_to 10 D ≡ Accepted (long_code 3))
-    × (describe_up_to 10 (long 10) ≡ Accepted (long_code 10))
-    × (describe_up_to 10 (long 11) ≡ Refused (Alone 4))
-    × (describe_up_to 10 (long 12) ≡ Refused (Alone 4))
-    × (describe_up_to 10 (long 13) ≡ Refused (Alone 4))
-    × (describe (long 11) ≡ Accepted (long_code 11))
-    × (describe (long 12) ≡ Accepted (long_code 12))
-    × (describe (long 13) ≡ Refused (Alone 4))
+    × (describe_up_to 10 D ≡ Ok (long_code 3))
+    × (describe_up_to 10 (long 10) ≡ Ok (long_code 10))
+    × (describe_up_to 10 (long 11) ≡ Err CodeLength)
+    × (describe_up_to 10 (long 12) ≡ Err CodeLength)
+    × (describe_up_to 10 (long 13) ≡ Err CodeLength)
+    × (describe (long 11) ≡ Ok (long_code 11))
+    × (describe (long 12) ≡ Ok (long_code 12))
+    × (describe (long 13) ≡ Err CodeLength)
 unfolding describe_up_to judge refused_or ones_below
 long_rows = (refl, refl, refl, refl, refl, refl, refl, refl, refl)
 
@@ -63,12 +63,12 @@ long_as_10 = as_10 (long 10) (long_code 10) long_rows.2
 abbrev wide : List ℕ
 wide = 0x09 ∷ 0x00 ∷ 0x01 ∷ 0x00 ∷ 0x03 ∷ 0x11 ∷ 0x01 ∷ 0x00 ∷ 0xE8 ∷ []
 
-wide_refused : describe_up_to 10 wide ≡ Refused (Alone 6)
+wide_refused : describe_up_to 10 wide ≡ Err CheckLength
 unfolding describe_up_to judge refused_or
 wide_refused = refl
 
-pub wide_stays : (refuse : Refusal → ℕ) (go : Code → ℕ) → on_description (describe_up_to largest_n wide) refuse go ≡ refuse (Alone 6)
-wide_stays refuse go = sym (old_answers ℕ refuse go 10 largest_n wide (omega arith) (λ e. let six : describe_up_to 10 wide ≡ Refused (Alone 6) = wide_refused in let z : ◌≡◌ {A = ℕ} 4 6 = cc in omega arith))
+pub wide_stays : (refuse : Refusal → ℕ) (go : Code → ℕ) → on_description (describe_up_to largest_n wide) refuse go ≡ refuse CheckLength
+wide_stays refuse go = sym (old_answers ℕ refuse go 10 largest_n wide (omega arith) (λ e. let six : describe_up_to 10 wide ≡ Err CheckLength = wide_refused in let z : ◌≡◌ {A = ℕ} 4 6 = cc in omega arith))
     ∙ ap (λ (x : Description). on_description x refuse go) wide_refused
 
 -- at n = 12 the description has another answer
@@ -77,7 +77,7 @@ new_12 = record {
   refused = long_rows.4;
   above = omega arith;
   most = omega arith;
-  other = λ e. let code : describe (long 12) ≡ Accepted (long_code 12) = long_rows.7 in let z : ◌≡◌ {A = ℕ} 0 1 = cc in omega arith;
+  other = λ e. let code : describe (long 12) ≡ Ok (long_code 12) = long_rows.7 in let z : ◌≡◌ {A = ℕ} 0 1 = cc in omega arith;
 }
 
 -- ---- the bound of a leaf

@@ -12,7 +12,6 @@ use Rattle.bits.specs.Packing.{unpacked}
 use Rattle.values.specs.Values.{hard}
 use Rattle.channel.specs.Channel.{channel_value, first_outside}
 use Rattle.flip_trial.specs.declared.Restart.{Restart}
-use Rattle.flip_run.specs.declared.Decoded.TheVariants.{Accepted}
 use Rattle.decoder.specs.Decoder.{Decoder, single, sets, most_limit, WellFormed, decoded_as, decoded_full, decoded_restarted}
 use Rattle.decoder.specs.Claims.{Allowed}
 use Rattle.decoder.proofs.Decoder.{spelt_out}
@@ -20,6 +19,8 @@ use Rattle.decoder.proofs.Examples.{wide_d, wide_code}
 use Rattle.decoder_demands.specs.Noiseless.{Received}
 use Rattle.decoder_demands.proofs.Noiseless.{noiseless, noiseless_decoding}
 use Rattle.decoder_demands.proofs.Instances.{describes, encodes_80, small}
+use Rattle.flip_run.specs.Trials.{tally}
+use Rattle.std.specs.Prelude.{Ok}
 
 abbrev noiseless80 : List ℕ
 noiseless80 = 0xFF ∷ 0x01 ∷ 0xFF ∷ 0x01 ∷ 0x01 ∷ 0xFF ∷ 0x01 ∷ 0xFF ∷ []
@@ -55,10 +56,10 @@ received = record {
 }
 
 -- for every T, whatever byte the output held
-pub decodes_80 : (T byte : ℕ) → 1 ≤ T → T ≤ 5 → (decoded_full wide_d noiseless80 T (byte ∷ []) ≡ (Accepted 1 24, 0x80 ∷ [])) × (decoded_restarted wide_d noiseless80 T (byte ∷ []) ≡ (Accepted 1 24, 0x80 ∷ []))
+pub decodes_80 : (T byte : ℕ) → 1 ≤ T → T ≤ 5 → (decoded_full wide_d noiseless80 T (byte ∷ []) ≡ (Ok (tally 1 24), 0x80 ∷ [])) × (decoded_restarted wide_d noiseless80 T (byte ∷ []) ≡ (Ok (tally 1 24), 0x80 ∷ []))
 decodes_80 T byte least most = noiseless_decoding wide_d wide_code (0x80 ∷ []) noiseless80 T (byte ∷ []) received (well_formed (single T) (least, most) byte)
 
 -- every restart by sets, for every w and every T
-pub sets_decode_80 : (r : Restart) (w T byte : ℕ) → 1 ≤ w → w ≤ 3 → 1 ≤ T → T ≤ most_limit w wide_code → decoded_as (sets w T) r wide_d noiseless80 (byte ∷ []) ≡ (Accepted 1 24, 0x80 ∷ [])
+pub sets_decode_80 : (r : Restart) (w T byte : ℕ) → 1 ≤ w → w ≤ 3 → 1 ≤ T → T ≤ most_limit w wide_code → decoded_as (sets w T) r wide_d noiseless80 (byte ∷ []) ≡ (Ok (tally 1 24), 0x80 ∷ [])
 sets_decode_80 r w T byte w-least w-most least most =
     noiseless (sets w T) r wide_d wide_code (0x80 ∷ []) noiseless80 (byte ∷ []) received (well_formed (sets w T) (w-least, w-most, least, most) byte)

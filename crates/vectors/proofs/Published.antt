@@ -17,20 +17,19 @@ use Rattle.bits.specs.Bit.{bits_of, number}
 use Rattle.bits.specs.Mask.{ones_below}
 use Rattle.bits.specs.Packing.{packed, unpacked}
 use Rattle.code.specs.declared.Code.{Code}
-use Rattle.code.specs.declared.Description.TheVariants as Description
 use Rattle.code.specs.Description.{describe_up_to, describe}
 use Rattle.crc.specs.Check.{check_of}
 use Rattle.transform.specs.Transform.{covers, parity, transformed}
 use Rattle.placing.specs.Place.{placed}
 use Rattle.values.specs.Values.{hard}
 use Rattle.channel.specs.Channel.{channel_value, first_outside}
-use Rattle.encoder.specs.declared.Encoded.TheVariants.{Done}
 use Rattle.encoder.specs.Encode.{message_of, codeword, encoded_by, encoded}
-use Rattle.flip_run.specs.declared.Decoded.TheVariants.{Accepted}
 use Rattle.decoder.specs.Decoder.{single, decoded_full, decoded_restarted}
 use Rattle.decoder.proofs.Decoder.{spelt_out}
 use Rattle.decoder_demands.specs.Noiseless.{Received}
 use Rattle.decoder_demands.proofs.Noiseless.{noiseless_decoding}
+use Rattle.std.specs.Prelude.{Ok}
+use Rattle.flip_run.specs.Trials.{tally}
 
 -- kind 4, N = 128, r = 16, the polynomial z^16 + z^12 + z^5 + 1, start FFFF, and the indices from 40 on
 abbrev description : List ℕ
@@ -48,7 +47,7 @@ digits = 0x31 ∷ 0x32 ∷ 0x33 ∷ 0x34 ∷ 0x35 ∷ 0x36 ∷ 0x37 ∷ 0x38 ∷
 abbrev sent : List ℕ
 sent = 0x57 ∷ 0x08 ∷ 0xF8 ∷ 0xE3 ∷ 0x57 ∷ 0xA2 ∷ 0x07 ∷ 0x2A ∷ 0x07 ∷ 0xA2 ∷ 0x07 ∷ 0xE6 ∷ 0x07 ∷ 0x08 ∷ 0xF8 ∷ 0x2F ∷ []
 
-pub ibm_3740_code : describe description ≡ Description.Accepted code
+pub ibm_3740_code : describe description ≡ Ok code
 unfolding describe_up_to judge refused_or ones_below
 ibm_3740_code = refl
 
@@ -58,7 +57,7 @@ unfolding check_of unpacked table
 ibm_3740_message = refl
 
 -- and it is encoded, whatever bytes the output held
-pub ibm_3740_encoded : (output : List ℕ) → length output ≡ 16 → encoded description digits output ≡ (Done, sent)
+pub ibm_3740_encoded : (output : List ℕ) → length output ≡ 16 → encoded description digits output ≡ (Ok tt, sent)
 unfolding judge refused_or table number ones_below packed unpacked describe_up_to check_of covers parity transformed placed codeword encoded_by encoded
 ibm_3740_encoded output size = rw size
 
@@ -102,7 +101,7 @@ with_signs = record {
 }
 
 -- for every T that 14 allows and every output of nine bytes
-pub ibm_3740_decoded : (T : ℕ) (output : List ℕ) → 1 ≤ T → T ≤ 89 → length output ≡ 9 → (decoded_full description received T output ≡ (Accepted 1 896, digits)) × (decoded_restarted description received T output ≡ (Accepted 1 896, digits))
+pub ibm_3740_decoded : (T : ℕ) (output : List ℕ) → 1 ≤ T → T ≤ 89 → length output ≡ 9 → (decoded_full description received T output ≡ (Ok (tally 1 896), digits)) × (decoded_restarted description received T output ≡ (Ok (tally 1 896), digits))
 unfolding unpacked table
 ibm_3740_decoded T output least most size =
     noiseless_decoding description code digits received T output with_signs (record {

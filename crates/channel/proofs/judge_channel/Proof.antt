@@ -7,11 +7,11 @@ use borrow.Author.Rules.{rules}
 use borrow.Author.Tests.{eq-eqb, ne_eqb, lt-ltb, le-ltb}
 use lib.ListN.{length}
 use Rattle.laws.proofs.Powers.{one_shl}
-use Rattle.refusal.specs.declared.Refusal.TheVariants.{At}
-use Rattle.refusal.specs.declared.Judgement.TheVariants.{Refused}
 use Rattle.refusal.proofs.Judge.{judge-none, judge_yes, judge_no}
 use Rattle.channel.proofs.judge_channel.Statement.{statement}
 use Rattle.channel.proofs.judge_channel.Tie as tie
+use Rattle.refusal.specs.declared.Refusal.TheVariants.{ChannelValue}
+use Rattle.std.specs.Prelude.{Err}
 
 -- N, as it is computed
 size : (s : tie.Start) → 1 * 2 ^ s.args.code.n % 2 ^ 64 ≡ 2 ^ s.args.code.n
@@ -33,7 +33,7 @@ returns-2 c =
     let e = c.before.before in
     let channel = (start e).args.channel.now in
     let i = c.before.first_outside-index.ensures in
-    ap (λ (k : ℕ). Refused (At 13 k)) i
+    ap (λ (k : ℕ). Err (ChannelValue k)) i
     ∙ sym (judge_no _ _ _ (ap not (eq-eqb _ _ (long e)))
     ∙ judge_yes _ _ _ (lt-ltb _ _ (subst (λ (k : ℕ). k < length channel) i c.if-index-channel.true)))
 

@@ -5,7 +5,6 @@ use Prim.Native.Nat.{ℕ, ◌≤◌}
 use native.Mathlib.Omega.{arith}
 use borrow.Author.Rules.{rules}
 use lib.ListN.{get_or, take, drop}
-use Rattle.refusal.specs.declared.Judgement.{Judgement}
 use Rattle.refusal.specs.Judge.{judge}
 use Rattle.refusal.proofs.Judge.{judge-none, judge_yes, judge_no}
 use Rattle.refusal.proofs.Tests.{outside-past}
@@ -14,6 +13,7 @@ use Rattle.code.specs.Clauses.{description_refusals}
 use Rattle.code.proofs.TwoKinds.{fields-there}
 use Rattle.code.proofs.judge_check.Statement.{statement}
 use Rattle.code.proofs.judge_check.Tie as tie
+use Rattle.refusal.specs.Clauses.{Judgement}
 
 -- the judgement once the first i tests have failed
 abbrev past : ℕ → List ℕ → Judgement

@@ -8,7 +8,6 @@ use borrow.Author.Rules.{rules}
 use borrow.Author.Tests.{ltb-false, eq-eqb, ne_eqb}
 use lib.ListN.{length, get_or, take, drop}
 use Rattle.laws.proofs.Powers.{one_shl}
-use Rattle.refusal.specs.declared.Judgement.{Judgement}
 use Rattle.refusal.specs.Judge.{judge}
 use Rattle.refusal.proofs.Judge.{judge-none, judge_yes, judge_no}
 use Rattle.refusal.proofs.Tests.{outside-past}
@@ -18,6 +17,7 @@ use Rattle.code.specs.Clauses.{description_refusals}
 use Rattle.code.proofs.TwoKinds.{mask_at-most, fields-there}
 use Rattle.code.proofs.judge_layout.Statement.{statement}
 use Rattle.code.proofs.judge_layout.Tie as tie
+use Rattle.refusal.specs.Clauses.{Judgement}
 
 -- the judgement once the first i tests have failed
 abbrev past : ℕ → List ℕ → Judgement

@@ -7,7 +7,6 @@ use native.Mathlib.Omega.{arith}
 use borrow.Author.Rules.{rules}
 use borrow.Author.Tests.{eq-eqb, ne_eqb}
 use lib.ListN.{length, drop}
-use Rattle.refusal.specs.declared.Judgement.{Judgement}
 use Rattle.refusal.specs.Judge.{judge}
 use Rattle.refusal.proofs.Judge.{judge-none, judge_yes, judge_no}
 use Rattle.code.specs.declared.Code.{Code}
@@ -16,6 +15,7 @@ use Rattle.code.specs.Claims.{Coded}
 use Rattle.encoder.specs.Encode.{encoding_refusals}
 use Rattle.encoder.proofs.judge_encoding.Statement.{statement}
 use Rattle.encoder.proofs.judge_encoding.Tie as tie
+use Rattle.refusal.specs.Clauses.{Judgement}
 
 -- as many bytes as the mask has
 bytes_of : {mask : List ℕ} {c : Code} → Coded mask c → length mask ≡ code_length c / 8

@@ -16,13 +16,13 @@ use Rattle.pass_tree.specs.declared.Work.{Work}
 use Rattle.pass_tree.specs.Node.{Out}
 use Rattle.flip_trial.specs.Trial.{first_trial, trial_passes}
 use Rattle.flip_trial.proofs.Bounds.{first_bits, first_steps}
-use Rattle.flip_run.specs.declared.Ended.TheVariants.{Passed}
-use Rattle.flip_run.specs.Trials.{Verdict, passed, run}
+use Rattle.flip_run.specs.Trials.{Verdict, passed, run, tally}
 use Rattle.flip_run.specs.Clauses.{Ran}
 use Rattle.flip_run.proofs.LoopInvariant.{run-passes, run_fails}
 use Rattle.flip_run.proofs.LoopStep.{values-inside, arrays_again, ran_passed}
 use Rattle.flip_run.proofs.begin.Statement.{statement}
 use Rattle.flip_run.proofs.begin.Tie as tie
+use Rattle.std.specs.Prelude.{Ok}
 
 first-trial-requires : tie.Need-first_trial-done-requires
 first-trial-requires c κs =
@@ -89,7 +89,7 @@ begin_spec =
     first-trial-requires
     trial-passes-requires
     (λ c later. (
-      subst (λ (w : Verdict). Ran c.args.mask.now c.args.code w (Passed 1 c.first_trial-done.result.steps) c.trial_passes.new.message)
+      subst (λ (w : Verdict). Ran c.args.mask.now c.args.code w (Ok (tally 1 c.first_trial-done.result.steps)) c.trial_passes.new.message)
           (ap (λ (steps : ℕ). passed 1 steps (o (f c.before)).bits) (counted (f c.before))
           ∙ sym (run-passes (ok (f c.before)) 0 0 (o (f c.before)) later (sym (ok-is c.before) ∙ (search rules))))
           (ran_passed c.requires.0.coded _ _ c.first_trial-done.ensures.bits.bits c.trial_passes.ensures.1 (first_bits c.args.mask.now c.args.code (v (f c.before)))),

@@ -6,7 +6,6 @@ use native.Mathlib.Omega.{arith}
 use borrow.Author.Rules.{rules}
 use lib.ListN.{length, get_or, take}
 use Rattle.arrays.proofs.Sizes.{fits}
-use Rattle.code.specs.declared.Description.TheVariants.{Accepted}
 use Rattle.code.specs.Description.{describe}
 use Rattle.code.specs.Code.{longest_description}
 use Rattle.code.proofs.Facts.{described}
@@ -19,6 +18,7 @@ use Rattle.hearing_buffer.specs.Lent.{hearing_size}
 use Rattle.hearing_buffer.proofs.InPlace.{code-size, part, parts, state_parts}
 use Rattle.hearing_buffer.proofs.decode_under.Statement.{statement}
 use Rattle.hearing_buffer.proofs.decode_under.Tie as tie
+use Rattle.std.specs.Prelude.{Ok}
 
 module _ (s : tie.Start) where
   abbrev b : List ℕ
@@ -31,7 +31,7 @@ module _ (s : tie.Start) where
   abbrev state : State
   state = state_by (take longest_description b) (get_or b longest_description 0) (part b size)
 
-  describes : describe (description_of state) ≡ Accepted s.args.code
+  describes : describe (description_of state) ≡ Ok s.args.code
   describes = (state_is state s.args.code (ap code_of_state (state_parts b size) ∙ s.requires)).0
 
 returns : tie.Need-returns

@@ -7,9 +7,6 @@ use borrow.Author.Rules.{rules}
 use borrow.Author.Tests.{le-ltb, lt-ltb, eq-eqb, ne_eqb}
 use lib.ListN.{length, drop}
 use Rattle.laws.proofs.Powers.{one_shl}
-use Rattle.refusal.specs.declared.Judgement.{Judgement}
-use Rattle.refusal.specs.declared.Judgement.TheVariants.{Refused}
-use Rattle.refusal.specs.declared.Refusal.TheVariants.{At}
 use Rattle.refusal.specs.Judge.{judge}
 use Rattle.refusal.proofs.Judge.{judge-none, judge_yes, judge_no}
 use Rattle.code.specs.Code.{code_length}
@@ -17,6 +14,9 @@ use Rattle.pass_resume.specs.Resume.{first_bad}
 use Rattle.pass_resume.specs.Clauses.{prefix_refusals}
 use Rattle.pass_resume.proofs.judge_prefix.Statement.{statement}
 use Rattle.pass_resume.proofs.judge_prefix.Tie as tie
+use Rattle.refusal.specs.declared.Refusal.TheVariants.{PrefixBit}
+use Rattle.std.specs.Prelude.{Err}
+use Rattle.refusal.specs.Clauses.{Judgement}
 
 -- the judgement once the first i tests have failed
 abbrev past : ℕ → tie.Start → Judgement
@@ -52,7 +52,7 @@ returns c =
 returns-2 : tie.Need-returns-then-index-prefix
 returns-2 c =
     let i = c.first_bad-index.ensures in
-    ap (λ (k : ℕ). Refused (At 18 k)) i
+    ap (λ (k : ℕ). Err (PrefixBit k)) i
     ∙ sym (past-1 c.before.before ∙ judge_yes _ _ _ (lt-ltb _ _ (subst (λ (k : ℕ). k < length (from1 c.before.before).args.prefix.now) i c.if-index-prefix.true)))
 
 returns-3 : tie.Need-returns-then-output-size

@@ -8,14 +8,14 @@ use borrow.Author.Rules.{rules}
 use borrow.Author.Tests.{le-ltb, lt-ltb, ne_eqb}
 use lib.ListN.{length, drop}
 use Rattle.refusal.specs.declared.Refusal.{Refusal}
-use Rattle.refusal.specs.declared.Refusal.TheVariants.{At}
-use Rattle.refusal.specs.declared.Judgement.TheVariants.{Refused}
 use Rattle.refusal.specs.Judge.{judge}
 use Rattle.refusal.proofs.Judge.{judge-none, judge_yes, judge_no}
 use Rattle.refusal.proofs.Tests.{differs_no}
 use Rattle.quantiser.specs.Quantise.{first_nan, quantising_refusals}
 use Rattle.quantiser.proofs.judge_quantising.Statement.{statement}
 use Rattle.quantiser.proofs.judge_quantising.Tie as tie
+use Rattle.refusal.specs.declared.Refusal.TheVariants.{NotANumber}
+use Rattle.std.specs.Prelude.{Err}
 
 -- the tests from i on
 abbrev from : ℕ → tie.Start → List (Bool × Refusal)
@@ -51,7 +51,7 @@ returns-2 c = sym (past-1 c.before.before ∙ judge_yes _ _ _ (ap not (sym c.is_
 returns-3 : tie.Need-returns-then-index-samples
 returns-3 c =
     let samples = c.args.samples.now in
-    ap (λ (k : ℕ). Refused (At 22 k)) c.first_nan-index.ensures
+    ap (λ (k : ℕ). Err (NotANumber k)) c.first_nan-index.ensures
     ∙ sym (past-2 c.before.before ∙ judge_yes _ _ _ (lt-ltb (first_nan samples) (length samples) (omega arith)))
 
 pub judge_quantising_spec : {M : Type 1} → statement M

@@ -11,8 +11,6 @@ use Rattle.refusal.specs.Judge.{number_of}
 use Rattle.arrays.specs.Claims.{longest_bytes}
 use Rattle.bits.specs.Packing.{bytes_for}
 use Rattle.code.specs.declared.Code.{Code}
-use Rattle.code.specs.declared.Description.{Description}
-use Rattle.code.specs.declared.Description.TheVariants.{Accepted}
 use Rattle.code.specs.Description.{describe, on_description}
 use Rattle.code.specs.Claims.{Coded, Described}
 use Rattle.code.proofs.Facts.{described}
@@ -26,6 +24,8 @@ use Rattle.receive_frame.specs.Clauses.{line_of_answer}
 use Rattle.receive_frame.proofs.Room.{payload-most}
 use Rattle.receive_frame.proofs.put_decoding.Statement.{statement}
 use Rattle.receive_frame.proofs.put_decoding.Tie as tie
+use Rattle.std.specs.Prelude.{Ok}
+use Rattle.code.specs.Clauses.{Description}
 
 -- the line under a code, and the definition by an answer of `describe`
 abbrev under : List ℕ → Code → List ℕ → ℕ → List ℕ → List ℕ
@@ -36,15 +36,15 @@ by held channel limit a =
     on_description a (λ x. no_line (number_of x)) (λ c. line_of_answer (decoded_restarted held channel limit (replicate (bytes_for c.k) 0)))
 
 -- the code that was accepted
-module _ (c : tie.In-Accepted) where
+module _ (c : tie.In-Ok) where
   abbrev held : List ℕ
   held = c.args.held.now
 
   abbrev code : Code
-  code = c.in-Accepted.code
+  code = c.in-Ok.code
 
-  accepted : Accepted code ≡ describe held
-  accepted = sym c.in-Accepted.is ∙ c.read_description.ensures
+  accepted : Ok code ≡ describe held
+  accepted = sym c.in-Ok.is ∙ c.read_description.ensures
 
   facts : Described held code
   facts = described held code (sym accepted)
@@ -72,7 +72,7 @@ put-decoded-requires c κs =
       a.requires,
     )
 
-returns : tie.Need-returns-in-Accepted
+returns : tie.Need-returns-in-Ok
 unfolding decoding_line
 returns c =
     let channel = c.args.channel.now in
@@ -83,11 +83,11 @@ returns c =
     ∙ ap line_of_answer (sym (under-code (single c.args.limit) AfterFlip (held a) channel (replicate (bytes_for (code a).k) 0) (code a) (sym (accepted a))))
     ∙ ap (by (held a) channel c.args.limit) (accepted a))
 
-returns-2 : tie.Need-returns-in-Refused
+returns-2 : tie.Need-returns-in-Err
 unfolding decoding_line
 returns-2 c =
     put_as c.put_refusal.ensures _
-    (ap (by c.args.held.now c.args.channel.now c.args.limit) (sym c.in-Refused.is ∙ c.read_description.ensures))
+    (ap (by c.args.held.now c.args.channel.now c.args.limit) (sym c.in-Err.is ∙ c.read_description.ensures))
 
 pub put_decoding_spec : {M : Type 1} → statement M
 put_decoding_spec =

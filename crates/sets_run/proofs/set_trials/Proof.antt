@@ -20,8 +20,7 @@ use Rattle.flip_trial.specs.Flips.{Flips}
 use Rattle.flip_trial.specs.Clauses.{PlainRules, TrialPost}
 use Rattle.flip_trial.proofs.Bounds.{later-bits, later_steps}
 use Rattle.flip_trial.proofs.Passes.{q_is, later_pre, later_made, plain_after}
-use Rattle.flip_run.specs.declared.Ended.TheVariants.{Passed, Failed}
-use Rattle.flip_run.specs.Trials.{Verdict}
+use Rattle.flip_run.specs.Trials.{Verdict, tally}
 use Rattle.flip_run.specs.Clauses.{Ran}
 use Rattle.flip_run.proofs.LoopStep.{trial_on, ran_passed}
 use Rattle.decoder.specs.Candidate.{Candidate}
@@ -32,6 +31,7 @@ use Rattle.sets_run.proofs.Searching.{Searching, search_starts, search_ends, sea
 use Rattle.sets_run.proofs.Held.{leaves_pre, generated-is}
 use Rattle.sets_run.proofs.set_trials.Statement.{statement}
 use Rattle.sets_run.proofs.set_trials.Tie as tie
+use Rattle.std.specs.Prelude.{Err, Ok}
 
 abbrev invariant-loop : tie.invariant-loop-at
 invariant-loop search mask code channel first values rules₀ work₀ sums₀ leaves₀ keys₀ restart bits₀ end₀ at₀ steps₀ rules work sums leaves keys bits end at steps =
@@ -189,7 +189,7 @@ returns c =
     let t = k c.before in
     let b = a t in
     let on = (s b).requires in (
-      subst (λ (w : Verdict). Ran (mask b) (s b).args.code w (Passed (b.loop-at.at + 1 + 1) (b.loop-at.steps + t.later_trial-done.result.steps)) c.trial_passes.new.message)
+      subst (λ (w : Verdict). Ran (mask b) (s b).args.code w (Ok (tally (b.loop-at.at + 1 + 1) (b.loop-at.steps + t.later_trial-done.result.steps))) c.trial_passes.new.message)
           (sym (on.1.goes_on _ ∙ search_passes on.0 (next (i (j (r t)))).2 (set_is (j (r t))) (took t) (sym (ok-is c.before) ∙ c.if-trial_passes.true)))
           (ran_passed on.0.frame.coded _ _ (made-is t).bits c.trial_passes.ensures.1 (later-bits (mask b) (s b).args.code (v b) (is t) (q t))),
       same-room c.before,
@@ -232,7 +232,7 @@ loop-again c =
 
 returns-2 : tie.Need-returns invariant-loop decreases-loop
 returns-2 c = (
-  subst (λ (w : Verdict). Ran (mask c.before) (s c.before).args.code w (Failed (c.loop-at.at + 1) c.loop-at.steps) c.loop-at.sums)
+  subst (λ (w : Verdict). Ran (mask c.before) (s c.before).args.code w (Err (tally (c.loop-at.at + 1) c.loop-at.steps)) c.loop-at.sums)
       (sym ((s c.before).requires.1.goes_on _ ∙ search_ends (going c.before) c.loop-at-test.false)) refl,
   c.loop-at.invariant.2.sums,
 )
