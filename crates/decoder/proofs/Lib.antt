@@ -1,5 +1,5 @@
 pub mod Decoder
-pub mod Trials
+pub mod Single
 pub mod Limit
 pub mod Metric
 pub mod Examples

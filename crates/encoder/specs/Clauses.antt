@@ -5,7 +5,6 @@ use Rattle.bits.specs.Claims.{Bits}
 use Rattle.bits.specs.Packing.{unpacked}
 use Rattle.code.specs.declared.Code.{Code}
 use Rattle.code.specs.Code.{code_length, information_count}
-use Rattle.code.specs.Claims.{Coded}
 use Rattle.placing.specs.Place.{placed}
 use Rattle.encoder.specs.Encode.{message_of}
 use Rattle.encoder.specs.Claims.{WellFormed}
@@ -24,8 +23,7 @@ pub record MessagePre (c : Code) (payload message : List ℕ) : Type 0 where
   pub message_size : length message ≡ information_count c
 
 -- a payload for a code, and room for its message and its codeword. All that the room holds are bits.
-pub record PayloadPre (mask : List ℕ) (c : Code) (payload room output : List ℕ) : Type 0 where
-  pub coded : Coded mask c
+pub record PayloadPre (c : Code) (payload room output : List ℕ) : Type 0 where
   pub well_formed : WellFormed c payload output
   pub room_size : code_length c ≤ length room
   pub room_bits : Bits room

@@ -4,7 +4,6 @@
 ghost use Rattle.std.specs.Prelude.{◌≡◌, ◌^◌, length};
 ghost use Rattle.refusal.specs.Judge.{differs, judge};
 ghost use Rattle.bits.specs.Packing.{bytes_for, packed, unpacked, unused_bits};
-ghost use Rattle.code.specs.Claims.{Coded};
 ghost use Rattle.transform.specs.Transform.{transformed};
 ghost use Rattle.encoder.specs.Encode.{message_of, codeword, encoding_refusals, encoded_by, encoded};
 ghost use Rattle.encoder.specs.Clauses.{MessagePre, PayloadPre, placed_message, TransformPre};
@@ -12,6 +11,7 @@ ghost use Rattle.encoder.specs.Claims.{WellFormed};
 
 use arrays::{ByteArray, SIZE};
 use code::Code;
+use code_mask::MaskedCode;
 use refusal::Refusal;
 
 // The message of a payload: its k bits, then its r check bits.
@@ -25,13 +25,14 @@ fn message_of(code: Code, payload: &[u8], message: &mut [u8])
 }
 
 // Places the message of a payload by the mask, packed; the message is made in `room`.
-fn place_message(mask: &[u8], code: Code, payload: &[u8], room: &mut [u8], output: &mut [u8])
-    requires { PayloadPre mask.now code payload.now room.old output.old }
-    ensures { output.new ≡ packed (placed_message mask.now code payload.now) }
+fn place_message(masked: &MaskedCode, payload: &[u8], room: &mut [u8], output: &mut [u8])
+    requires { PayloadPre masked.now.code payload.now room.old output.old }
+    ensures { output.new ≡ packed (placed_message masked.now.mask.now masked.now.code payload.now) }
 {
+    let code = masked.code;
     let size = code.k + code.r as usize;
     message_of(code, payload, &mut room[..size]);
-    placing::place(mask, room, output);
+    placing::place(masked.mask, room, output);
 }
 
 // Transforms the 2^n packed bits of the output, in `room`, and puts them back.
@@ -46,13 +47,13 @@ fn transform_in(n: u32, room: &mut ByteArray, output: &mut [u8])
 }
 
 // The codeword of a payload: its message is placed, then transformed. One array has room for the message, and then for the transform.
-fn write_codeword(mask: &[u8], code: Code, payload: &[u8], output: &mut [u8])
-    requires { Coded mask.now code × WellFormed code payload.now output.old }
-    ensures { output.new ≡ codeword mask.now code payload.now }
+fn write_codeword(masked: &MaskedCode, payload: &[u8], output: &mut [u8])
+    requires { WellFormed masked.now.code payload.now output.old }
+    ensures { output.new ≡ codeword masked.now.mask.now masked.now.code payload.now }
 {
     let mut room = [0u8; SIZE];
-    place_message(mask, code, payload, &mut room, output);
-    transform_in(code.n, &mut room, output);
+    place_message(masked, payload, &mut room, output);
+    transform_in(masked.code.n, &mut room, output);
 }
 
 // Whether an unused low bit of the last payload byte is set.
@@ -67,31 +68,29 @@ fn has_unused_bit(payload: &[u8], k: usize) -> bool
 }
 
 // Judges a payload and an output: refusals 9 to 11.
-fn judge_encoding(mask: &[u8], code: Code, payload: &[u8], output: &[u8]) -> Result<(), Refusal>
-    requires { Coded mask.now code }
-    ensures { result ≡ judge (encoding_refusals code payload.now output.now) }
+fn judge_encoding(masked: &MaskedCode, payload: &[u8], output: &[u8]) -> Result<(), Refusal>
+    ensures { result ≡ judge (encoding_refusals masked.now.code payload.now output.now) }
 {
-    if payload.len() != bits::bytes_for(code.k) {
+    let k = masked.code.k;
+    if payload.len() != bits::bytes_for(k) {
         return Err(Refusal::PayloadLength);
     }
-    if has_unused_bit(payload, code.k) {
+    if has_unused_bit(payload, k) {
         return Err(Refusal::UnusedBit);
     }
-    let size = mask.len();
-    if output.len() != size {
+    if output.len() != masked.mask.len() {
         return Err(Refusal::CodewordLength);
     }
     Ok(())
 }
 
 // Encodes a payload under a code. If the call is refused nothing is written.
-fn encode_by(mask: &[u8], code: Code, payload: &[u8], output: &mut [u8]) -> Result<(), Refusal>
-    requires { Coded mask.now code }
+fn encode_by(masked: &MaskedCode, payload: &[u8], output: &mut [u8]) -> Result<(), Refusal>
     ensures { (result, output.new)
-        ≡ encoded_by mask.now code payload.now output.old }
+        ≡ encoded_by masked.now.mask.now masked.now.code payload.now output.old }
 {
-    judge_encoding(mask, code, payload, output)?;
-    write_codeword(mask, code, payload, output);
+    judge_encoding(masked, payload, output)?;
+    write_codeword(masked, payload, output);
     Ok(())
 }
 
@@ -99,6 +98,6 @@ fn encode_by(mask: &[u8], code: Code, payload: &[u8], output: &mut [u8]) -> Resu
 pub fn encode(description: &[u8], payload: &[u8], output: &mut [u8]) -> Result<(), Refusal>
     ensures { (result, output.new) ≡ encoded description.now payload.now output.old }
 {
-    let code = code::read_description(description)?;
-    encode_by(code::mask_of(description), code, payload, output)
+    let masked = code_mask::read(description)?;
+    encode_by(&masked, payload, output)
 }

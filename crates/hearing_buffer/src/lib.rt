@@ -8,12 +8,11 @@ ghost use Rattle.decoder.specs.Decoder.{single, decoded_as};
 ghost use Rattle.hearing.specs.Hearing.{fresh, combined};
 ghost use Rattle.hearing_state.specs.State.{state_of, description_of, code_of_state, decoded_held_with};
 ghost use Rattle.hearing_state.specs.Clauses.{added_under};
-ghost use Rattle.hearing_buffer.specs.Lent.{hearing_size, bytes_of, state_in, answer_in, opened_in, added_in, cleared_in, full_in, restarted_in};
+ghost use Rattle.hearing_buffer.specs.Lent.{hearing_size, bytes_of, state_in, answer_in, opened_in, added_in, cleared_in};
 
 use arrays::SIZE;
 use code::{Code, LONGEST};
 use flip_run::{DecodingError, Tally, Terms};
-use flip_trial::Restart;
 use refusal::Refusal;
 
 // The index of the first value in a buffer.
@@ -116,35 +115,9 @@ fn decode_under(
 }
 
 // Decodes the hearing in a buffer. Its values are not copied.
-fn decode(terms: Terms, buffer: &[u8], output: &mut [u8]) -> Result<Tally, DecodingError>
+pub fn decode(terms: Terms, buffer: &[u8], output: &mut [u8]) -> Result<Tally, DecodingError>
     ensures { (result, output.new) ≡ decoded_held_with terms.restart (state_in buffer.now) terms.limit output.old }
 {
     let code = code_in(buffer)?;
     decode_under(terms, code, buffer, output)
-}
-
-// Decodes the hearing in a buffer with each later trial repeated from the root.
-pub fn decode_full(buffer: &[u8], limit: u32, output: &mut [u8]) -> Result<Tally, DecodingError>
-    ensures { (result, output.new) ≡ full_in buffer.now limit output.old }
-{
-    let full = Terms {
-        restart: Restart::Root,
-        limit,
-    };
-    decode(full, buffer, output)
-}
-
-// Decodes the hearing in a buffer with each later trial resumed after its flipped index.
-pub fn decode_restarted(
-    buffer: &[u8],
-    limit: u32,
-    output: &mut [u8],
-) -> Result<Tally, DecodingError>
-    ensures { (result, output.new) ≡ restarted_in buffer.now limit output.old }
-{
-    let restarted = Terms {
-        restart: Restart::AfterFlip,
-        limit,
-    };
-    decode(restarted, buffer, output)
 }

@@ -12,6 +12,7 @@ ghost use Rattle.hearing_state.specs.State.{is_state, code_of_state};
 ghost use Rattle.hearing_state.specs.Clauses.{state_by, StatePre, DecodePre};
 
 use code::Code;
+use flip_decoder::Single;
 use flip_run::{DecodingError, Tally, Terms};
 use refusal::Refusal;
 
@@ -73,8 +74,8 @@ pub fn decode_values(
         (take (code_length code) values.now) output.old }
 {
     let size = 1usize << code.n;
-    flip_decoder::decode_by(
-        terms,
+    decoder::decode_by(
+        Single(terms),
         code::mask_of(code::record_in(bytes)),
         code,
         &values[..size],

@@ -2,21 +2,21 @@
 use mathlib.Core.Path.{◌≡◌, refl, sym, ap, ◌∙◌, subst, subst₂}
 use mathlib.Core.Bool.{Bool, false}
 use mathlib.Core.List.{List}
-use Prim.Native.Nat.{ℕ, ◌+◌, ◌-◌, ◌^◌, ◌≤◌, ◌<◌}
+use Prim.Native.Nat.{ℕ, ◌+◌, ◌-◌, ◌/◌, ◌^◌, ◌≤◌, ◌<◌}
 use native.Mathlib.Omega.{arith}
 use borrow.Author.Tests.{lt-leb}
 use lib.Dec.{leb}
 use lib.IntN.{ℤ}
 use lib.ListN.{length, take, drop}
 use Rattle.laws.specs.Clauses.{splice, segment}
-use Rattle.laws.proofs.Segment.{drop_past, segment-splice}
+use Rattle.laws.proofs.Segment.{length-segment, drop_past, segment-splice}
 use Rattle.arrays.specs.Sizes.{largest_n}
 use Rattle.arrays.proofs.Sizes.{fits, steps_fit, loudest}
 use Rattle.bits.specs.Claims.{Bits}
 use Rattle.bits.proofs.Lists.{bits-take, bits-drop}
 use Rattle.transform.specs.Transform.{xors}
 use Rattle.transform.specs.Clauses.{BitsAt}
-use Rattle.transform.proofs.Halves.{Halving}
+use Rattle.transform.proofs.Halves.{Halving, halving}
 use Rattle.values.specs.Values.{right_values, left_values}
 use Rattle.values.specs.Claims.{Within}
 use Rattle.values.proofs.Lengths.{length-right, length-left}
@@ -175,6 +175,9 @@ pub record Inner (room layer size n h base q : ℕ) (a : Arrays) : Type 0 where
   pub more : q < base + size
   pub double : size + size ≤ room
 
+pub inner : {room layer size base q : ℕ} {a : Arrays} → ¬ (layer ≡ 0) → NodePre room layer size base q a (segment a.work size size) → q < base + size → size + size ≤ room → Inner room layer size (layer - 1) (size / 2) base q a
+inner deep p more double = record { halving = halving deep p.pow; pre = p; more = more; double = double }
+
 module _ {room layer size n h base q : ℕ} {a : Arrays} (rules : List ℕ) (i : Inner room layer size n h base q a) where
   abbrev v : List ℤ
   v = segment a.work size size
@@ -182,14 +185,16 @@ module _ {room layer size n h base q : ℕ} {a : Arrays} (rules : List ℕ) (i :
   own-values : (work : List ℤ) → drop (h + h) work ≡ drop (h + h) a.work → node_values work h ≡ v
   own-values work e = ap (take (h + h)) e ∙ ap (λ (k : ℕ). segment a.work k k) (sym i.halving.two)
 
-  values-at : {work : List ℤ} → length work ≡ room → drop (h + h) work ≡ drop (h + h) a.work → ValuesPre room work h
+  values-at : {work : List ℤ} → length work ≡ room → drop (h + h) work ≡ drop (h + h) a.work → ValuesPre room (λ w. node_values w h) h work
   values-at {work} whole e = record {
     whole = whole;
     fits = omega (arith, i.halving.two, i.double);
+    long = length-segment work (h + h) (h + h) (omega (arith, i.halving.two, i.double, whole));
     small = subst (Within addable) (sym (own-values work e)) (within_more (omega (arith, loudest {n = largest_n - layer} (omega arith))) (i.pre.small i.more));
+    apart = λ later same. ap (take (h + h)) same;
   }
 
-  pub inner_at : ValuesPre room a.work h
+  pub inner_at : ValuesPre room (λ w. node_values w h) h a.work
   inner_at = values-at i.pre.whole.work refl
 
   pub inner_half : h + h ≤ room
@@ -206,7 +211,7 @@ module _ {room layer size n h base q : ℕ} {a : Arrays} (rules : List ℕ) (i :
       kept : drop (h + h) a₂.work ≡ drop (h + h) a.work
       kept = own-kept rules i.halving i.pre i.more c₁ c₂
 
-      pub inner_again : ValuesPre room a₂.work h
+      pub inner_again : ValuesPre room (λ w. node_values w h) h a₂.work
       inner_again = values-at (whole₂ rules i.halving i.pre i.more c₁ c₂).work kept
 
       module _ {w₃ : List ℤ} {done₃ : Work} (e₃ : ValuesPost (right_values h (node_values a₂.work h) (segment a₂.sums base h)) h a₂.work w₃ done₃) where

@@ -1,12 +1,12 @@
 -- A whole pass, call by call: the root is a node whose indices start at 0 and whose values are the channel's.
-use mathlib.Core.Path.{◌≡◌, sym, ap, ap₂, ◌∙◌, subst}
+use mathlib.Core.Path.{◌≡◌, refl, sym, ap, ap₂, ◌∙◌, subst}
 use mathlib.Core.List.{List, []}
-use Prim.Native.Nat.{ℕ, ◌+◌, ◌-◌, ◌^◌, ◌≤◌, ◌<◌}
+use Prim.Native.Nat.{ℕ, ◌+◌, ◌-◌, ◌/◌, ◌^◌, ◌≤◌, ◌<◌}
 use native.Mathlib.Nat.{zero-add}
 use native.Mathlib.Omega.{arith}
 use lib.Dec.{leb}
 use lib.IntN.{ℤ}
-use lib.ListN.{length, take}
+use lib.ListN.{length, take, length-map}
 use lib.Pow.{pow_pos}
 use lib.Seq.{take-take, length-take-le}
 use Rattle.laws.specs.Clauses.{splice, segment}
@@ -15,15 +15,17 @@ use Rattle.arrays.specs.Sizes.{largest_n}
 use Rattle.bits.specs.Claims.{Bits}
 use Rattle.code.specs.declared.Code.{Code}
 use Rattle.code.specs.Code.{code_length}
-use Rattle.transform.proofs.Halves.{Halving}
+use Rattle.transform.proofs.Halves.{Halving, halving}
+use Rattle.arrays.specs.Claims.{longest}
+use Rattle.arrays.proofs.Sizes.{fits}
 use Rattle.values.specs.Values.{Rule, right_values, left_values}
 use Rattle.values.proofs.Bounds.{within_more}
-use Rattle.channel.specs.Channel.{channel_values}
+use Rattle.channel.specs.Channel.{channel_value, channel_values}
 use Rattle.pass_tree.specs.declared.Work.{Work}
 use Rattle.pass_tree.specs.Node.{work_of, plus_work, Out, node}
 use Rattle.pass_tree.specs.Clauses.{computed_unless}
 use Rattle.pass_tree.proofs.Node.{node-forced}
-use Rattle.pass_halves.specs.Clauses.{RootPre, ValuesPost}
+use Rattle.pass_halves.specs.Clauses.{ValuesPre, ValuesPost}
 use Rattle.pass_ends.specs.Clauses.{rule_at, Arrays, arrays, forced_bits, node_of}
 use Rattle.pass.specs.Clauses.{NodePre, NodePost, PassPre, pass_of, PassPost}
 use Rattle.pass.proofs.Recursion.{left_at, whole₂, whole₄, right-at, stored, left_few, right_few}
@@ -74,6 +76,9 @@ pub record Rooted (room q m h : ℕ) (c : Code) (channel : List ℕ) (a : Arrays
   pub halving : Halving c.n (length channel) m h
   pub less : q < length channel
 
+pub rooted : {q : ℕ} {c : Code} {channel : List ℕ} {a : Arrays} → PassPre longest c q channel a → q < length channel → Rooted longest q (c.n - 1) (length channel / 2) c channel a
+rooted p less = record { pre = p; fits = fits p.n_most; halving = halving (λ z. omega (arith, p.n_least)) p.long; less = less }
+
 module _ {room q m h : ℕ} {c : Code} {channel : List ℕ} {a : Arrays} (rules : List ℕ) (t : Rooted room q m h c channel a) where
   abbrev d : Halving c.n (length channel) m h
   d = t.halving
@@ -87,10 +92,16 @@ module _ {room q m h : ℕ} {c : Code} {channel : List ℕ} {a : Arrays} (rules 
   pub root-half : h + h ≤ room
   root-half = omega (arith, d.two, t.pre.long, t.fits)
 
-  root_with : {work : List ℤ} → length work ≡ room → RootPre room channel work h
-  root_with whole = record { whole = whole; fits = root-half; long = d.two; small = t.pre.small }
+  root_with : {work : List ℤ} → length work ≡ room → ValuesPre room (λ w. channel_values channel) h work
+  root_with whole = record {
+    whole = whole;
+    fits = root-half;
+    long = length-map channel channel_value ∙ d.two;
+    small = within_more (omega arith) t.pre.small;
+    apart = λ later e. refl;
+  }
 
-  pub root-at : RootPre room channel a.work h
+  pub root-at : ValuesPre room (λ w. channel_values channel) h a.work
   root-at = root_with t.pre.whole.work
 
   module _ {w₁ : List ℤ} {done₁ : Work} (e₁ : ValuesPost (computed_unless (leb h q) (left_values h (channel_values channel))) h a.work w₁ done₁) where
@@ -104,7 +115,7 @@ module _ {room q m h : ℕ} {c : Code} {channel : List ℕ} {a : Arrays} (rules 
     root-left = left_at rules d on more c₁
 
     module _ {a₂ : Arrays} {done₂ : Work} (c₂ : NodePost m h 0 q rules (segment w₁ h h) a₁ a₂ done₂) where
-      pub root_again : RootPre room channel a₂.work h
+      pub root_again : ValuesPre room (λ w. channel_values channel) h a₂.work
       root_again = root_with (whole₂ rules d on more c₁ c₂).work
 
       module _ {w₃ : List ℤ} {done₃ : Work} (c₃ : ValuesPost (right_values h (channel_values channel) (segment a₂.sums 0 h)) h a₂.work w₃ done₃) where

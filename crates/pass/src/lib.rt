@@ -10,7 +10,7 @@ ghost use Rattle.pass.specs.Clauses.{Ruled, NodePre, NodePost, PassPre, pass_of,
 use arrays::{BitArray, RuleArray, SIZE, ValueArray};
 use code::Code;
 use pass_ends::{decode_four, leaf, rebuild};
-use pass_halves::{left_values, right_values, root_left_values, root_right_values};
+use pass_halves::{NodeValues, RootValues, left_values, right_values};
 use pass_tree::Work;
 use transform::combine;
 
@@ -51,9 +51,9 @@ fn decode_node(
         return Work::none();
     }
     let h = size / 2;
-    let left = left_values(base + h <= q, h, work);
+    let left = left_values(base + h <= q, &NodeValues, h, work);
     let l = decode_node(layer - 1, h, base, q, rules, work, bits, sums, leaves);
-    let right = right_values(h, base, sums, work);
+    let right = right_values(&NodeValues, h, base, sums, work);
     let r = decode_node(layer - 1, h, base + h, q, rules, work, bits, sums, leaves);
     combine(sums, base, h);
     left.plus(l).plus(right.plus(r))
@@ -80,9 +80,10 @@ pub fn pass(
         return Work::none();
     }
     let h = size / 2;
-    let left = root_left_values(h <= q, channel, h, work);
+    let root = RootValues { channel };
+    let left = left_values(h <= q, &root, h, work);
     let l = decode_node(code.n - 1, h, 0, q, rules, work, bits, sums, leaves);
-    let right = root_right_values(channel, h, sums, work);
+    let right = right_values(&root, h, 0, sums, work);
     let r = decode_node(code.n - 1, h, h, q, rules, work, bits, sums, leaves);
     left.plus(l).plus(right.plus(r))
 }

@@ -2,26 +2,26 @@
 use mathlib.Core.Path.{◌≡◌, refl, sym, ap, ap₂, ◌∙◌, subst}
 use mathlib.Core.Bool.{Bool, true, false}
 use mathlib.Core.List.{List, []}
-use Prim.Native.Nat.{ℕ, ◌+◌, ◌*◌, ◌^◌, ◌≤◌, ◌<◌}
+use Prim.Native.Nat.{ℕ, ◌+◌, ◌^◌, ◌≤◌, ◌<◌}
 use native.Mathlib.Omega.{arith}
 use lib.IntN.{ℤ, pos, nat_abs}
-use lib.ListN.{length, get_or, set, drop, get_or-map}
+use lib.ListN.{length, get_or, set, drop}
+use Rattle.laws.specs.Clauses.{splice}
 use mir.Syntax.{w32}
 use mir.Val.{SFits}
 use Rattle.laws.specs.Table.{table}
 use Rattle.laws.proofs.Table.{length-table}
-use Rattle.laws.proofs.Segment.{get_or-segment, drop_past, drop-splice, length-splice, splice-nil}
+use Rattle.laws.proofs.Segment.{drop_past, drop-splice, length-splice, splice-nil}
 use Rattle.laws.proofs.Signed.{back, back_is}
-use Rattle.laws.proofs.Filling.{Filling, filling_none, filling_more, filling_past, filling_done}
+use Rattle.laws.proofs.Filling.{Filling, filling_none, filling_more, filling_done}
 use Rattle.values.specs.Values.{f, g}
 use Rattle.values.specs.Claims.{Within}
 use Rattle.values.proofs.Bounds.{back-within}
-use Rattle.channel.specs.Channel.{channel_value, channel_values}
 use Rattle.pass_tree.specs.declared.Work.{Work}
 use Rattle.pass_tree.specs.Node.{work_of}
 use Rattle.pass_tree.specs.Clauses.{computed_unless, counted}
 use Rattle.pass_tree.proofs.StepsMost.{same_steps}
-use Rattle.pass_halves.specs.Clauses.{addable, ValuesPost, ValuesPre, node_values}
+use Rattle.pass_halves.specs.Clauses.{addable, ValuesPre, ValuesPost}
 
 -- ---- what a turn reads
 
@@ -33,22 +33,23 @@ pub record Reads (v : List ℤ) (h j : ℕ) (a b : ℤ) : Type 0 where
 pub addable_reads : {m h j : ℕ} {v : List ℤ} {a b : ℤ} → m ≤ addable → Within m v → Reads v h j a b → nat_abs (back w32 a) + nat_abs (back w32 b) < 2 ^ 31
 addable_reads {h = h} {j} l p r = omega (arith, ap nat_abs r.first, p.at j, ap nat_abs r.second, p.at (h + j))
 
--- the node's own values, which no turn overwrites
-pub own_reads : {size h j : ℕ} {work work' : List ℤ} {x : ℕ → ℤ} → ValuesPre size work h → Filling x h h work work' j → j < h → Reads (node_values work h) h j (get_or work' (2 * h + j) (pos 0)) (get_or work' (3 * h + j) (pos 0))
-own_reads {size} {h} {j} {work} {work'} p inv l = record { first = own (2 * h + j) j (omega arith) (omega arith); second = own (3 * h + j) (h + j) (omega arith) (omega arith) }
-  where
-    own : (at i : ℕ) → at ≡ h + h + i → i < h + h → back w32 (get_or work' at (pos 0)) ≡ get_or (node_values work h) i (pos 0)
-    own at i e k =
-        ap (back w32) (filling_past inv at (pos 0) (omega arith) ∙ ap (λ (n : ℕ). get_or work n (pos 0)) e ∙ sym (get_or-segment work (h + h) (h + h) i (pos 0) k))
-        ∙ back-within p.small (omega arith) i
+-- no turn overwrites the node's values
+pub unchanged : {size h j : ℕ} {values : List ℤ → List ℤ} {work work' : List ℤ} {x : ℕ → ℤ} → ValuesPre size values h work → Filling x h h work work' j → values work' ≡ values work
+unchanged {size} {h} {j} {values} {work} {work'} {x} p inv =
+    let so_far : Filling x h j work work' j = record { reached = omega arith; same = inv.same; made = inv.made } in
+    let room : h + j ≤ length work = omega (arith, p.whole, p.fits, inv.reached) in
+    let stored : work' ≡ splice work h (table x j) = filling_done so_far (omega arith) room in
+    let past : drop (h + j) work' ≡ drop (h + j) work =
+    ap (drop (h + j)) stored ∙ drop-splice work h (table x j) j (length-table x j) room in
+    p.apart work' (drop_past work work' (h + j) (h + h) (omega (arith, inv.reached)) past)
 
--- the channel's, at the root
-pub channel_reads : (channel : List ℕ) (h j : ℕ) {a b : ℤ} → Within 31 (channel_values channel) → a ≡ channel_value (get_or channel j 0) → b ≡ channel_value (get_or channel (h + j) 0) → Reads (channel_values channel) h j a b
-unfolding channel_value
-channel_reads channel h j p ea eb = record { first = own j ea; second = own (h + j) eb }
+-- what `pair` reads
+pub node_reads : {size h j : ℕ} {values : List ℤ → List ℤ} {work work' : List ℤ} {x : ℕ → ℤ} {a b : ℤ} → ValuesPre size values h work → Filling x h h work work' j → a ≡ get_or (values work') j (pos 0) → b ≡ get_or (values work') (h + j) (pos 0) → Reads (values work) h j a b
+node_reads {h = h} {j} {values} {work} {work'} p inv ea eb = record { first = own j ea; second = own (h + j) eb }
   where
-    own : (k : ℕ) {z : ℤ} → z ≡ channel_value (get_or channel k 0) → back w32 z ≡ get_or (channel_values channel) k (pos 0)
-    own k e = ap (back w32) (e ∙ sym (get_or-map channel_value channel k 0)) ∙ back-within p (omega arith) k
+    own : (k : ℕ) {z : ℤ} → z ≡ get_or (values work') k (pos 0) → back w32 z ≡ get_or (values work) k (pos 0)
+    own k e =
+        ap (back w32) (e ∙ ap (λ (v : List ℤ). get_or v k (pos 0)) (unchanged p inv)) ∙ back-within p.small (omega arith) k
 
 -- ---- the invariant: j values are stored, and counted
 

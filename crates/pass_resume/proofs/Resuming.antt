@@ -17,6 +17,7 @@ use Rattle.bits.specs.Claims.{Bits}
 use Rattle.bits.specs.Mask.{mask_bit}
 use Rattle.code.specs.declared.Code.{Code}
 use Rattle.code.specs.Code.{code_length}
+use Rattle.code.specs.Claims.{Coded}
 use Rattle.values.specs.Values.{mask_rule}
 use Rattle.channel.specs.Channel.{channel_values}
 use Rattle.channel.proofs.Outside.{all-inside}
@@ -27,7 +28,8 @@ use Rattle.pass_tree.proofs.Restart.{rules_below}
 use Rattle.pass_ends.specs.Clauses.{rule_at, Arrays, arrays}
 use Rattle.pass.specs.Clauses.{Ruled, PassPre, pass_of, PassPost}
 use Rattle.pass_resume.specs.Resume.{first_bad}
-use Rattle.pass_resume.specs.Clauses.{bad_bit, resume_pass, ResumePre}
+use Rattle.pass_resume.specs.Clauses.{bad_bit, resume_pass}
+use Rattle.pass_resume.specs.Claims.{WellFormed}
 
 -- no byte of the prefix is bad
 all-bits : (mask prefix : List ℕ) → length prefix ≤ first_bad mask prefix → Bits prefix
@@ -40,7 +42,7 @@ all-bits mask prefix l = record { at = λ k. go k (ltb k (length prefix)) refl }
     go k false e = omega (arith, get_or-eq_default prefix 0 (ltb-false k (length prefix) e))
 
 -- the prefix was copied into an array of bits, and the mask's rules stand in an array of rules
-module _ {room : ℕ} {mask channel prefix output rules : List ℕ} {c : Code} (bits₀ : List ℕ) (r : ResumePre mask c channel prefix output) (ruled : Ruled (8 * length mask) (mask_rule mask) rules) (fits : code_length c ≤ room) (whole : length bits₀ ≡ room) {bits₁ : List ℕ} (copied : bits₁ ≡ splice bits₀ 0 (take (length prefix) prefix)) where
+module _ {room : ℕ} {mask channel prefix output rules : List ℕ} {c : Code} (bits₀ : List ℕ) (coded : Coded mask c) (w : WellFormed mask c channel prefix output) (ruled : Ruled (8 * length mask) (mask_rule mask) rules) (fits : code_length c ≤ room) (whole : length bits₀ ≡ room) {bits₁ : List ℕ} (copied : bits₁ ≡ splice bits₀ 0 (take (length prefix) prefix)) where
   abbrev q : ℕ
   q = length prefix
 
@@ -48,7 +50,7 @@ module _ {room : ℕ} {mask channel prefix output rules : List ℕ} {c : Code} (
   filled = copied ∙ ap (splice bits₀ 0) (take_all q prefix (omega arith))
 
   room-prefix : 0 + q ≤ length bits₀
-  room-prefix = omega (arith, r.well_formed.prefix_size)
+  room-prefix = omega (arith, w.prefix_size)
 
   prefix_in : take q bits₁ ≡ prefix
   prefix_in = ap (take q) filled ∙ segment-splice bits₀ 0 prefix q refl room-prefix
@@ -57,20 +59,20 @@ module _ {room : ℕ} {mask channel prefix output rules : List ℕ} {c : Code} (
   bits-whole = ap length filled ∙ length-splice bits₀ 0 prefix q refl room-prefix ∙ whole
 
   pub resume_on : {work leaves : List ℤ} {sums : List ℕ} → length work ≡ room → length sums ≡ room → length leaves ≡ room → PassPre room c q channel (arrays work bits₁ sums leaves)
-  resume_on w s l = record {
-    n_least = omega (arith, r.coded.n_least);
-    n_most = r.coded.n_most;
-    q_most = r.well_formed.prefix_size;
-    long = r.well_formed.channel_size;
-    small = all-inside channel (omega (arith, r.well_formed.in_range));
-    bits = subst Bits (sym prefix_in) (all-bits mask prefix (omega (arith, r.well_formed.prefix_good)));
-    whole = record { work = w; bits = bits-whole; sums = s; leaves = l };
+  resume_on worked s l = record {
+    n_least = omega (arith, coded.n_least);
+    n_most = coded.n_most;
+    q_most = w.prefix_size;
+    long = w.channel_size;
+    small = all-inside channel (omega (arith, w.in_range));
+    bits = subst Bits (sym prefix_in) (all-bits mask prefix (omega (arith, w.prefix_good)));
+    whole = record { work = worked; bits = bits-whole; sums = s; leaves = l };
   }
 
   pass-is : pass_of c q channel rules bits₁ ≡ resume_pass mask c channel prefix
   pass-is =
       ap (λ (p : List ℕ). node c.n p (rule_at rules) (channel_values channel)) prefix_in
-      ∙ rules_below c.n prefix (rule_at rules) (mask_rule mask) (channel_values channel) r.well_formed.prefix_size (λ i _ l. ruled.at i (omega (arith, r.coded.mask_size)))
+      ∙ rules_below c.n prefix (rule_at rules) (mask_rule mask) (channel_values channel) w.prefix_size (λ i _ l. ruled.at i (omega (arith, coded.mask_size)))
 
   module _ {work leaves : List ℤ} {sums : List ℕ} {a' : Arrays} {done : Work} (p : PassPost room (pass_of c q channel rules bits₁) q (arrays work bits₁ sums leaves) a' done) where
     pub resume_work : done ≡ (resume_pass mask c channel prefix).work
@@ -80,7 +82,6 @@ module _ {room : ℕ} {mask channel prefix output rules : List ℕ} {c : Code} (
     pub resume_bits : splice output 0 (take (length channel) a'.bits) ≡ (resume_pass mask c channel prefix).bits
     resume_bits =
         let o : Out = resume_pass mask c channel prefix in
-        let w = r.well_formed in
         let long : length o.bits ≡ length channel = length-bits c.n prefix (mask_rule mask) (channel_values channel) w.prefix_size ∙ sym w.channel_size in
         let is : take (length channel) a'.bits ≡ o.bits =
         ap (take (length channel)) (p.bits ∙ ap (λ (x : Out). splice bits₁ 0 x.bits) pass-is)

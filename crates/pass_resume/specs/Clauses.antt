@@ -4,12 +4,10 @@ use Rattle.refusal.specs.declared.Refusal.{Refusal}
 use Rattle.refusal.specs.Judge.{differs}
 use Rattle.code.specs.declared.Code.{Code}
 use Rattle.code.specs.Code.{code_length}
-use Rattle.code.specs.Claims.{Coded}
 use Rattle.values.specs.Values.{mask_rule}
 use Rattle.channel.specs.Channel.{channel_values}
 use Rattle.pass_tree.specs.Node.{Out, node}
 use Rattle.pass_resume.specs.Resume.{first_bad}
-use Rattle.pass_resume.specs.Claims.{WellFormed}
 use Rattle.refusal.specs.declared.Refusal.TheVariants.{BitsLength, PrefixBit, PrefixLength}
 use Rattle.pass_tree.specs.declared.Work.{Work}
 
@@ -32,8 +30,3 @@ prefix_refusals mask c prefix output =
     ∷ (ltb (first_bad mask prefix) (length prefix), PrefixBit (first_bad mask prefix))
     ∷ (differs (length output) (code_length c), BitsLength)
     ∷ []
-
--- what holds past all refusals
-pub record ResumePre (mask : List ℕ) (c : Code) (channel prefix output : List ℕ) : Type 0 where
-  pub coded : Coded mask c
-  pub well_formed : WellFormed mask c channel prefix output

@@ -3,12 +3,12 @@
 
 ghost use Rattle.std.specs.Prelude.{◌≡◌, ◌*◌, ◌≤◌, length};
 ghost use Rattle.refusal.specs.Judge.{judge};
-ghost use Rattle.code.specs.Claims.{Coded};
 ghost use Rattle.pass_resume.specs.Resume.{first_bad, resuming_refusals, resumed_by, resumed};
-ghost use Rattle.pass_resume.specs.Clauses.{bad_bit, resume_pass, prefix_refusals, ResumePre};
+ghost use Rattle.pass_resume.specs.Clauses.{bad_bit, resume_pass, prefix_refusals};
+ghost use Rattle.pass_resume.specs.Claims.{WellFormed};
 
 use arrays::{BitArray, SIZE};
-use code::Code;
+use code_mask::MaskedCode;
 use pass_tree::Work;
 use refusal::Refusal;
 
@@ -34,26 +34,25 @@ fn first_bad(mask: &[u8], prefix: &[u8]) -> usize
 
 // The pass of an accepted call, whose bits are put in `bits` and then in the output.
 fn resume_pass(
-    mask: &[u8],
-    code: Code,
+    masked: &MaskedCode,
     channel: &[u8],
     prefix: &[u8],
     bits: &mut BitArray,
     output: &mut [u8],
 ) -> Work
-    requires { ResumePre mask.now code channel.now prefix.now output.old
+    requires { WellFormed masked.now.mask.now masked.now.code channel.now prefix.now output.old
         × (length bits.old ≡ SIZE) }
-    ensures { (result ≡ (resume_pass mask.now code channel.now prefix.now).work)
-        × (output.new ≡ (resume_pass mask.now code channel.now prefix.now).bits) }
+    ensures { (result ≡ (resume_pass masked.now.mask.now masked.now.code channel.now prefix.now).work)
+        × (output.new ≡ (resume_pass masked.now.mask.now masked.now.code channel.now prefix.now).bits) }
 {
     let mut rules = [0u8; SIZE];
     let mut work = [0i32; SIZE];
     let mut sums = [0u8; SIZE];
     let mut leaves = [0i32; SIZE];
-    pass::rules_from(mask, &mut rules);
+    pass::rules_from(masked.mask, &mut rules);
     arrays::copy(prefix, 0, bits, 0, prefix.len());
     let done = pass::pass(
-        code,
+        masked.code,
         prefix.len(),
         channel,
         &rules,
@@ -67,15 +66,14 @@ fn resume_pass(
 }
 
 // Refusals 17 to 19.
-fn judge_prefix(mask: &[u8], code: Code, prefix: &[u8], output: &[u8]) -> Result<(), Refusal>
-    requires { Coded mask.now code }
-    ensures { result ≡ judge (prefix_refusals mask.now code prefix.now output.now) }
+fn judge_prefix(masked: &MaskedCode, prefix: &[u8], output: &[u8]) -> Result<(), Refusal>
+    ensures { result ≡ judge (prefix_refusals masked.now.mask.now masked.now.code prefix.now output.now) }
 {
-    let size = 1usize << code.n;
+    let size = 1usize << masked.code.n;
     if size < prefix.len() {
         return Err(Refusal::PrefixLength);
     }
-    let index = first_bad(mask, prefix);
+    let index = first_bad(masked.mask, prefix);
     if index < prefix.len() {
         return Err(Refusal::PrefixBit(index));
     }
@@ -87,34 +85,32 @@ fn judge_prefix(mask: &[u8], code: Code, prefix: &[u8], output: &[u8]) -> Result
 
 // Refusals 12, 13 and 17 to 19.
 fn judge_resuming(
-    mask: &[u8],
-    code: Code,
+    masked: &MaskedCode,
     channel: &[u8],
     prefix: &[u8],
     output: &[u8],
 ) -> Result<(), Refusal>
-    requires { Coded mask.now code }
-    ensures { result ≡ judge (resuming_refusals mask.now code channel.now prefix.now output.now) }
+    ensures { result
+        ≡ judge (resuming_refusals masked.now.mask.now masked.now.code channel.now prefix.now output.now) }
 {
-    channel::judge_channel(code, channel)?;
-    judge_prefix(mask, code, prefix, output)
+    channel::judge_channel(masked.code, channel)?;
+    judge_prefix(masked, prefix, output)
 }
 
 // Resume under a code.
 fn resume_by(
-    mask: &[u8],
-    code: Code,
+    masked: &MaskedCode,
     channel: &[u8],
     prefix: &[u8],
     bits: &mut BitArray,
     output: &mut [u8],
 ) -> Result<Work, Refusal>
-    requires { Coded mask.now code
-        × (length bits.old ≡ SIZE) }
-    ensures { (result, output.new) ≡ resumed_by mask.now code channel.now prefix.now output.old }
+    requires { length bits.old ≡ SIZE }
+    ensures { (result, output.new)
+        ≡ resumed_by masked.now.mask.now masked.now.code channel.now prefix.now output.old }
 {
-    judge_resuming(mask, code, channel, prefix, output)?;
-    Ok(resume_pass(mask, code, channel, prefix, bits, output))
+    judge_resuming(masked, channel, prefix, output)?;
+    Ok(resume_pass(masked, channel, prefix, bits, output))
 }
 
 // All N bits of a pass whose first bits are the prefix, one a byte. The array of bits is made first: DECISIONS.md, "Large frames", says why.
@@ -127,7 +123,6 @@ pub fn resume(
     ensures { (result, output.new) ≡ resumed description.now channel.now prefix.now output.old }
 {
     let mut bits = [0u8; SIZE];
-    let code = code::read_description(description)?;
-    let mask = code::mask_of(description);
-    resume_by(mask, code, channel, prefix, &mut bits, output)
+    let masked = code_mask::read(description)?;
+    resume_by(&masked, channel, prefix, &mut bits, output)
 }

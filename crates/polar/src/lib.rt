@@ -9,14 +9,19 @@ ghost use Rattle.hearing_buffer.specs.Lent.{opened_in, added_in, cleared_in, ful
 ghost use Rattle.hearing_preview.specs.Preview.{previewed_in};
 ghost use Rattle.polar_number.specs.Number.{numbered, encoded_parts, resumed_parts, decoded_parts, kept_parts};
 
-use polar_number::{decoded_answer, encoded_answer, kept_answer, resumed_answer};
+use decoder::Search;
+use flip_decoder::Single;
+use flip_run::Terms;
+use flip_trial::Restart;
+use polar_number::answer_number;
+use sets_decoder::Sets;
 
 #[unsafe(no_mangle)]
 pub extern "C" fn polar_encode(description: &[u8], payload: &[u8], codeword: &mut [u8]) -> u64
     ensures { (result, codeword.new)
         ≡ numbered encoded_parts (encoded description.now payload.now codeword.old) }
 {
-    encoded_answer(encoder::encode(description, payload, codeword))
+    answer_number(encoder::encode(description, payload, codeword))
 }
 
 #[unsafe(no_mangle)]
@@ -29,7 +34,7 @@ pub extern "C" fn polar_resume(
     ensures { (result, bits.new)
         ≡ numbered resumed_parts (resumed description.now channel.now prefix.now bits.old) }
 {
-    resumed_answer(pass_resume::resume(description, channel, prefix, bits))
+    answer_number(pass_resume::resume(description, channel, prefix, bits))
 }
 
 #[unsafe(no_mangle)]
@@ -42,7 +47,11 @@ pub extern "C" fn polar_decode_full(
     ensures { (result, payload.new)
         ≡ numbered decoded_parts (decoded_full description.now channel.now limit payload.old) }
 {
-    decoded_answer(flip_decoder::decode_full(description, channel, limit, payload))
+    let full = Terms {
+        restart: Restart::Root,
+        limit,
+    };
+    answer_number(decoder::decode(Single(full), description, channel, payload))
 }
 
 #[unsafe(no_mangle)]
@@ -55,7 +64,11 @@ pub extern "C" fn polar_decode_half(
     ensures { (result, payload.new)
         ≡ numbered decoded_parts (decoded_half description.now channel.now limit payload.old) }
 {
-    decoded_answer(flip_decoder::decode_half(description, channel, limit, payload))
+    let half = Terms {
+        restart: Restart::Half,
+        limit,
+    };
+    answer_number(decoder::decode(Single(half), description, channel, payload))
 }
 
 #[unsafe(no_mangle)]
@@ -68,7 +81,11 @@ pub extern "C" fn polar_decode_restarted(
     ensures { (result, payload.new)
         ≡ numbered decoded_parts (decoded_restarted description.now channel.now limit payload.old) }
 {
-    decoded_answer(flip_decoder::decode_restarted(description, channel, limit, payload))
+    let restarted = Terms {
+        restart: Restart::AfterFlip,
+        limit,
+    };
+    answer_number(decoder::decode(Single(restarted), description, channel, payload))
 }
 
 #[unsafe(no_mangle)]
@@ -82,7 +99,12 @@ pub extern "C" fn polar_decode_sets_full(
     ensures { (result, payload.new)
         ≡ numbered decoded_parts (sets_full description.now channel.now w limit payload.old) }
 {
-    decoded_answer(sets_decoder::decode_sets_full(description, channel, w, limit, payload))
+    let full = Search {
+        restart: Restart::Root,
+        w,
+        limit,
+    };
+    answer_number(decoder::decode(Sets(full), description, channel, payload))
 }
 
 #[unsafe(no_mangle)]
@@ -96,7 +118,12 @@ pub extern "C" fn polar_decode_sets_half(
     ensures { (result, payload.new)
         ≡ numbered decoded_parts (sets_half description.now channel.now w limit payload.old) }
 {
-    decoded_answer(sets_decoder::decode_sets_half(description, channel, w, limit, payload))
+    let half = Search {
+        restart: Restart::Half,
+        w,
+        limit,
+    };
+    answer_number(decoder::decode(Sets(half), description, channel, payload))
 }
 
 #[unsafe(no_mangle)]
@@ -110,7 +137,12 @@ pub extern "C" fn polar_decode_sets_restarted(
     ensures { (result, payload.new)
         ≡ numbered decoded_parts (sets_restarted description.now channel.now w limit payload.old) }
 {
-    decoded_answer(sets_decoder::decode_sets_restarted(description, channel, w, limit, payload))
+    let restarted = Search {
+        restart: Restart::AfterFlip,
+        w,
+        limit,
+    };
+    answer_number(decoder::decode(Sets(restarted), description, channel, payload))
 }
 
 #[unsafe(no_mangle)]
@@ -118,7 +150,7 @@ pub extern "C" fn polar_hearing_open(description: &[u8], state: &mut [u8]) -> u6
     ensures { (result, state.new)
         ≡ numbered kept_parts (opened_in description.now state.old) }
 {
-    kept_answer(hearing_buffer::open(description, state))
+    answer_number(hearing_buffer::open(description, state))
 }
 
 #[unsafe(no_mangle)]
@@ -126,7 +158,7 @@ pub extern "C" fn polar_hearing_add(state: &mut [u8], channel: &[u8]) -> u64
     ensures { (result, state.new)
         ≡ numbered kept_parts (added_in state.old channel.now) }
 {
-    kept_answer(hearing_buffer::add(state, channel))
+    answer_number(hearing_buffer::add(state, channel))
 }
 
 #[unsafe(no_mangle)]
@@ -134,7 +166,7 @@ pub extern "C" fn polar_hearing_clear(state: &mut [u8]) -> u64
     ensures { (result, state.new)
         ≡ numbered kept_parts (cleared_in state.old) }
 {
-    kept_answer(hearing_buffer::clear(state))
+    answer_number(hearing_buffer::clear(state))
 }
 
 #[unsafe(no_mangle)]
@@ -142,7 +174,11 @@ pub extern "C" fn polar_hearing_decode_full(state: &[u8], limit: u32, payload: &
     ensures { (result, payload.new)
         ≡ numbered decoded_parts (full_in state.now limit payload.old) }
 {
-    decoded_answer(hearing_buffer::decode_full(state, limit, payload))
+    let full = Terms {
+        restart: Restart::Root,
+        limit,
+    };
+    answer_number(hearing_buffer::decode(full, state, payload))
 }
 
 #[unsafe(no_mangle)]
@@ -154,7 +190,11 @@ pub extern "C" fn polar_hearing_decode_restarted(
     ensures { (result, payload.new)
         ≡ numbered decoded_parts (restarted_in state.now limit payload.old) }
 {
-    decoded_answer(hearing_buffer::decode_restarted(state, limit, payload))
+    let restarted = Terms {
+        restart: Restart::AfterFlip,
+        limit,
+    };
+    answer_number(hearing_buffer::decode(restarted, state, payload))
 }
 
 #[unsafe(no_mangle)]
@@ -168,5 +208,5 @@ pub extern "C" fn polar_hearing_preview(
         ≡ numbered decoded_parts (previewed_in state.now channel.now limit payload.old))
         × (state.exit.now ≡ state.entry.now) }
 {
-    decoded_answer(hearing_preview::preview_in(state, channel, limit, payload))
+    answer_number(hearing_preview::preview_in(state, channel, limit, payload))
 }

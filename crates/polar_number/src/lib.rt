@@ -2,72 +2,94 @@
 #![tactic(auto)]
 
 ghost use Rattle.std.specs.Prelude.{◌≡◌, ◌<◌, ◌^◌};
-ghost use Rattle.polar_number.specs.Number.{parts, packed_parts, refusal_parts, encoded_parts, resumed_parts, decoded_parts, kept_parts};
-ghost use Rattle.polar_number.specs.Clauses.{Fitting};
+ghost use Rattle.polar_number.specs.Number.{Parts, parts, packed_parts, refusal_parts};
+ghost use Rattle.polar_number.specs.Clauses.{Fitting, error_parts, answer_parts};
 
 use flip_run::{DecodingError, Tally};
 use pass_tree::Work;
 use refusal::Refusal;
 
 // The number that comes back: refusal, then trial or index, then steps.
-fn answer(refusal: u8, value: u64, steps: u64) -> u64
+fn pack(refusal: u8, value: u64, steps: u64) -> u64
     requires { packed_parts (parts refusal value steps) < 2 ^ 64 }
     ensures { result ≡ packed_parts (parts refusal value steps) }
 {
     refusal as u64 + value * 0x100 + steps * 0x1_0000_0000
 }
 
-// The number of a refusal.
-fn refusal_answer(refused: Refusal) -> u64
-    requires { Fitting (refusal_parts refused) }
-    ensures { result ≡ packed_parts (refusal_parts refused) }
-{
-    answer(refused.number(), refused.index().unwrap_or(0) as u64, 0)
+// What C is told of a call: what it made, or why it made nothing.
+pub trait Told {
+    ghost parts_of: { Self → Parts };
+
+    fn packed(self) -> u64
+        requires { Fitting (parts_of self) }
+        ensures { result ≡ packed_parts (parts_of self) };
 }
 
-// The number of an encoder's answer.
-pub fn encoded_answer(encoded: Result<(), Refusal>) -> u64
-    requires { Fitting (encoded_parts encoded) }
-    ensures { result ≡ packed_parts (encoded_parts encoded) }
-{
-    match encoded {
-        Ok(()) => answer(0, 0, 0),
-        Err(x) => refusal_answer(x),
+// An encoder's codeword.
+impl Told for () {
+    ghost parts_of = { λ done. parts 0 0 0 };
+
+    fn packed(self) -> u64 {
+        pack(0, 0, 0)
     }
 }
 
-// The number of a resumed pass's answer.
-pub fn resumed_answer(resumed: Result<Work, Refusal>) -> u64
-    requires { Fitting (resumed_parts resumed) }
-    ensures { result ≡ packed_parts (resumed_parts resumed) }
-{
-    match resumed {
-        Ok(work) => answer(0, 0, work.steps as u64),
-        Err(x) => refusal_answer(x),
+// A resumed pass's steps.
+impl Told for Work {
+    ghost parts_of = { λ work. parts 0 0 work.steps };
+
+    fn packed(self) -> u64 {
+        pack(0, 0, self.steps as u64)
     }
 }
 
-// The number of a decoder's answer.
-pub fn decoded_answer(decoded: Result<Tally, DecodingError>) -> u64
-    requires { Fitting (decoded_parts decoded) }
-    ensures { result ≡ packed_parts (decoded_parts decoded) }
-{
-    match decoded {
-        Ok(passed) => answer(0, passed.trials as u64, passed.steps as u64),
-        Err(DecodingError::NonePassed(failed)) => {
-            answer(16, failed.trials as u64, failed.steps as u64)
+// How many vectors a lent state holds the sums of.
+impl Told for u8 {
+    ghost parts_of = { λ count. parts 0 count 0 };
+
+    fn packed(self) -> u64 {
+        pack(0, self as u64, 0)
+    }
+}
+
+// A decoder's trials.
+impl Told for Tally {
+    ghost parts_of = { λ tally. parts 0 tally.trials tally.steps };
+
+    fn packed(self) -> u64 {
+        pack(0, self.trials as u64, self.steps as u64)
+    }
+}
+
+impl Told for Refusal {
+    ghost parts_of = { refusal_parts };
+
+    fn packed(self) -> u64 {
+        pack(self.number(), self.index().unwrap_or(0) as u64, 0)
+    }
+}
+
+impl Told for DecodingError {
+    ghost parts_of = { error_parts };
+
+    fn packed(self) -> u64 {
+        match self {
+            DecodingError::NonePassed(failed) => {
+                pack(16, failed.trials as u64, failed.steps as u64)
+            }
+            DecodingError::Refused(x) => x.packed(),
         }
-        Err(DecodingError::Refused(x)) => refusal_answer(x),
     }
 }
 
-// The number of an answer to a call on a lent state.
-pub fn kept_answer(kept: Result<u8, Refusal>) -> u64
-    requires { Fitting (kept_parts kept) }
-    ensures { result ≡ packed_parts (kept_parts kept) }
+// The number of an answer.
+pub fn answer_number<T: Told, E: Told>(answer: Result<T, E>) -> u64
+    requires { Fitting (answer_parts T.parts_of E.parts_of answer) }
+    ensures { result ≡ packed_parts (answer_parts T.parts_of E.parts_of answer) }
 {
-    match kept {
-        Ok(count) => answer(0, count as u64, 0),
-        Err(x) => refusal_answer(x),
+    match answer {
+        Ok(made) => made.packed(),
+        Err(error) => error.packed(),
     }
 }

@@ -13,6 +13,7 @@ ghost use Rattle.receive_frame.specs.Frame.{answer_line, decoding_line, channel_
 
 use arrays::BYTES;
 use code::Code;
+use flip_decoder::Single;
 use flip_run::{DecodingError, Tally, Terms};
 use flip_trial::Restart;
 use receive_lines::LINE;
@@ -63,7 +64,7 @@ fn put_decoded(
         restart: Restart::AfterFlip,
         limit,
     };
-    let answer = flip_decoder::decode_by(terms, mask, code, channel, payload);
+    let answer = decoder::decode_by(Single(terms), mask, code, channel, payload);
     put_answer(line, answer, payload)
 }
 

@@ -1,17 +1,15 @@
-// Decoding by sets of flipped indices: full, by half restart, and restarted.
+// Decoding by sets of flipped indices.
 #![tactic(auto)]
 
 ghost use Rattle.std.specs.Prelude.{◌≡◌, ◌≤◌};
-ghost use Rattle.refusal.specs.Judge.{outside, judge};
+ghost use Rattle.refusal.specs.Judge.{outside};
 ghost use Rattle.arrays.specs.Claims.{longest};
 ghost use Rattle.code.specs.Code.{information_count};
-ghost use Rattle.code.specs.Claims.{Coded};
-ghost use Rattle.decoder.specs.Decoder.{sets, most_limit, own_refusals, decoded_under, decoded_as, sets_full, sets_half, sets_restarted};
+ghost use Rattle.decoder.specs.Decoder.{sets, most_limit};
 
 use code::Code;
-use decoder::Search;
+use decoder::{Search, Trials};
 use flip_run::{DecodingError, Tally};
-use flip_trial::Restart;
 use refusal::Refusal;
 
 // The largest trial limit if a set may have more than one index.
@@ -44,101 +42,33 @@ fn is_bad_limit(search: Search, code: Code) -> bool
     refusal::is_outside(search.limit as usize, 1, most_limit(search.w, code))
 }
 
-// Refusals 26 and 14.
-fn judge_search(search: Search, code: Code) -> Result<(), Refusal>
-    requires { information_count code ≤ longest }
-    ensures { result ≡ judge (own_refusals (sets search.w search.limit) code) }
-{
-    if is_bad_count(search.w) {
-        return Err(Refusal::FlipCount);
+// The trials of a search.
+#[derive(Clone, Copy)]
+pub struct Sets(pub Search);
+
+impl Trials for Sets {
+    ghost decoder = { λ s. sets s.0.w s.0.limit };
+
+    ghost restart = { λ s. s.0.restart };
+
+    // Refusals 26 and 14.
+    fn judge_own(self, code: Code) -> Result<(), Refusal> {
+        if is_bad_count(self.0.w) {
+            return Err(Refusal::FlipCount);
+        }
+        if is_bad_limit(self.0, code) {
+            return Err(Refusal::TrialLimit);
+        }
+        Ok(())
     }
-    if is_bad_limit(search, code) {
-        return Err(Refusal::TrialLimit);
+
+    fn run(
+        self,
+        mask: &[u8],
+        code: Code,
+        channel: &[u8],
+        output: &mut [u8],
+    ) -> Result<Tally, DecodingError> {
+        sets_run::decode_in(self.0, mask, code, channel, output)
     }
-    Ok(())
-}
-
-// Decodes a channel's values into the packed payload, by the mask and the code of a description.
-fn decode_by(
-    search: Search,
-    mask: &[u8],
-    code: Code,
-    channel: &[u8],
-    output: &mut [u8],
-) -> Result<Tally, DecodingError>
-    requires { Coded mask.now code }
-    ensures { (result, output.new)
-        ≡ decoded_under (sets search.w search.limit) search.restart mask.now code channel.now output.old }
-{
-    let own = judge_search(search, code);
-    decoder::judge_call(own, code, channel, output)?;
-    sets_run::decode_in(search, mask, code, channel, output)
-}
-
-// Decodes a channel's values into the packed payload, by a description.
-fn decode(
-    search: Search,
-    description: &[u8],
-    channel: &[u8],
-    output: &mut [u8],
-) -> Result<Tally, DecodingError>
-    ensures { (result, output.new)
-        ≡ decoded_as (sets search.w search.limit) search.restart description.now channel.now output.old }
-{
-    let code = code::read_description(description)?;
-    decode_by(search, code::mask_of(description), code, channel, output)
-}
-
-// Decodes with each later trial repeated from the root.
-pub fn decode_sets_full(
-    description: &[u8],
-    channel: &[u8],
-    w: u32,
-    limit: u32,
-    output: &mut [u8],
-) -> Result<Tally, DecodingError>
-    ensures { (result, output.new) ≡ sets_full description.now channel.now w limit output.old }
-{
-    let full = Search {
-        restart: Restart::Root,
-        w,
-        limit,
-    };
-    decode(full, description, channel, output)
-}
-
-// Decodes with each later trial resumed at N/2 if the lowest index of its set is N/2 or above, otherwise at 0.
-pub fn decode_sets_half(
-    description: &[u8],
-    channel: &[u8],
-    w: u32,
-    limit: u32,
-    output: &mut [u8],
-) -> Result<Tally, DecodingError>
-    ensures { (result, output.new) ≡ sets_half description.now channel.now w limit output.old }
-{
-    let half = Search {
-        restart: Restart::Half,
-        w,
-        limit,
-    };
-    decode(half, description, channel, output)
-}
-
-// Decodes with each later trial resumed at the first information index after the lowest of its set, or at N if there is none.
-pub fn decode_sets_restarted(
-    description: &[u8],
-    channel: &[u8],
-    w: u32,
-    limit: u32,
-    output: &mut [u8],
-) -> Result<Tally, DecodingError>
-    ensures { (result, output.new) ≡ sets_restarted description.now channel.now w limit output.old }
-{
-    let restarted = Search {
-        restart: Restart::AfterFlip,
-        w,
-        limit,
-    };
-    decode(restarted, description, channel, output)
 }

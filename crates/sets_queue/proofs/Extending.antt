@@ -1,38 +1,34 @@
 -- The sets that append an index to one set: their keys, and a walk that inserts them index by index.
-use mathlib.Core.Path.{◌≡◌, refl, sym, ap, ap₂, ◌∙◌, subst}
+use mathlib.Core.Path.{◌≡◌, refl, ap, ap₂, ◌∙◌}
 use mathlib.Core.Bool.{Bool, true, false, ◌&&◌, cond}
 use mathlib.Core.List.{List, [], ◌∷◌, ◌++◌, map}
-use Prim.Native.Nat.{ℕ, zero, suc, ◌+◌, ◌-◌, ◌*◌, ◌^◌, ◌≤◌}
+use Prim.Native.Nat.{ℕ, zero, suc, ◌+◌, ◌*◌, ◌^◌, ◌≤◌}
 use native.Mathlib.Numerals.{add-one}
 use native.Mathlib.Omega.{arith}
-use borrow.Author.Tests.{le-leb, lt-leb}
+use borrow.Author.Tests.{le-leb, lt-leb, ne_eqb}
 use lib.Dec.{eqb}
 use lib.IntN.{ℤ}
 use lib.ListN.{length}
-use Rattle.arrays.specs.Claims.{longest}
 use Rattle.bits.specs.Mask.{mask_bit}
 use Rattle.decoder.specs.Candidate.{Candidate, past_largest, doubtful, candidate, extensions}
 use Rattle.sets_queue.specs.declared.Stem.{Stem}
-use Rattle.sets_queue.specs.Clauses.{base, set_key, insert_keys, Pool, SetPre, PoolPre, stem_of, StemFits, key_with, keys_with, Inserted}
-use Rattle.sets_queue.proofs.Inserting.{insert_none, insert_more}
+use Rattle.sets_queue.specs.Clauses.{base, set_key, WalkPre, SetPre, stem_of, StemFits, key_with, keys_with, Untried, insert_keys, with_keys}
+use Rattle.sets_queue.proofs.Inserting.{insert_more}
 
 -- ---- insertions one after another
 
-pub inserted-none : {low count room : ℕ} {keys : List ℕ} → PoolPre low count room keys → Inserted low count room count [] keys keys
-inserted-none {low} {count} {room} {keys} p = record { places = p; holds = λ ks pool. subst (Pool keys low count) (sym (insert_none (room - low) ks)) pool }
+pub with-none : (q : Untried) → with_keys [] q ≡ q
+unfolding insert_keys
+with-none q = refl
 
-pub inserted-more : {low count room middle end : ℕ} {new more keys keys' keys'' : List ℕ} → Inserted low count room middle new keys keys' → Inserted low middle room end more keys' keys'' → Inserted low count room end (new ++ more) keys keys''
-inserted-more {low} {count} {room} {middle} {end} {new} {more} {keys} {keys'} {keys''} p q =
-    record {
-      places = q.places;
-      holds = λ ks pool. subst (Pool keys'' low end) (sym (insert_more (room - low) new more ks)) (q.holds (insert_keys (room - low) new ks) (p.holds ks pool));
-    }
+pub with_more : (new more : List ℕ) (q : Untried) → with_keys (new ++ more) q ≡ with_keys more (with_keys new q)
+with_more new more q = ap (λ (ks : List ℕ). record { keys = ks; room = q.room }) (insert_more q.room new more q.keys)
 
 -- ---- the keys of sets that append an index
 
 module _ (mask : List ℕ) (leaves : List ℤ) where
-  pub keys_frozen : (s : Stem) (small j : ℕ) → mask_bit mask j ≡ 0 → keys_with mask leaves s small j ≡ []
-  keys_frozen s small j e = ap (λ (b : ℕ). cond (eqb b 1) (key_with leaves s small j ∷ []) []) e
+  pub keys_frozen : (s : Stem) (small j : ℕ) → (mask_bit mask j ≡ 1 → ⊥) → keys_with mask leaves s small j ≡ []
+  keys_frozen s small j f = ap (λ (t : Bool). cond t (key_with leaves s small j ∷ []) []) (ne_eqb (mask_bit mask j) 1 f)
 
   key-is : (is : List ℕ) (j small : ℕ) → length is ≤ 2 → small ≡ doubtful mask leaves (suc j) → set_key (candidate mask leaves (is ++ (j ∷ []))) ≡ key_with leaves (stem_of leaves is) small j
   key-is [] j small l e = ap₂ (λ (m d : ℕ). m * base ^ 3 + d) (omega arith) (omega arith)
@@ -73,16 +69,17 @@ module _ (mask : List ℕ) (leaves : List ℤ) where
         go false = refl
 
 -- a stem's keys fit
-pub stem-fits : (n : ℕ) (leaves : List ℤ) (is : List ℕ) → SetPre n leaves is → n ≤ longest → StemFits (stem_of leaves is)
-stem-fits n leaves [] p l = record { sum_most = omega arith; digits_most = omega arith; weight_most = omega arith }
-stem-fits n leaves (i ∷ []) p l = record {
-  sum_most = omega (arith, p.small 0 (omega arith));
-  digits_most = omega (arith, p.below 0 (omega arith));
-  weight_most = omega arith;
-}
-stem-fits n leaves (i ∷ j ∷ []) p l = record {
-  sum_most = omega (arith, p.small 0 (omega arith), p.small 1 (omega arith));
-  digits_most = omega (arith, p.below 0 (omega arith), p.below 1 (omega arith));
-  weight_most = omega arith;
-}
-stem-fits n leaves (i ∷ j ∷ k ∷ is) p l = absurd (omega (arith, p.few))
+module _ {mask : List ℕ} {leaves : List ℤ} (on : WalkPre mask leaves) where
+  pub stem-fits : (is : List ℕ) → SetPre (8 * length mask) is → StemFits (stem_of leaves is)
+  stem-fits [] p = record { sum_most = omega arith; digits_most = omega arith; weight_most = omega arith }
+  stem-fits (i ∷ []) p = record {
+    sum_most = omega (arith, on.small.at i (p.below 0 (omega arith)));
+    digits_most = omega (arith, p.below 0 (omega arith), on.fits);
+    weight_most = omega arith;
+  }
+  stem-fits (i ∷ j ∷ []) p = record {
+    sum_most = omega (arith, on.small.at i (p.below 0 (omega arith)), on.small.at j (p.below 1 (omega arith)));
+    digits_most = omega (arith, p.below 0 (omega arith), p.below 1 (omega arith), on.fits);
+    weight_most = omega arith;
+  }
+  stem-fits (i ∷ j ∷ k ∷ is) p = absurd (omega (arith, p.few))

@@ -1,5 +1,5 @@
 -- A key inserted among keys in order: its place, what the list then holds, and that it is in order.
-use mathlib.Core.Path.{◌≡◌, refl, ap}
+use mathlib.Core.Path.{◌≡◌, refl, ap, subst}
 use mathlib.Core.Logic.{⊎_elim}
 use mathlib.Core.List.{List, [], ◌∷◌, ◌++◌}
 use Prim.Native.Nat.{ℕ, zero, suc, ◌≤◌, ◌<◌}
@@ -7,6 +7,7 @@ use native.Mathlib.Omega.{arith}
 use borrow.Author.Tests.{ltb-true, ltb-false}
 use lib.Dec.{ltb}
 use lib.ListN.{length, get_or, take, drop}
+use lib.Seq.{take-take}
 use Rattle.laws.specs.Insert.{insert_by}
 use Rattle.laws.proofs.Pairs.{pairs_take}
 use Rattle.laws.proofs.Insert.{insert_cases, insert_pairs}
@@ -28,7 +29,7 @@ insert_at key (k ∷ ks) (suc p) low high =
     (λ e. ap (λ (xs : List ℕ). k ∷ xs)
     (insert_at key ks p (λ a l m. low (suc a) (omega arith) (omega arith)) (λ a l m. high (suc a) (omega arith) (omega arith))))
 
-abbrev Ordered : List ℕ → Type 0
+abbrev pub Ordered : List ℕ → Type 0
 Ordered = Pairwise (λ a b. a ≤ b)
 
 pub insert_ordered : (key : ℕ) (ks : List ℕ) → Ordered ks → Ordered (insert_by ltb key ks)
@@ -37,6 +38,9 @@ insert_ordered key ks s = pairwise_of (insert_pairs ltb key ks
 
 pub take-ordered : (m : ℕ) (ks : List ℕ) → Ordered ks → Ordered (take m ks)
 take-ordered m ks s = pairwise_of (pairs_take m ks (pairs_of ks s))
+
+pub fewer-ordered : (n m : ℕ) (ks : List ℕ) → n ≤ m → Ordered (take m ks) → Ordered (take n ks)
+fewer-ordered n m ks l s = subst Ordered (take-take n m ks l) (take-ordered n (take m ks) s)
 
 -- no key, one key, and one list of keys after another
 pub insert_none : (m : ℕ) (ks : List ℕ) → insert_keys m [] ks ≡ ks

@@ -8,7 +8,7 @@ use native.Mathlib.Nat.{mul-le-mul, pow-suc}
 use native.Mathlib.Omega.{arith}
 use borrow.Author.Tests.{lt-ltb, le-ltb, eq-eqb, ne_eqb}
 use lib.Dec.{ltb, eqb, leb-suc-suc, eqb-suc-suc}
-use lib.ListN.{length, get_or, take, set}
+use lib.ListN.{length, get_or, take}
 use Rattle.laws.specs.Insert.{insert_by, earlier}
 use Rattle.laws.proofs.Indices.{lt_cases}
 use Rattle.laws.proofs.Pairs.{take-member}
@@ -163,20 +163,3 @@ module _ (m : ℕ) where
       let three : digit_at 1 (keyed is) - 1 ≡ k = omega arith in
       three_indices (keyed is) (λ e. omega arith) (λ e. omega arith) ∙ ap₂ (λ (x y : ℕ). x ∷ y ∷ (digit_at 1 (keyed is) - 1) ∷ []) one two ∙ ap (λ (z : ℕ). i ∷ j ∷ z ∷ []) three
   indices_back (i ∷ j ∷ k ∷ h ∷ is) l d = absurd (omega (arith, d.few))
-
--- what the first entries of an array of three hold once they are stored
-module _ (x y z : ℕ) where
-  pub stored_one : (w : List ℕ) → length w ≡ 3 → take 1 (set w 0 x) ≡ x ∷ []
-  stored_one [] e = absurd (omega arith)
-  stored_one (a ∷ w) e = refl
-
-  pub stored_two : (w : List ℕ) → length w ≡ 3 → take 2 (set (set w 0 x) 1 y) ≡ x ∷ y ∷ []
-  stored_two [] e = absurd (omega arith)
-  stored_two (a ∷ []) e = absurd (omega arith)
-  stored_two (a ∷ b ∷ w) e = refl
-
-  pub stored_three : (w : List ℕ) → length w ≡ 3 → take 3 (set (set (set w 0 x) 1 y) 2 z) ≡ x ∷ y ∷ z ∷ []
-  stored_three [] e = absurd (omega arith)
-  stored_three (a ∷ []) e = absurd (omega arith)
-  stored_three (a ∷ b ∷ []) e = absurd (omega arith)
-  stored_three (a ∷ b ∷ c ∷ w) e = refl

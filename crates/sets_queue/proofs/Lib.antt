@@ -1,5 +1,5 @@
 pub mod Inserting
-pub mod Pools
+pub mod InMemory
 pub mod Walking
 pub mod Extending
 pub mod Keys

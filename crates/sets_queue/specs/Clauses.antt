@@ -1,13 +1,12 @@
 -- What only contracts below the public operations cite. Nothing here need be believed.
-use Rattle.std.specs.Prelude.{◌≡◌, ◌&&◌, cond, List, [], ◌∷◌, ℕ, zero, suc, ◌+◌, ◌-◌, ◌*◌, ◌^◌, ◌/◌, ◌%◌, ◌<◌, ◌≤◌, min, leb, ltb, eqb, ℤ, length, get_or, take}
-use Rattle.laws.specs.Insert.{insert_by}
+use Rattle.std.specs.Prelude.{◌&&◌, cond, List, [], ◌∷◌, ℕ, zero, suc, ◌+◌, ◌-◌, ◌*◌, ◌^◌, ◌/◌, ◌%◌, ◌<◌, ◌≤◌, leb, eqb, ℤ, length, get_or, ◌≡◌, ltb, take, Option, Some, None}
 use Rattle.arrays.specs.Claims.{longest}
 use Rattle.bits.specs.Mask.{mask_bit}
 use Rattle.flip_order.specs.Order.{magnitude_at}
-use Rattle.flip_order.specs.Claims.{Pairwise}
 use Rattle.flip_order.specs.Clauses.{most_magnitude}
 use Rattle.decoder.specs.Candidate.{Candidate, past_largest, magnitudes}
 use Rattle.sets_queue.specs.declared.Stem.{Stem}
+use Rattle.laws.specs.Insert.{insert_by}
 
 -- ---- a set as one number
 
@@ -43,39 +42,17 @@ pub record Digits (most : ℕ) (is : List ℕ) : Type 0 where
 
 -- ---- keys in order
 
--- each of some keys in its place among keys that are in order: after every insertion only the first m are kept
-unfoldable pub insert_keys : ℕ → List ℕ → List ℕ → List ℕ
-insert_keys m [] ks = ks
-insert_keys m (key ∷ keys) ks = insert_keys m keys (take m (insert_by ltb key ks))
-
--- the queue from `low` to `count` of an array is ks, in order
-pub record Pool (keys : List ℕ) (low count : ℕ) (ks : List ℕ) : Type 0 where
-  pub ends : low + length ks ≡ count
-  pub at : (a : ℕ) → a < length ks → get_or keys (low + a) 0 ≡ get_or ks a 0
-  pub ordered : Pairwise (λ a b. a ≤ b) ks
-
--- p is the place of a key among those from `low` to `end`
-pub record Place (key low end : ℕ) (keys : List ℕ) (p : ℕ) : Type 0 where
-  pub least : low ≤ p
-  pub most : p ≤ end
-  pub past : low < p → get_or keys (p - 1) 0 ≤ key
-  pub above : (j : ℕ) → p ≤ j → j < end → key < get_or keys j 0
-
--- the keys from `at` to `end` stand one place higher, and those up to `at` as they did
-pub record Shifted (at end : ℕ) (keys keys' : List ℕ) : Type 0 where
-  pub whole : length keys' ≡ length keys
-  pub up : (j : ℕ) → at ≤ j → j < end → get_or keys' (suc j) 0 ≡ get_or keys j 0
-  pub below : (j : ℕ) → j ≤ at → get_or keys' j 0 ≡ get_or keys j 0
+-- p keys, and no others, are not above a key
+pub record Place (key : ℕ) (keys : List ℕ) (p : ℕ) : Type 0 where
+  pub most : p ≤ length keys
+  pub last : 0 < p → get_or keys (p - 1) 0 ≤ key
+  pub above : (j : ℕ) → p ≤ j → j < length keys → key < get_or keys j 0
 
 -- ---- sets that append an index
 
 -- the leaf values of the first n indices are so small that metrics fit
 pub record Small (n : ℕ) (leaves : List ℤ) : Type 0 where
   pub at : (j : ℕ) → j < n → magnitude_at leaves j ≤ most_magnitude
-
--- as many indices as have a leaf value and a digit
-abbrev pub indexed : List ℤ → ℕ
-indexed leaves = min longest (length leaves)
 
 -- a small leaf value for each index of a mask
 pub record WalkPre (mask : List ℕ) (leaves : List ℤ) : Type 0 where
@@ -84,17 +61,10 @@ pub record WalkPre (mask : List ℕ) (leaves : List ℤ) : Type 0 where
   pub small : Small (8 * length mask) leaves
 
 -- a set of indices below n that an index can be appended to
-pub record SetPre (n : ℕ) (leaves : List ℤ) (is : List ℕ) : Type 0 where
+pub record SetPre (n : ℕ) (is : List ℕ) : Type 0 where
   pub few : length is ≤ 2
   pub below : (a : ℕ) → a < length is → get_or is a 0 < n
   pub past : past_largest is ≤ n
-  pub small : (a : ℕ) → a < length is → magnitude_at leaves (get_or is a 0) ≤ most_magnitude
-
--- the places of a queue: it is from `low` to `count`, and may grow to `room`
-pub record PoolPre (low count room : ℕ) (keys : List ℕ) : Type 0 where
-  pub low_most : low ≤ count
-  pub count_most : count ≤ room
-  pub room_most : room ≤ length keys
 
 -- the stem of the set `is`
 abbrev pub stem_of : List ℤ → List ℕ → Stem
@@ -123,7 +93,26 @@ key_with leaves s small j = (s.sum + magnitude_at leaves j + 6 * small) * base ^
 abbrev pub keys_with : List ℕ → List ℤ → Stem → ℕ → ℕ → List ℕ
 keys_with mask leaves s small j = cond (eqb (mask_bit mask j) 1) (key_with leaves s small j ∷ []) []
 
--- what an insertion of new keys makes of a queue, whatever it holds
-pub record Inserted (low count room r : ℕ) (new keys keys' : List ℕ) : Type 0 where
-  pub places : PoolPre low r room keys'
-  pub holds : (ks : List ℕ) → Pool keys low count ks → Pool keys' low r (insert_keys (room - low) new ks)
+-- ---- the untried sets of a search as a queue of keys
+
+-- the keys in order, and for how many there is room
+pub record Untried : Type 0 where
+  pub keys : List ℕ
+  pub room : ℕ
+
+-- each of some keys in its place among keys that are in order: after every insertion only the first m are kept
+unfoldable pub insert_keys : ℕ → List ℕ → List ℕ → List ℕ
+insert_keys m [] ks = ks
+insert_keys m (key ∷ keys) ks = insert_keys m keys (take m (insert_by ltb key ks))
+
+abbrev pub none_untried : ℕ → Untried
+none_untried room = record { keys = []; room = room }
+
+-- more keys inserted
+abbrev pub with_keys : List ℕ → Untried → Untried
+with_keys new q = record { keys = insert_keys q.room new q.keys; room = q.room }
+
+-- the least key taken, and with it its room
+abbrev pub Taken : Option ℕ → Untried → Untried → Type 0
+Taken None q q' = (q.keys ≡ []) × (q' ≡ q)
+Taken (Some key) q q' = (q.keys ≡ key ∷ q'.keys) × (q.room ≡ q'.room + 1)

@@ -1,5 +1,5 @@
 -- What trial 1 generates, by the array of its leaf values; and a limit of 1.
-use mathlib.Core.Path.{◌≡◌, refl, sym, ap, ap₂, ◌∙◌, subst}
+use mathlib.Core.Path.{◌≡◌, refl, sym, ap, ◌∙◌}
 use mathlib.Core.Bool.{Bool, cond}
 use mathlib.Core.Logic.{inl}
 use mathlib.Core.List.Memᴰ
@@ -14,7 +14,6 @@ use Rattle.arrays.proofs.Sizes.{fits}
 use Rattle.code.specs.declared.Code.{Code}
 use Rattle.code.specs.Code.{code_length}
 use Rattle.channel.specs.Channel.{channel_values}
-use Rattle.flip_order.proofs.Pairwise.{pairwise_nil}
 use Rattle.flip_trial.specs.Trial.{first_trial, trial_passes}
 use Rattle.flip_trial.specs.Clauses.{FirstLeaves}
 use Rattle.flip_run.specs.Trials.{failed}
@@ -26,9 +25,9 @@ use Rattle.decoder.specs.Tried.{tried}
 use Rattle.decoder.specs.Clauses.{generated_by, tried_by}
 use Rattle.sets_tried.proofs.Members.{generated_flips}
 use Rattle.sets_tried.proofs.Same.{same-extensions}
-use Rattle.sets_queue.specs.Clauses.{set_key, insert_keys, Pool, WalkPre, SetPre, Inserted}
+use Rattle.sets_queue.specs.Clauses.{set_key, WalkPre, none_untried, with_keys}
 use Rattle.sets_queue.proofs.Keys.{keys_insert_each}
-use Rattle.sets_run.specs.Clauses.{SetsPre, FirstPool}
+use Rattle.sets_run.specs.Clauses.{SetsPre, first_untried}
 use Rattle.sets_run.proofs.Leaves.{leaf_first, first_small}
 use Rattle.sets_run.proofs.Searching.{run_of, good_digits}
 
@@ -38,10 +37,6 @@ unfolding tried
 none_allowed s mask c v start e =
     let z : s.limit - 1 ≡ 0 = omega arith in
     ap (λ (m : ℕ). run_of s mask c v 1 start (tried (generated_by s mask c v) m (insert_each m (generated_by s mask c v []) []))) z ∙ run_none (trial_passes mask c) 1 start
-
--- an empty set
-pub set-none : (n : ℕ) (leaves : List ℤ) → SetPre n leaves []
-set-none n leaves = record { few = omega arith; below = λ a l. absurd (omega arith); past = omega arith; small = λ a l. absurd (omega arith) }
 
 module _ {s : Search} {mask : List ℕ} {c : Code} {channel : List ℕ} {values : List ℤ} (on : SetsPre s mask c channel) (kept : FirstLeaves longest mask c channel values) where
   abbrev v : List ℤ
@@ -60,16 +55,9 @@ module _ {s : Search} {mask : List ℕ} {c : Code} {channel : List ℕ} {values 
       ∙ same-extensions mask (code_length c) values (first_trial mask c v).leaves (λ j m e. ap nat_abs (leaf_first kept j m)) [] (inl refl) (code_length c) (omega arith)
       ∙ sym (ap (λ (t : Bool). cond t (extensions mask (first_trial mask c v).leaves [] (code_length c)) []) (lt-ltb 0 s.w on.flips_least))
 
-  pub first_pool : {count : ℕ} {keys keys' : List ℕ} → Inserted 0 0 (s.limit - 1) count (map set_key (extensions mask values [] (8 * length mask))) keys keys' → FirstPool s mask c channel count keys'
-  first_pool {count} {keys} {keys'} p =
-      let m : s.limit - 1 - 0 ≡ s.limit - 1 = omega arith in
-      let empty : Pool keys 0 0 [] = record { ends = refl; at = λ a l. absurd (omega arith); ordered = pairwise_nil } in
-      record {
-        places = p.places;
-        holds =
-            subst (Pool keys' 0 count)
-            (ap₂ (λ (k : ℕ) (new : List Candidate). insert_keys k (map set_key new) []) m first-generated
-            ∙ sym (keys_insert_each (s.limit - 1) (generated_by s mask c v []) []
-            (λ x q. good_digits on.frame.coded on.flips_most (generated_flips s mask c v [] (inl refl) q)) (λ x q. absurd (Memᴰ.not-nil q))))
-            (p.holds [] empty);
-      }
+  pub first_sets : with_keys (map set_key (extensions mask values [] (8 * length mask))) (none_untried (s.limit - 1)) ≡ first_untried s mask c channel
+  first_sets =
+      ap (λ (new : List Candidate). with_keys (map set_key new) (none_untried (s.limit - 1))) first-generated
+      ∙ ap (λ (ks : List ℕ). record { keys = ks; room = s.limit - 1 })
+      (sym (keys_insert_each (s.limit - 1) (generated_by s mask c v []) []
+      (λ x q. good_digits on.frame.coded on.flips_most (generated_flips s mask c v [] (inl refl) q)) (λ x q. absurd (Memᴰ.not-nil q))))

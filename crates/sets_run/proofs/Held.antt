@@ -115,7 +115,6 @@ module _ {s : Search} {mask : List ℕ} {c : Code} {channel is : List ℕ} {valu
   pub leaves_pre : LeavesPre s size q' is values a.leaves
   leaves_pre = record {
     flips_most = on.flips_most;
-    limit_least = on.limit_least;
     held = λ l.
         subst (λ (m : ℕ). HeldLeaves m q' values a.leaves) (sym size_is)
         (subst (λ (k : ℕ). HeldLeaves (code_length c) k values a.leaves) (sym q_is) (held-leaves on flips (more l) post));

@@ -13,7 +13,7 @@ use Rattle.decoder.specs.declared.Search.{Search}
 use Rattle.decoder.specs.Candidate.{Candidate, extensions, insert_each}
 use Rattle.decoder.specs.Decoder.{most_limit}
 use Rattle.decoder.specs.Clauses.{generated_by, set_trials}
-use Rattle.sets_queue.specs.Clauses.{set_key, Small, Pool, PoolPre}
+use Rattle.sets_queue.specs.Clauses.{set_key, Small, Untried}
 
 -- where the trial of a set resumes
 abbrev pub resumed_at : Search → List ℕ → Code → List ℕ → ℕ
@@ -38,7 +38,6 @@ pub record HeldLeaves (size q : ℕ) (values leaves : List ℤ) : Type 0 where
 -- a search of at most three flips, and leaf values of each index if the set is not the largest
 pub record LeavesPre (s : Search) (size q : ℕ) (is : List ℕ) (values leaves : List ℤ) : Type 0 where
   pub flips_most : s.w ≤ 3
-  pub limit_least : 1 ≤ s.limit
   pub held : length is < s.w → HeldLeaves size q values leaves
 
 -- channel values for a code, and a search that is allowed
@@ -58,10 +57,12 @@ pub record SearchPre (s : Search) (mask : List ℕ) (c : Code) (channel output :
 abbrev pub LeavesIfRead : ℕ → Search → List ℕ → Code → List ℕ → List ℤ → Type 0
 LeavesIfRead room s mask c channel values = 1 < s.w → FirstLeaves room mask c channel values
 
--- the sets that trial 1 generated are in their places
-pub record FirstPool (s : Search) (mask : List ℕ) (c : Code) (channel : List ℕ) (count : ℕ) (keys : List ℕ) : Type 0 where
-  pub places : PoolPre 0 count (s.limit - 1) keys
-  pub holds : Pool keys 0 count (map set_key (insert_each (s.limit - 1) (generated_by s mask c (channel_values channel) []) []))
+-- the sets that trial 1 generates, as many as there are later trials at most
+abbrev pub first_untried : Search → List ℕ → Code → List ℕ → Untried
+first_untried s mask c channel = record {
+  keys = map set_key (insert_each (s.limit - 1) (generated_by s mask c (channel_values channel) []) []);
+  room = s.limit - 1;
+}
 
 -- how the run of a search ends
 abbrev pub verdict_by : Search → List ℕ → Code → List ℕ → Verdict

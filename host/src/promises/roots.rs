@@ -3,21 +3,15 @@
 use crate::testing::belief::{Cited, Crates, Kind, Name, Place};
 
 /// The public operations, each with its crate.
-const OPERATIONS: [(&str, &str); 16] = [
+const OPERATIONS: [(&str, &str); 10] = [
     ("code", "read_description"),
     ("encoder", "encode"),
     ("pass_resume", "resume"),
-    ("flip_decoder", "decode_full"),
-    ("flip_decoder", "decode_half"),
-    ("flip_decoder", "decode_restarted"),
-    ("sets_decoder", "decode_sets_full"),
-    ("sets_decoder", "decode_sets_half"),
-    ("sets_decoder", "decode_sets_restarted"),
+    ("decoder", "decode"),
     ("hearing_buffer", "open"),
     ("hearing_buffer", "add"),
     ("hearing_buffer", "clear"),
-    ("hearing_buffer", "decode_full"),
-    ("hearing_buffer", "decode_restarted"),
+    ("hearing_buffer", "decode"),
     ("hearing_preview", "preview_in"),
     ("quantiser", "quantise"),
 ];

@@ -1,29 +1,33 @@
--- Each turn reads two of the node's own values and a sum.
-use mathlib.Core.Path.{sym}
+-- Each turn reads two of the node's values and a sum.
+use mathlib.Core.Path.{sym, ap, ◌∙◌}
 use native.Mathlib.Omega.{arith}
+use lib.ListN.{length}
 use Rattle.laws.specs.Clauses.{segment}
 use Rattle.laws.proofs.Segment.{get_or-segment}
 use Rattle.values.specs.Values.{right_values}
-use Rattle.pass_halves.proofs.Layers.{addable_reads, own_reads, computing_none, right-turn, computed}
+use Rattle.pass_halves.proofs.Layers.{addable_reads, unchanged, node_reads, computing_none, right-turn, computed}
 use Rattle.pass_halves.proofs.right_values.Goals as goal
 
 pub loop-j-init : goal.loop-j-init
-loop-j-init c = computing_none
+loop-j-init g c = computing_none
+
+pub pair-a-requires : goal.pair-a-requires
+pair-a-requires g c = (omega arith, ap length (unchanged c.requires.0 c.loop-j.invariant.filling) ∙ c.requires.0.long)
 
 pub g-requires : goal.g-requires
-g-requires c =
+g-requires g c =
     let p = c.requires.0 in
-    addable_reads (omega arith) p.small (own_reads p c.loop-j.invariant.filling (omega arith))
+    let reads = node_reads p c.loop-j.invariant.filling c.pair-a.ensures.0 c.pair-a.ensures.1 in
+    omega (arith, addable_reads (omega arith) p.small reads)
 
 pub loop-j-preserved : goal.loop-j-preserved
-loop-j-preserved c =
+loop-j-preserved g c =
     let s = c.args in
-    let l = c.loop-j in
-    let sum = sym (get_or-segment s.sums.now s.base s.h l.j 0 (omega arith)) in
-    right-turn (record { sfits = c.g.type_inv }) (omega arith) (segment s.sums.now s.base s.h) l.invariant (own_reads c.requires.0 l.invariant.filling (omega arith)) sum c.g.ensures
+    let inv = c.loop-j.invariant in
+    let reads = node_reads c.requires.0 inv.filling c.pair-a.ensures.0 c.pair-a.ensures.1 in
+    let sum = sym (get_or-segment s.sums.now s.base s.h c.loop-j.j 0 (omega arith)) in
+    right-turn (record { sfits = c.g.type_inv }) (omega arith) (segment s.sums.now s.base s.h) inv reads sum c.g.ensures
 
 pub returns : goal.returns
 unfolding right_values
-returns c =
-    let p = c.requires.0 in
-    computed c.loop-j.invariant (omega arith) (omega (arith, p.whole, p.fits)) c.of.ensures
+returns g c = computed c.loop-j.invariant (omega arith) (omega (arith, c.requires.0.whole, c.requires.0.fits)) c.of.ensures

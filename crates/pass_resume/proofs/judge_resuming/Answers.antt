@@ -6,16 +6,21 @@ use Rattle.channel.specs.Channel.{channel_refusals}
 use Rattle.pass_resume.specs.Clauses.{prefix_refusals}
 use Rattle.pass_resume.proofs.judge_resuming.Goals as goal
 
+pub judge_channel-requires : goal.judge_channel-requires
+judge_channel-requires c = c.args.masked.now.coded.n_most
+
 pub returns-in_err-judge_channel : goal.returns-in_err-judge_channel
 returns-in_err-judge_channel c =
     let x = c.args in
+    let m = x.masked.now in
     passed_on _ _ c.from_residual.ensures
-    ∙ sym (append_refused (channel_refusals x.code x.channel.now) (prefix_refusals x.mask.now x.code x.prefix.now x.output.now) _
+    ∙ sym (append_refused (channel_refusals m.code x.channel.now) (prefix_refusals m.mask.now m.code x.prefix.now x.output.now) _
     (sym c.judge_channel.ensures ∙ c.in_err-judge_channel.was))
 
 pub returns : goal.returns
 returns c =
     let x = c.args in
+    let m = x.masked.now in
     c.judge_prefix.ensures
-    ∙ sym (append-fine (channel_refusals x.code x.channel.now) (prefix_refusals x.mask.now x.code x.prefix.now x.output.now)
+    ∙ sym (append-fine (channel_refusals m.code x.channel.now) (prefix_refusals m.mask.now m.code x.prefix.now x.output.now)
     (sym c.judge_channel.ensures ∙ c.in_ok-judge_channel.was))

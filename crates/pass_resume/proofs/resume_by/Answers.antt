@@ -13,24 +13,22 @@ pub returns-in_err-judge_resuming : goal.returns-in_err-judge_resuming
 unfolding resumed_by
 returns-in_err-judge_resuming c =
     let x = c.args in
-    let o : Out = resume_pass x.mask.now x.code x.channel.now x.prefix.now in
+    let m = x.masked.now in
+    let o : Out = resume_pass m.mask.now m.code x.channel.now x.prefix.now in
     ap (λ (r : Resumed). (r, x.output.now)) (passed_on _ _ c.from_residual.ensures)
     ∙ sym (refused_by (λ i. (Err i, x.output.now)) (Ok o.work, o.bits) _ _ (sym c.judge_resuming.ensures ∙ c.in_err-judge_resuming.was))
 
 pub resume_pass-requires : goal.resume_pass-requires
 resume_pass-requires c =
-    let x = c.args in (
-      record {
-        coded = c.requires.0;
-        well_formed = fine_well_formed x.mask.now x.code x.channel.now x.prefix.now x.output.now (sym c.judge_resuming.ensures ∙ c.in_ok-judge_resuming.was);
-      },
-      c.requires.1,
-    )
+    let x = c.args in
+    let m = x.masked.now in
+    (fine_well_formed m.mask.now m.code x.channel.now x.prefix.now x.output.now (sym c.judge_resuming.ensures ∙ c.in_ok-judge_resuming.was), c.requires)
 
 pub returns : goal.returns
 returns c =
     let x = c.args in
+    let m = x.masked.now in
     let d = c.resume_pass.ensures in
     ap₂ (λ (w : Work) (bits : List ℕ). (Ok w, bits)) d.0 d.1
-    ∙ sym (well_formed_answer x.mask.now x.code x.channel.now x.prefix.now x.output.now
-    (fine_well_formed x.mask.now x.code x.channel.now x.prefix.now x.output.now (sym c.judge_resuming.ensures ∙ c.in_ok-judge_resuming.was)))
+    ∙ sym (well_formed_answer m.mask.now m.code x.channel.now x.prefix.now x.output.now
+    (fine_well_formed m.mask.now m.code x.channel.now x.prefix.now x.output.now (sym c.judge_resuming.ensures ∙ c.in_ok-judge_resuming.was)))
