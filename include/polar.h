@@ -1,5 +1,5 @@
 /* Polar frames for groomer modules: the interface for C and C++. Link libpolar.a, which is for x86-64 Linux, for processors that
- * have what x86-64-v2 has, and needs memcpy, memmove and memset and nothing else.
+ * have what x86-64-v2 has, and needs memcpy and memset and nothing else.
  *
  * Each function takes buffers as a pointer and a length in bytes, and keeps no pointer. It only reads its inputs, which may overlap each
  * other; input and output must not overlap, and nothing else may write any of them during the call. The state of a hearing is an input

@@ -26,12 +26,15 @@ pub type ValueArray = [i32; SIZE];
 // The rule of each index: 0 frozen, 1 the usual decision, 3 its opposite.
 pub type RuleArray = [u8; SIZE];
 
-// Copies `count` bytes of the source, from index `start` on, to index `at` on of the target.
+// Copies `count` bytes of the source, from index `start` on, to index `at` on of the target. By `copy_from_slice` the library would need `memmove`
+// from outside.
 pub fn copy(source: &[u8], start: usize, target: &mut [u8], at: usize, count: usize)
     requires { (start + count ≤ length source.now) × (at + count ≤ length target.old) }
     ensures { target.new ≡ splice target.old at (segment source.now start count) }
 {
-    target[at..at + count].copy_from_slice(&source[start..start + count]);
+    for j in 0..count {
+        target[at + j] = source[start + j];
+    }
 }
 
 // Whether every byte from an index on is zero. No branch depends on a byte, so the loop takes many at once.

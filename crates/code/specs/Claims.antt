@@ -1,5 +1,5 @@
 -- Which descriptions are accepted, and what an accepted one says, the facts that encoder and decoders build on.
-use Rattle.std.specs.Prelude.{◌≡◌, Bool, true, List, [], ◌∷◌, ◌++◌, ℕ, ◌+◌, ◌-◌, ◌*◌, ◌/◌, ◌%◌, ◌^◌, ◌≤◌, ◌<◌, ltb, length, get_or, drop, Err, Ok}
+use Rattle.std.specs.Prelude.{◌≡◌, Bool, true, List, [], ◌∷◌, ◌++◌, ℕ, ◌+◌, ◌-◌, ◌*◌, ◌/◌, ◌%◌, ◌^◌, ◌≤◌, ◌<◌, ltb, length, get_or, drop, Err, Ok, Result}
 use Rattle.refusal.specs.declared.Refusal.{Refusal}
 use Rattle.refusal.specs.Judge.{differs, outside, judge, refused_or}
 use Rattle.arrays.specs.Sizes.{largest_n}
@@ -9,7 +9,6 @@ use Rattle.code.specs.declared.Code.{Code}
 use Rattle.code.specs.Code.{code_length, information_count}
 use Rattle.code.specs.Description.{word, is_description, mask_at, mask_of, start_of, is_wide, bad_polynomial, describe}
 use Rattle.refusal.specs.declared.Refusal.TheVariants.{CheckLength, CodeLength, FieldsMissing, LengthField, MaskLength, NoPayload, Polynomial, StartValue, UnknownKind}
-use Rattle.code.specs.Clauses.{Description}
 
 -- the layout of a description's bytes: refusals 1 to 5 in turn do not apply
 pub record Laid (d : List ℕ) : Type 0 where
@@ -79,12 +78,12 @@ code_at at start d = record { n = get_or d 4 0; r = get_or d 5 0; polynomial = w
 
 -- Document 01 by itself knows kind 1: refusals 1 to 8, the mask from byte 8 on, and a check that starts at 0. `kind_1`: the answer to every
 -- slice that does not say kind 4.
-abbrev pub describe_kind1 : List ℕ → Description
+abbrev pub describe_kind1 : List ℕ → Result Code Refusal
 describe_kind1 d = refused_or (judge (refusals_at 1 8 [] d)) Err (Ok (code_at 8 0 d))
 
 -- Document 02, request 2.1, by itself knows kind 4: at least 10 bytes, refusal 25 between 7 and 8, and the mask from byte 10 on. `kind_4`: the
 -- answer to every slice that says kind 4.
-abbrev pub describe_kind4 : List ℕ → Description
+abbrev pub describe_kind4 : List ℕ → Result Code Refusal
 describe_kind4 d =
     refused_or (judge (refusals_at 4 10 ((is_wide (word d 8) (get_or d 5 0), StartValue) ∷ []) d)) Err (Ok (code_at 10 (word d 8) d))
 

@@ -1,6 +1,7 @@
 -- What only contracts below the public operations cite. Nothing here need be believed.
 use Rattle.std.specs.Prelude.{◌≡◌, Bool, cond, List, [], ◌∷◌, ◌++◌, map, ℕ, ◌-◌, ltb, ℤ, length, take, Ok}
 use Rattle.refusal.specs.declared.Refusal.{Refusal}
+use Rattle.refusal.specs.Clauses.{Judgement}
 use Rattle.refusal.specs.Judge.{differs, judge}
 use Rattle.bits.specs.Packing.{bytes_for}
 use Rattle.code.specs.declared.Code.{Code}
@@ -12,12 +13,16 @@ use Rattle.flip_trial.specs.Trial.{first_trial, restart_at, later_trial}
 use Rattle.decoder.specs.declared.Search.{Search}
 use Rattle.decoder.specs.Candidate.{Candidate, extensions, insert_each}
 use Rattle.decoder.specs.Tried.{tried}
-use Rattle.decoder.specs.Decoder.{Decoder, refusals_of}
+use Rattle.decoder.specs.Decoder.{Decoder, own_refusals, refusals_of}
 use Rattle.refusal.specs.declared.Refusal.TheVariants.{OutputLength}
 
 -- 15 the output is not of the packed payload's size
 abbrev pub output_refusals : Code → List ℕ → List (Bool × Refusal)
 output_refusals c output = (differs (length output) (bytes_for c.k), OutputLength) ∷ []
+
+-- j judges by all refusals before 16, if `own` judges by the decoder's own
+abbrev pub JudgesCall : Judgement → Code → List ℕ → List ℕ → Judgement → Type 0
+JudgesCall own c channel output j = (p : Decoder) → own ≡ judge (own_refusals p c) → j ≡ judge (refusals_of p c channel output)
 
 -- a code, and a call under it that no refusal before 16 stops
 pub record FinePre (p : Decoder) (mask : List ℕ) (c : Code) (channel output : List ℕ) : Type 0 where

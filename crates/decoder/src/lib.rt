@@ -8,8 +8,8 @@ ghost use Rattle.arrays.specs.Claims.{longest};
 ghost use Rattle.code.specs.Code.{information_count};
 ghost use Rattle.code.specs.Claims.{Coded};
 ghost use Rattle.flip_trial.specs.declared.Restart.{Restart};
-ghost use Rattle.decoder.specs.Decoder.{Decoder, own_refusals, refusals_of, decoded_under, decoded_as};
-ghost use Rattle.decoder.specs.Clauses.{output_refusals, FinePre};
+ghost use Rattle.decoder.specs.Decoder.{Decoder, own_refusals, decoded_under, decoded_as};
+ghost use Rattle.decoder.specs.Clauses.{output_refusals, JudgesCall, FinePre};
 
 use code::Code;
 use flip_run::{DecodingError, Tally};
@@ -63,18 +63,18 @@ fn judge_output(code: Code, output: &[u8]) -> Result<(), Refusal>
     Ok(())
 }
 
-// Refusals 12 and 13, the decoder's own, and then 15.
-fn judge_call<T: Trials>(
-    trials: T,
+// Refusals 12 and 13, those of a decoder, which are `own`, and then 15.
+pub fn judge_call(
+    own: Result<(), Refusal>,
     code: Code,
     channel: &[u8],
     output: &[u8],
 ) -> Result<(), Refusal>
-    requires { (code.n ≤ largest_n) × (information_count code ≤ longest) }
-    ensures { result ≡ judge (refusals_of (T.decoder trials) code channel.now output.now) }
+    requires { code.n ≤ largest_n }
+    ensures { JudgesCall own code channel.now output.now result }
 {
     channel::judge_channel(code, channel)?;
-    trials.judge_own(code)?;
+    own?;
     judge_output(code, output)
 }
 
@@ -90,7 +90,8 @@ pub fn decode_by<T: Trials>(
     ensures { (result, output.new)
         ≡ decoded_under (T.decoder trials) (T.restart trials) mask.now code channel.now output.old }
 {
-    judge_call(trials, code, channel, output)?;
+    let own = trials.judge_own(code);
+    judge_call(own, code, channel, output)?;
     trials.run(mask, code, channel, output)
 }
 

@@ -1,5 +1,5 @@
 -- What theorems state of the decoders: how a run of trials ends, what restarts share, and what half restart saves.
-use Rattle.std.specs.Prelude.{◌≡◌, Bool, true, false, cond, ◌⊎◌, List, [], ◌∷◌, map, ℕ, zero, suc, ◌+◌, ◌-◌, ◌*◌, ◌/◌, ◌<◌, ◌≤◌, leb, length, get_or, take, Err, Ok}
+use Rattle.std.specs.Prelude.{◌≡◌, Bool, true, false, cond, ◌⊎◌, List, [], ◌∷◌, map, ℕ, zero, suc, ◌+◌, ◌-◌, ◌*◌, ◌/◌, ◌<◌, ◌≤◌, leb, length, get_or, take, Err, Ok, Result}
 use Rattle.code.specs.declared.Code.{Code}
 use Rattle.code.specs.Code.{code_length}
 use Rattle.pass_tree.specs.Node.{Out}
@@ -11,7 +11,8 @@ use Rattle.flip_run.specs.Trials.{Verdict, passed, failed, tally}
 use Rattle.decoder.specs.Decoder.{Decoder}
 use Rattle.decoder_demands.specs.Agreement.{lowest_of_each, SameRun}
 use Rattle.flip_run.specs.declared.DecodingError.TheVariants.{NonePassed}
-use Rattle.flip_run.specs.Clauses.{Decoded}
+use Rattle.flip_run.specs.declared.Tally.{Tally}
+use Rattle.flip_run.specs.declared.DecodingError.{DecodingError}
 
 -- the bits of each trial
 abbrev pub bits_of_each : List Out → List (List ℕ)
@@ -64,7 +65,7 @@ skipped_by restart mask c (i ∷ is) = skipped c.n (restart_at restart mask (cod
 
 -- The answers of the decoders of every restart, by any sets. `answer` is what the decoder of each restart answers after the trials of these sets,
 -- with any output that fits. `every-restart` of proofs/Compare.antt proves it.
-pub record EveryRestart (mask : List ℕ) (c : Code) (sets : List (List ℕ)) (Fitting : List ℕ → Type 0) (answer : Restart → List ℕ → Decoded × List ℕ) : Type 0 where
+pub record EveryRestart (mask : List ℕ) (c : Code) (sets : List (List ℕ)) (Fitting : List ℕ → Type 0) (answer : Restart → List ℕ → Result Tally DecodingError × List ℕ) : Type 0 where
   -- the trials that each makes
   pub made : ℕ
   -- the steps that each restart reports

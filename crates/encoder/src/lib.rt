@@ -78,7 +78,8 @@ fn judge_encoding(masked: &MaskedCode, payload: &[u8], output: &[u8]) -> Result<
     if has_unused_bit(payload, k) {
         return Err(Refusal::UnusedBit);
     }
-    if output.len() != masked.mask.len() {
+    let size = masked.mask.len();
+    if output.len() != size {
         return Err(Refusal::CodewordLength);
     }
     Ok(())

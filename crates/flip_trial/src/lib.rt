@@ -74,10 +74,10 @@ fn put_prefix(i: usize, q: usize, first: &BitArray, bits: &mut BitArray)
     ensures { bits.new ≡ splice bits.old 0 (forced_prefix first.now i q) }
 {
     if q <= i {
-        bits[..q].copy_from_slice(&first[..q]);
+        arrays::copy(first, 0, bits, 0, q);
         return;
     }
-    bits[..i].copy_from_slice(&first[..i]);
+    arrays::copy(first, 0, bits, 0, i);
     bits[i] = 1 - first[i];
     bits[i + 1..q].fill(0);
 }

@@ -36,7 +36,7 @@ fn write_fresh(description: &[u8], buffer: &mut [u8])
         × (length buffer.old ≡ hearing_size) }
     ensures { buffer.new ≡ bytes_of (state_of description.now fresh) }
 {
-    buffer[..description.len()].copy_from_slice(description);
+    arrays::copy(description, 0, buffer, 0, description.len());
     clear_from(buffer, description.len());
 }
 

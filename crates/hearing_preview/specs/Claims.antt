@@ -1,5 +1,5 @@
 -- What the theorems of this crate state of its definitions.
-use Rattle.std.specs.Prelude.{◌≡◌, List, [], ◌∷◌, ◌++◌, ℕ, length, Err, Ok}
+use Rattle.std.specs.Prelude.{◌≡◌, List, [], ◌∷◌, ◌++◌, ℕ, length, Err, Ok, Result}
 use Rattle.refusal.specs.declared.Refusal.{Refusal}
 use Rattle.refusal.specs.Judge.{judge, refused_or}
 use Rattle.code.specs.declared.Code.{Code}
@@ -12,10 +12,11 @@ use Rattle.hearing_buffer.specs.Lent.{hearing_size, state_in, opened_in}
 use Rattle.hearing_demands.specs.Repeats.{Call, after, accepted_in, Holds, buffer_after}
 use Rattle.hearing_preview.specs.Preview.{previewed_in}
 use Rattle.flip_run.specs.declared.DecodingError.TheVariants.{Refused}
-use Rattle.flip_run.specs.Clauses.{Decoded}
+use Rattle.flip_run.specs.declared.Tally.{Tally}
+use Rattle.flip_run.specs.declared.DecodingError.{DecodingError}
 
 -- the preview of an add to a state: the refusal of the add, or restarted decoding of the state that it leaves
-abbrev pub previewed : State → List ℕ → ℕ → List ℕ → Decoded × List ℕ
+abbrev pub previewed : State → List ℕ → ℕ → List ℕ → Result Tally DecodingError × List ℕ
 previewed s channel limit output =
     refused_or (added s channel).0 (λ x. (Err (Refused x), output)) (decoded_held_with AfterFlip (added s channel).1 limit output)
 

@@ -9,12 +9,9 @@ ghost use Rattle.hearing_buffer.specs.Lent.{opened_in, added_in, cleared_in, ful
 ghost use Rattle.hearing_preview.specs.Preview.{previewed_in};
 ghost use Rattle.polar_number.specs.Number.{numbered, encoded_parts, resumed_parts, decoded_parts, kept_parts};
 
-use decoder::Search;
-use flip_decoder::Single;
 use flip_run::Terms;
 use flip_trial::Restart;
 use polar_number::answer_number;
-use sets_decoder::Sets;
 
 #[unsafe(no_mangle)]
 pub extern "C" fn polar_encode(description: &[u8], payload: &[u8], codeword: &mut [u8]) -> u64
@@ -47,11 +44,7 @@ pub extern "C" fn polar_decode_full(
     ensures { (result, payload.new)
         ≡ numbered decoded_parts (decoded_full description.now channel.now limit payload.old) }
 {
-    let full = Terms {
-        restart: Restart::Root,
-        limit,
-    };
-    answer_number(decoder::decode(Single(full), description, channel, payload))
+    answer_number(flip_decoder::decode_full(description, channel, limit, payload))
 }
 
 #[unsafe(no_mangle)]
@@ -64,11 +57,7 @@ pub extern "C" fn polar_decode_half(
     ensures { (result, payload.new)
         ≡ numbered decoded_parts (decoded_half description.now channel.now limit payload.old) }
 {
-    let half = Terms {
-        restart: Restart::Half,
-        limit,
-    };
-    answer_number(decoder::decode(Single(half), description, channel, payload))
+    answer_number(flip_decoder::decode_half(description, channel, limit, payload))
 }
 
 #[unsafe(no_mangle)]
@@ -81,11 +70,7 @@ pub extern "C" fn polar_decode_restarted(
     ensures { (result, payload.new)
         ≡ numbered decoded_parts (decoded_restarted description.now channel.now limit payload.old) }
 {
-    let restarted = Terms {
-        restart: Restart::AfterFlip,
-        limit,
-    };
-    answer_number(decoder::decode(Single(restarted), description, channel, payload))
+    answer_number(flip_decoder::decode_restarted(description, channel, limit, payload))
 }
 
 #[unsafe(no_mangle)]
@@ -99,12 +84,7 @@ pub extern "C" fn polar_decode_sets_full(
     ensures { (result, payload.new)
         ≡ numbered decoded_parts (sets_full description.now channel.now w limit payload.old) }
 {
-    let full = Search {
-        restart: Restart::Root,
-        w,
-        limit,
-    };
-    answer_number(decoder::decode(Sets(full), description, channel, payload))
+    answer_number(sets_decoder::decode_sets_full(description, channel, w, limit, payload))
 }
 
 #[unsafe(no_mangle)]
@@ -118,12 +98,7 @@ pub extern "C" fn polar_decode_sets_half(
     ensures { (result, payload.new)
         ≡ numbered decoded_parts (sets_half description.now channel.now w limit payload.old) }
 {
-    let half = Search {
-        restart: Restart::Half,
-        w,
-        limit,
-    };
-    answer_number(decoder::decode(Sets(half), description, channel, payload))
+    answer_number(sets_decoder::decode_sets_half(description, channel, w, limit, payload))
 }
 
 #[unsafe(no_mangle)]
@@ -137,12 +112,7 @@ pub extern "C" fn polar_decode_sets_restarted(
     ensures { (result, payload.new)
         ≡ numbered decoded_parts (sets_restarted description.now channel.now w limit payload.old) }
 {
-    let restarted = Search {
-        restart: Restart::AfterFlip,
-        w,
-        limit,
-    };
-    answer_number(decoder::decode(Sets(restarted), description, channel, payload))
+    answer_number(sets_decoder::decode_sets_restarted(description, channel, w, limit, payload))
 }
 
 #[unsafe(no_mangle)]

@@ -49,7 +49,7 @@ impl<'a> Line<'a> {
         ensures { Put self.old bytes.now self.new }
     {
         let end = self.end + bytes.len();
-        self.buffer[self.end..end].copy_from_slice(bytes);
+        arrays::copy(bytes, 0, self.buffer, self.end, bytes.len());
         self.end = end;
     }
 

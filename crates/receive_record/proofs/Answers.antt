@@ -25,13 +25,13 @@ pub answer_equal : {before after : Held} {a b : List ℕ × List ℕ} {line : Li
 answer_equal {before} {after} {line = line} {end} e p = subst (λ (x : List ℕ × List ℕ). RespondPost before x line after end) e p
 
 abbrev by_kind : List ℕ → List ℕ → Kind → List ℕ × List ℕ
-by_kind held bytes Description = description_response held bytes
+by_kind held bytes (Description number) = description_response held bytes
 by_kind held bytes Channel = (channel_line held bytes, held)
 by_kind held bytes (Other number) = (skip_line number, held)
 
 -- the tests of the definition find the kind
 by_tests : (held bytes : List ℕ) (description channel : Bool) (number : ℕ)
-    → by_kind held bytes (cond description Description (cond channel Channel (Other number)))
+    → by_kind held bytes (cond description (Description number) (cond channel Channel (Other number)))
     ≡ cond description (description_response held bytes) (cond channel (channel_line held bytes, held) (skip_line number, held))
 by_tests held bytes true channel number = refl
 by_tests held bytes false true number = refl

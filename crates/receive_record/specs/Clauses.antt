@@ -12,7 +12,7 @@ held_bytes held = take held.size held.buffer.now
 
 -- what a record of a kind is
 abbrev pub kind_of : ℕ → Kind
-kind_of number = cond (is_description number) Description (cond (eqb number 2) Channel (Other number))
+kind_of number = cond (is_description number) (Description number) (cond (eqb number 2) Channel (Other number))
 
 -- a record starts with its length in bytes, header included, then its kind
 abbrev pub header_of : List ℕ → Header

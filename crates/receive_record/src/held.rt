@@ -32,7 +32,7 @@ impl Held<'_> {
         ensures held { held_bytes self.new ≡ bytes.now }
     {
         let size = bytes.len();
-        self.buffer[..size].copy_from_slice(bytes);
+        arrays::copy(bytes, 0, self.buffer, 0, size);
         self.size = size;
     }
 }

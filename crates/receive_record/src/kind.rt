@@ -3,8 +3,8 @@
 // What a record is.
 #[derive(Clone, Copy)]
 pub enum Kind {
-    // a description
-    Description,
+    // a description, of this kind
+    Description(u32),
     // values that were received
     Channel,
     // of another kind, which is skipped
@@ -19,7 +19,7 @@ impl From<u32> for Kind {
 
     fn from(number: u32) -> Kind {
         match number {
-            _ if code::is_description(number) => Kind::Description,
+            _ if code::is_description(number) => Kind::Description(number),
             2 => Kind::Channel,
             _ => Kind::Other(number),
         }

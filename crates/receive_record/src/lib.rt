@@ -53,7 +53,7 @@ pub fn respond(held: &mut Held, bytes: &[u8], line: &mut [u8]) -> usize
     ensures { RespondPost held.old (responded (held_bytes held.old) bytes.now) line.new held.new result }
 {
     match read_header(bytes).kind {
-        Kind::Description => respond_description(held, bytes, line),
+        Kind::Description(_) => respond_description(held, bytes, line),
         Kind::Channel => put_channel(line, held.bytes(), bytes),
         Kind::Other(number) => put_line(line, b"skip", number as u64),
     }

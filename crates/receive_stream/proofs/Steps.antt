@@ -52,7 +52,7 @@ module _ {longest : ℕ} (s : Stream) (got : ℕ) (bytes held output : List ℕ)
   none-there : (s' : Stream) → s'.there ≡ 0 → length (take s'.there bytes) ≡ s'.there
   none-there s' e = ap (λ (n : ℕ). length (take n bytes)) e ∙ sym e
 
-  record_there : ahead_of there ≡ Whole → IsRecord there
+  pub record_there : ahead_of there ≡ Whole → IsRecord there
   record_there e =
       let old = take s.there bytes in
       let more = take got (drop s.there bytes) in

@@ -1,15 +1,16 @@
-// Decoding by sets of flipped indices.
+// Decoding by sets of flipped indices: full, by half restart, and restarted.
 #![tactic(auto)]
 
 ghost use Rattle.std.specs.Prelude.{◌≡◌, ◌≤◌};
 ghost use Rattle.refusal.specs.Judge.{outside};
 ghost use Rattle.arrays.specs.Claims.{longest};
 ghost use Rattle.code.specs.Code.{information_count};
-ghost use Rattle.decoder.specs.Decoder.{sets, most_limit};
+ghost use Rattle.decoder.specs.Decoder.{sets, most_limit, sets_full, sets_half, sets_restarted};
 
 use code::Code;
 use decoder::{Search, Trials};
 use flip_run::{DecodingError, Tally};
+use flip_trial::Restart;
 use refusal::Refusal;
 
 // The largest trial limit if a set may have more than one index.
@@ -71,4 +72,58 @@ impl Trials for Sets {
     ) -> Result<Tally, DecodingError> {
         sets_run::decode_in(self.0, mask, code, channel, output)
     }
+}
+
+// Decodes with each later trial repeated from the root.
+pub fn decode_sets_full(
+    description: &[u8],
+    channel: &[u8],
+    w: u32,
+    limit: u32,
+    output: &mut [u8],
+) -> Result<Tally, DecodingError>
+    ensures { (result, output.new) ≡ sets_full description.now channel.now w limit output.old }
+{
+    let full = Search {
+        restart: Restart::Root,
+        w,
+        limit,
+    };
+    decoder::decode(Sets(full), description, channel, output)
+}
+
+// Decodes with each later trial resumed at N/2 if the lowest index of its set is N/2 or above, otherwise at 0.
+pub fn decode_sets_half(
+    description: &[u8],
+    channel: &[u8],
+    w: u32,
+    limit: u32,
+    output: &mut [u8],
+) -> Result<Tally, DecodingError>
+    ensures { (result, output.new) ≡ sets_half description.now channel.now w limit output.old }
+{
+    let half = Search {
+        restart: Restart::Half,
+        w,
+        limit,
+    };
+    decoder::decode(Sets(half), description, channel, output)
+}
+
+// Decodes with each later trial resumed at the first information index after the lowest of its set, or at N if there is none.
+pub fn decode_sets_restarted(
+    description: &[u8],
+    channel: &[u8],
+    w: u32,
+    limit: u32,
+    output: &mut [u8],
+) -> Result<Tally, DecodingError>
+    ensures { (result, output.new) ≡ sets_restarted description.now channel.now w limit output.old }
+{
+    let restarted = Search {
+        restart: Restart::AfterFlip,
+        w,
+        limit,
+    };
+    decoder::decode(Sets(restarted), description, channel, output)
 }

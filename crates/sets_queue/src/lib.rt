@@ -14,19 +14,19 @@ use std::marker::Model;
 const BASE: u64 = 2 * SIZE as u64;
 
 // The most indices of a set.
-const FLIPS: usize = 3;
+pub const FLIPS: usize = 3;
 
 // A set to which one more index will be appended.
 #[derive(Clone, Copy)]
-struct Stem {
+pub struct Stem {
     // The sum of its leaf magnitudes.
-    sum: u64,
+    pub sum: u64,
     // Its digits, in the places of a key.
-    digits: u64,
+    pub digits: u64,
     // The weight of the next digit.
-    weight: u64,
+    pub weight: u64,
     // The first index that may be appended.
-    from: usize,
+    pub from: usize,
 }
 
 // The leaf values of a trial: a small one for each index of a mask.

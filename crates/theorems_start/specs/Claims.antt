@@ -1,5 +1,5 @@
 -- What the theorems of this crate state of start values, and of operations under descriptions of kinds 1 and 4.
-use Rattle.std.specs.Prelude.{◌≡◌, true, List, ◌++◌, ℕ, ◌*◌, ◌^◌, ◌<◌, ℤ, drop, replicate, Err, Ok}
+use Rattle.std.specs.Prelude.{◌≡◌, true, List, ◌++◌, ℕ, ◌*◌, ◌^◌, ◌<◌, ℤ, drop, replicate, Err, Ok, Result}
 use Rattle.refusal.specs.Judge.{judge, refused_or}
 use Rattle.bits.specs.Bit.{bits_of}
 use Rattle.bits.specs.Claims.{Bits}
@@ -20,9 +20,10 @@ use Rattle.flip_run.specs.Trials.{run, answer_of, tally}
 use Rattle.decoder.specs.Decoder.{Decoder, refusals_of, WellFormed, trials_of, decoded_as}
 use Rattle.theorems_start.specs.Silence.{silence}
 use Rattle.flip_run.specs.declared.DecodingError.TheVariants.{Refused}
-use Rattle.encoder.specs.Clauses.{Encoded}
-use Rattle.pass_resume.specs.Clauses.{Resumed}
-use Rattle.flip_run.specs.Clauses.{Decoded}
+use Rattle.refusal.specs.declared.Refusal.{Refusal}
+use Rattle.pass_tree.specs.declared.Work.{Work}
+use Rattle.flip_run.specs.declared.Tally.{Tally}
+use Rattle.flip_run.specs.declared.DecodingError.{DecodingError}
 
 -- Why a start is wanted: with start 0 silence is accepted on trial 1 as a payload of zeros, by every decoder at every restart. `silence-accepted` of
 -- proofs/Silence.antt
@@ -52,7 +53,7 @@ OneStart =
 -- of proofs/TwoKinds.antt: these are the answers under every slice that does not say kind 4.
 
 -- encode
-abbrev pub encoded_kind1 : List ℕ → List ℕ → List ℕ → Encoded × List ℕ
+abbrev pub encoded_kind1 : List ℕ → List ℕ → List ℕ → Result Unit Refusal × List ℕ
 encoded_kind1 d payload output =
     on_description (describe_kind1 d) (λ x. (Err x, output))
     (λ c.
@@ -61,12 +62,12 @@ encoded_kind1 d payload output =
     (Ok tt, packed (transformed c.n (placed (drop 8 d) (bits ++ check_of (divisor c) (bits_of c.r 0) bits) (code_length c)))))
 
 -- resume
-abbrev pub resumed_kind1 : List ℕ → List ℕ → List ℕ → List ℕ → Resumed × List ℕ
+abbrev pub resumed_kind1 : List ℕ → List ℕ → List ℕ → List ℕ → Result Work Refusal × List ℕ
 resumed_kind1 d channel prefix output =
     on_description (describe_kind1 d) (λ x. (Err x, output)) (λ c. resumed_by (drop 8 d) c channel prefix output)
 
 -- decode
-abbrev pub decoded_kind1 : Decoder → Restart → List ℕ → List ℕ → List ℕ → Decoded × List ℕ
+abbrev pub decoded_kind1 : Decoder → Restart → List ℕ → List ℕ → List ℕ → Result Tally DecodingError × List ℕ
 decoded_kind1 p restart d channel output =
     on_description (describe_kind1 d) (λ x. (Err (Refused x), output))
     (λ c. refused_or (judge (refusals_of p c channel output)) (λ x. (Err (Refused x), output))

@@ -41,7 +41,7 @@ module _ {layer size n h room : ℕ} {w : List ℕ} {base : ℕ} (d : Halving la
   abbrev R : List ℕ
   R = folded n (segment w (base + h) h)
 
-  halves : BytesAt room w base (h + h)
+  pub halves : BytesAt room w base (h + h)
   halves = subst (BytesAt room w base) d.two p
 
   pub left-bytes : BytesAt room w base h

@@ -20,10 +20,11 @@ use Rattle.flip_order.specs.Order.{information}
 use Rattle.flip_run.specs.Trials.{flip_order, run, tally}
 use Rattle.decoder.specs.Decoder.{decoded_under, decoded_as, decoded_full, decoded_restarted}
 use Rattle.vectors.proofs.Descriptions.{D, starred_code, starred_v}
-use Rattle.std.specs.Prelude.{Err, Ok}
+use Rattle.std.specs.Prelude.{Err, Ok, Result}
 use Rattle.flip_run.specs.declared.DecodingError.TheVariants.{NonePassed, Refused}
 use Rattle.refusal.specs.declared.Refusal.TheVariants.{ChannelValue, TrialLimit}
-use Rattle.flip_run.specs.Clauses.{Decoded}
+use Rattle.flip_run.specs.declared.DecodingError.{DecodingError}
+use Rattle.flip_run.specs.declared.Tally.{Tally}
 
 -- 4, −4, 4, −4, −4, 4, −4, 4
 abbrev pub noiseless_a0 : List ℕ
@@ -35,7 +36,7 @@ zeros_then byte = 0 ∷ 0 ∷ 0 ∷ 0 ∷ 0 ∷ 0 ∷ 0 ∷ byte ∷ []
 
 -- The rows under D, for a decoder (channel, T, output) that takes `steps` steps for two trials on V. In turn: the payload `A0`; V with
 -- T = 1 and T = 2; eight zeros; T of 0 or 6, and 5; value 31 at index 7, and 32 and −32 there.
-abbrev Rows : (List ℕ → ℕ → List ℕ → Decoded × List ℕ) → ℕ → List ℕ → Type 0
+abbrev Rows : (List ℕ → ℕ → List ℕ → Result Tally DecodingError × List ℕ) → ℕ → List ℕ → Type 0
 Rows decoded steps output =
     (decoded noiseless_a0 1 output ≡ (Ok (tally 1 24), 0xA0 ∷ []))
     × (decoded (starred_v 2) 1 output ≡ (Err (NonePassed (tally 1 24)), output))

@@ -3,11 +3,17 @@
 use crate::testing::belief::{Cited, Crates, Kind, Name, Place};
 
 /// The public operations, each with its crate.
-const OPERATIONS: [(&str, &str); 10] = [
+const OPERATIONS: [(&str, &str); 16] = [
     ("code", "read_description"),
     ("encoder", "encode"),
     ("pass_resume", "resume"),
     ("decoder", "decode"),
+    ("flip_decoder", "decode_full"),
+    ("flip_decoder", "decode_half"),
+    ("flip_decoder", "decode_restarted"),
+    ("sets_decoder", "decode_sets_full"),
+    ("sets_decoder", "decode_sets_half"),
+    ("sets_decoder", "decode_sets_restarted"),
     ("hearing_buffer", "open"),
     ("hearing_buffer", "add"),
     ("hearing_buffer", "clear"),

@@ -19,14 +19,14 @@ returns-then-has_unused_bit c =
     sym (judge_no _ _ _ (ap not (eq-eqb _ _ (c.if-payload-bytes_for.false ∙ c.bytes_for.ensures)))
     ∙ judge_yes _ _ _ (sym c.has_unused_bit.ensures ∙ c.if-has_unused_bit.true))
 
-pub returns-then-output-masked : goal.returns-then-output-masked
-returns-then-output-masked c =
+pub returns-then-output-size : goal.returns-then-output-size
+returns-then-output-size c =
     sym (judge_no _ _ _ (ap not (eq-eqb _ _ (c.if-payload-bytes_for.false ∙ c.bytes_for.ensures)))
     ∙ judge_no _ _ _ (sym c.has_unused_bit.ensures ∙ c.if-has_unused_bit.false)
-    ∙ judge_yes _ _ _ (ap not (ne_eqb _ _ (λ q. c.if-output-masked.true (q ∙ sym (bytes_of c.args.masked.now.coded))))))
+    ∙ judge_yes _ _ _ (ap not (ne_eqb _ _ (λ q. c.if-output-size.true (q ∙ sym (bytes_of c.args.masked.now.coded))))))
 
 pub returns : goal.returns
 returns c =
     sym (judge_no _ _ _ (ap not (eq-eqb _ _ (c.if-payload-bytes_for.false ∙ c.bytes_for.ensures)))
     ∙ judge_no _ _ _ (sym c.has_unused_bit.ensures ∙ c.if-has_unused_bit.false)
-    ∙ judge_no _ _ _ (ap not (eq-eqb _ _ (c.if-output-masked.false ∙ bytes_of c.args.masked.now.coded))) ∙ judge-none)
+    ∙ judge_no _ _ _ (ap not (eq-eqb _ _ (c.if-output-size.false ∙ bytes_of c.args.masked.now.coded))) ∙ judge-none)

@@ -9,10 +9,6 @@ use Rattle.laws.proofs.Filling.{splice-snoc}
 use Rattle.flip_trial.proofs.Prefix.{forced-before, forced-past}
 use Rattle.flip_trial.proofs.put_prefix.Goals as goal
 
--- the first n bits copied
-copied : (bits first part : List ℕ) (n : ℕ) → n ≤ length first → part ≡ take n first → put_mid 0 n bits part ≡ splice bits 0 (take n first)
-copied bits first part n l e = put_mid-splice bits part (take n first) 0 n e (sym (length-take-le n first l))
-
 -- past i: the bits after each step
 module _ (bits first : List ℕ) (i q x : ℕ) (past : i < q) (fits : q ≤ length bits) (same : length first ≡ length bits) {bits₁ : List ℕ}
     (e : bits₁ ≡ splice bits 0 (take i first)) where
@@ -43,7 +39,7 @@ pub returns-then-q-i : goal.returns-then-q-i
 returns-then-q-i c =
     let first = c.args.first.now in
     let q = c.args.q in
-    copied c.args.bits.now first _ q (omega arith) c.copy_from_slice.ensures.after
+    c.copy.ensures
     ∙ ap (splice c.args.bits.now 0) (sym (forced-before first c.args.i q (omega arith) (omega arith)))
 
 pub returns : goal.returns
@@ -52,5 +48,5 @@ returns c =
     let bits = c.args.bits.now in
     let i = c.args.i in
     let q = c.args.q in
-    cleared bits first i q _ (omega arith) (omega arith) (omega arith) (copied bits first _ i (omega arith) c.copy_from_slice-2.ensures.after) (c.fill.ensures.after (λ y e. e))
+    cleared bits first i q _ (omega arith) (omega arith) (omega arith) c.copy-2.ensures (c.fill.ensures.after (λ y e. e))
     ∙ ap (splice bits 0) (sym (forced-past first i q (omega arith) (omega arith)))
